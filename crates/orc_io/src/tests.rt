@@ -1,0 +1,135 @@
+ghost use Rattle.std.specs.Prelude.{◌≡◌, ◌<◌, IfOk};
+
+use crate::*;
+use std::alloc::{AllocError, Global};
+use std::io;
+use std::io::{Read, Write};
+
+const DIGITS: &[u8] = b"0123456789abcdef";
+
+fn piece(alloc: Global, most: usize, fail: &[u64]) -> Result<Piece, AllocError>
+    requires { 0 < most }
+{
+    Ok(Piece {
+        bytes: Vec::from_slice(alloc, DIGITS)?,
+        at: 0,
+        most,
+        fail: Vec::from_slice(alloc, fail)?,
+        calls: 0,
+        faults: 0,
+    })
+}
+
+#[test]
+fn reads_to_the_end_or_says_why_not(rt: HostRuntime) -> Result<(), AllocError> {
+    let alloc = rt.alloc();
+    // The limit, the takes that fail, the answer; then takes, bytes taken and faults.
+    let rows: [(usize, &[u64], Result<(), TakeFault>, u64, usize, u64); 6] = [
+        (16, &[], Ok(()), 3, 16, 0),
+        (15, &[], Err(TakeFault::TooLong), 2, 16, 0),
+        (0, &[], Err(TakeFault::TooLong), 1, 1, 0),
+        (16, &[1], Err(TakeFault::Read), 1, 0, 1),
+        (16, &[2], Err(TakeFault::Read), 2, 10, 1),
+        (16, &[3], Err(TakeFault::Read), 3, 16, 1),
+    ];
+    for (limit, fail, answer, calls, at, faults) in rows {
+        let mut source = piece(alloc, 10, fail)?;
+        let read = read_all(alloc, &mut source, limit);
+        if let Ok(bytes) = &read {
+            assert!(rt; bytes.as_slice() == DIGITS);
+        }
+        assert_eq!(rt; read.map(|_| ()), answer, "limit {limit}");
+        assert_eq!(rt; source.calls, calls, "limit {limit}");
+        assert_eq!(rt; source.at, at, "limit {limit}");
+        assert_eq!(rt; source.faults, faults, "limit {limit}");
+    }
+    Ok(())
+}
+
+#[test]
+fn a_still_source_gives_its_bytes_in_pieces(rt: HostRuntime) -> Result<(), AllocError> {
+    let mut source = Still {
+        bytes: Vec::from_slice(rt.alloc(), DIGITS)?,
+        at: 14,
+        most: 3,
+    };
+    let mut room = *b"....";
+    assert_eq!(rt; source.take(&mut room), Ok(2));
+    assert!(rt; room.as_slice() == b"ef..".as_slice());
+    assert_eq!(rt; source.take(&mut room), Ok(0));
+    Ok(())
+}
+
+#[test]
+fn puts_a_front_where_the_sink_fails(rt: HostRuntime) -> Result<(), AllocError> {
+    let alloc = rt.alloc();
+    // The room, the puts that fail, the answer; then the bytes held.
+    let rows: [(usize, &[u64], Result<(), PutFault>, usize); 4] = [
+        (16, &[], Ok(()), 16),
+        (100, &[1], Err(PutFault), 0),
+        (100, &[2], Err(PutFault), 10),
+        (13, &[], Err(PutFault), 13),
+    ];
+    for (room, fail, answer, held) in rows {
+        let mut sink = Buffer::with_room(alloc, room, 10, Vec::from_slice(alloc, fail)?)?;
+        assert_eq!(rt; write_all(&mut sink, DIGITS), answer, "room {room}");
+        assert!(rt; DIGITS.starts_with(sink.held.as_slice()));
+        assert_eq!(rt; sink.held.len(), held, "room {room}");
+    }
+    Ok(())
+}
+
+/// A reader and a writer that fail in each call.
+#[derive(Drop)]
+struct Broken;
+
+impl Read for Broken {
+    fn read(&mut self, _room: &mut [u8]) -> io::Result<usize> {
+        Err(io::ErrorKind::Other.into())
+    }
+}
+
+impl Write for Broken {
+    fn write(&mut self, _piece: &[u8]) -> io::Result<usize> {
+        Err(io::ErrorKind::Other.into())
+    }
+
+    fn flush(&mut self) -> io::Result<()> {
+        Ok(())
+    }
+}
+
+#[test]
+fn edges_pass_bytes_on_and_count_failures(rt: HostRuntime) {
+    let alloc = rt.alloc();
+    let mut reader = ReadEdge {
+        inner: DIGITS,
+        faults: 0,
+    };
+    let read = read_all(alloc, &mut reader, 16);
+    assert!(rt; matches!(&read, Ok(bytes) if bytes.as_slice() == DIGITS));
+    assert_eq!(rt; reader.faults, 0);
+
+    let mut writer = WriteEdge {
+        inner: Vec::new(alloc),
+        faults: 0,
+    };
+    assert_eq!(rt; write_all(&mut writer, DIGITS), Ok(()));
+    assert!(rt; writer.inner.as_slice() == DIGITS);
+    assert_eq!(rt; writer.faults, 0);
+
+    let mut broken_reader = ReadEdge {
+        inner: Broken,
+        faults: 0,
+    };
+    let answer = read_all(alloc, &mut broken_reader, 16);
+    assert_eq!(rt; answer.map(|_| ()), Err(TakeFault::Read));
+    assert_eq!(rt; broken_reader.faults, 1);
+
+    let mut broken_writer = WriteEdge {
+        inner: Broken,
+        faults: u64::MAX,
+    };
+    assert_eq!(rt; write_all(&mut broken_writer, DIGITS), Err(PutFault));
+    assert_eq!(rt; broken_writer.faults, u64::MAX);
+}
