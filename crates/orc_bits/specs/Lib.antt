@@ -1,0 +1,5 @@
+pub mod Numbers
+pub mod Widths
+pub mod Lanes
+pub mod Memory
+pub mod Parts

@@ -1,0 +1,5 @@
+pub mod Table
+pub mod Stems
+pub mod Widths
+pub mod Formula
+pub mod Names
