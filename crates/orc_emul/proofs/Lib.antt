@@ -1,0 +1,5 @@
+pub mod Cells
+pub mod Packed
+pub mod States
+pub mod Functions
+pub mod Runs

@@ -1,0 +1,87 @@
+//! Variables, and where a call's cells and parameters stand.
+
+ghost use Rattle.std.specs.Prelude.{◌≡◌, ◌<◌, ◌≤◌, true, length};
+ghost use Rattle.orc_program.specs.Program as program;
+ghost use Rattle.orc_program.specs.Program.{var_at, is_array};
+ghost use Rattle.orc_program.specs.Meaning as meaning;
+ghost use Rattle.orc_emul.specs.State.{HasCounts};
+
+use crate::state::Spot;
+use orc_program::{Call, Function, Place, Var, VarKind};
+
+/// The variable at a place.
+pub fn variable(f: &Function, p: u16) -> &Var
+    requires { p < length f.now.vars }
+    ensures value { result.now ≡ var_at f.now.vars p }
+    ensures size { result.now.size ≤ 8 }
+    ensures few { p < 72 }
+{
+    &f.vars.as_slice()[usize::from(p)]
+}
+
+/// Whether two kinds are the same.
+pub fn same_kind(a: VarKind, b: VarKind) -> bool
+    ensures { result ≡ program.same_kind a b }
+{
+    a == b
+}
+
+/// How many variables of a kind there are.
+fn count(vars: &[Var], kind: VarKind) -> usize
+    ensures { result ≡ program.count_of kind vars.now }
+{
+    vars.iter().filter(|v| same_kind(kind, v.kind)).count()
+}
+
+/// How many stand before a place.
+fn count_before(f: &Function, kind: VarKind, p: u16) -> usize
+    requires { p < length f.now.vars }
+    ensures { result ≡ program.count_before kind f.now.vars p }
+{
+    count(&f.vars.as_slice()[..usize::from(p)], kind)
+}
+
+/// The place of an array among a call's.
+fn array_number(f: &Function, p: u16) -> usize
+    requires { p < length f.now.vars }
+    ensures { result ≡ program.array_number f.now.vars p }
+{
+    if variable(f, p).kind == VarKind::Dest {
+        count_before(f, VarKind::Dest, p)
+    } else {
+        count(f.vars.as_slice(), VarKind::Dest) + count_before(f, VarKind::Source, p)
+    }
+}
+
+/// The base and the stride of an array.
+fn place_at(f: &Function, call: &Call, p: u16) -> Place
+    requires inside { p < length f.now.vars }
+    requires array { is_array (var_at f.now.vars p) ≡ true }
+    requires counts { HasCounts f.now call.now }
+    ensures { result ≡ meaning.place_at f.now call.now p }
+{
+    call.arrays.as_slice()[array_number(f, p)]
+}
+
+/// The address of an array's cell.
+pub fn cell(f: &Function, call: &Call, p: u16, spot: Spot) -> u64
+    requires inside { p < length f.now.vars }
+    requires array { is_array (var_at f.now.vars p) ≡ true }
+    requires counts { HasCounts f.now call.now }
+    ensures { result ≡ meaning.cell f.now call.now p spot.row spot.element }
+{
+    let place = place_at(f, call, p);
+    let row = u64::from(spot.row).wrapping_mul(place.stride.cast_unsigned());
+    let element = u64::from(spot.element) * u64::from(variable(f, p).size);
+    place.base.wrapping_add(row).wrapping_add(element)
+}
+
+/// The number of a parameter.
+pub fn param_at(f: &Function, call: &Call, p: u16) -> u64
+    requires inside { p < length f.now.vars }
+    requires param { (var_at f.now.vars p).kind ≡ VarKind.Param }
+    requires counts { HasCounts f.now call.now }
+    ensures { result ≡ meaning.param_at f.now call.now p }
+{
+    call.params.as_slice()[count_before(f, VarKind::Param, p)]
+}

@@ -1,0 +1,11 @@
+mod Examples
+pub mod Steps
+pub mod Mapped
+pub mod Apart
+pub mod Sizes
+pub mod Growing
+pub mod PatternLaws
+pub mod Declared
+pub mod Counts
+pub mod LawProofs
+pub mod FirstUses

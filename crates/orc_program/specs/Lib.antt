@@ -1,0 +1,10 @@
+pub mod Words
+pub mod Program
+pub mod Checks
+pub mod Notes
+pub mod Kept
+pub mod Meaning
+pub mod Good
+pub mod Need
+pub mod Slots
+pub mod Laws

@@ -1,0 +1,117 @@
+-- Need, lanes, cost and steps.
+use Rattle.std.specs.Prelude.{ℕ, zero, suc, ◌+◌, ◌-◌, ◌*◌, ◌/◌, min, max, Bool, not, ◌&&◌, ◌||◌, ◌==◌, nat_lt, List, [], ◌∷◌, if◌then◌else◌, length, drop, slice_index, map}
+use Rattle.std.specs.List.{list_any, count_by, sum_by, range_with_len, fold}
+use Rattle.orc_ops.specs.Table.{row}
+use Rattle.orc_program.specs.declared.program.Var.{Var}
+use Rattle.orc_program.specs.declared.program.VarKind.TheVariants as kind
+use Rattle.orc_program.specs.declared.program.Insn.{Insn}
+use Rattle.orc_program.specs.Program.{FunctionValue, is_of, count_of, array_count, temps_among}
+use Rattle.orc_program.specs.Checks.{operand_sizes, patterns_of}
+
+-- ---- values: value k of instruction i is its temp result number k
+
+-- the temps that an instruction makes, and those that it reads, in order
+abbrev pub made_by : List Var → Insn → List ℕ
+made_by vars insn = temps_among vars insn.results.items
+
+abbrev pub read_by : List Var → Insn → List ℕ
+read_by vars insn = temps_among vars insn.sources.items
+
+-- p is one of these
+abbrev pub is_in : ℕ → List ℕ → Bool
+is_in p ps = list_any (λ q. p == q) ps
+
+-- the temps that instruction i makes
+abbrev pub made_at : List Var → List Insn → ℕ → List ℕ
+made_at vars [] i = []
+made_at vars (insn ∷ insns) zero = made_by vars insn
+made_at vars (insn ∷ insns) (suc i) = made_at vars insns i
+
+-- the temps that instruction i reads
+abbrev pub read_at : List Var → List Insn → ℕ → List ℕ
+read_at vars [] i = []
+read_at vars (insn ∷ insns) zero = read_by vars insn
+read_at vars (insn ∷ insns) (suc i) = read_at vars insns i
+
+-- the temp of value k of instruction i
+abbrev pub temp_of : List Var → List Insn → ℕ → ℕ → ℕ
+temp_of vars insns i k = slice_index (made_at vars insns i) k
+
+-- the temp is made again by instruction i after its result k, or by an instruction after i and before j
+abbrev pub is_made_again : List Var → List Insn → ℕ → ℕ → ℕ → Bool
+is_made_again vars insns i k j = is_in (temp_of vars insns i k) (drop (suc k) (made_at vars insns i))
+    || list_any (λ h. is_in (temp_of vars insns i k) (made_at vars insns h)) (range_with_len (suc i) (j - suc i))
+
+-- instruction j reads value k of instruction i: it's the last value of its temp that was made before j
+abbrev pub is_read_at : List Var → List Insn → ℕ → ℕ → ℕ → Bool
+is_read_at vars insns i k j = nat_lt i j && (is_in (temp_of vars insns i k) (read_at vars insns j) && not (is_made_again vars insns i k j))
+
+-- value k of instruction i was made before instruction j, and some instruction at j or later reads it
+abbrev pub is_live : List Var → List Insn → ℕ → ℕ → ℕ → Bool
+is_live vars insns j i k = nat_lt i j && list_any (is_read_at vars insns i k) (range_with_len j (length insns - j))
+
+-- how many values are live before instruction j
+abbrev pub live_count : List Var → List Insn → ℕ → ℕ
+live_count vars insns j = sum_by (λ i. count_by (is_live vars insns j i) (range_with_len 0 (length (made_at vars insns i)))) (range_with_len 0 j)
+
+-- Need(j): the values that are live before instruction j, and those that it makes
+unfoldable pub need_of : List Var → List Insn → ℕ → ℕ
+need_of vars insns j = live_count vars insns j + length (made_at vars insns j)
+
+-- the places that hold values of temps
+abbrev pub places : ℕ
+places = 10
+
+-- the largest need, 0 without instructions
+abbrev pub largest_need : FunctionValue → ℕ
+largest_need f = fold max 0 (map (need_of f.vars f.insns) (range_with_len 0 (length f.insns)))
+
+-- ---- lanes
+
+-- the largest of a list, and 0 of none
+abbrev pub largest : List ℕ → ℕ
+largest sizes = fold max 0 sizes
+
+-- the size of a variable that counts: those of parameters and constants do not
+abbrev pub declared_size : Var → ℕ
+declared_size v = if is_of kind.Param v || is_of kind.Const v then 0 else v.size
+
+-- the largest operand of an instruction under its prefix, counts apart
+abbrev pub insn_size : Insn → ℕ
+insn_size insn = largest (operand_sizes insn.op) * insn.prefix
+
+-- the largest of the declared sizes of dests, sources, temps and accumulators, and of the sizes times prefix of all operands, counts apart
+abbrev pub largest_size : FunctionValue → ℕ
+largest_size f = max (largest (map declared_size f.vars)) (largest (map insn_size f.insns))
+
+-- how many elements of the largest size fit into 16 bytes; 16 where there is no size
+abbrev pub full_lanes : FunctionValue → ℕ
+full_lanes f = 16 / max 1 (largest_size f)
+
+-- L, the elements of a turn: one, as the code does single elements alone
+abbrev pub lanes : FunctionValue → ℕ
+lanes f = 1
+
+-- ---- cost
+
+-- the cost of an instruction: twice its sources and results, and the class of its opcode
+abbrev pub insn_cost : Insn → ℕ
+insn_cost insn = 2 * length insn.sources.items + 2 * length insn.results.items + (row insn.op).class
+
+-- E: the sum over all instructions
+abbrev pub cost : FunctionValue → ℕ
+cost f = sum_by insn_cost f.insns
+
+-- ---- steps
+
+-- Turns(n): the lesser of n and n div L + 2L - 2
+abbrev pub turns : ℕ → ℕ → ℕ
+turns lanes n = min n (n / lanes + 2 * lanes - 2)
+
+-- the bound by its parts: 64 and what fills patterns and stores sums, then for each row its start and its turns
+abbrev pub steps_with : ℕ → ℕ → ℕ → ℕ → ℕ → ℕ → ℕ → ℕ
+steps_with lanes cost patterns sums arrays n m = 64 + 8 * patterns + 16 * sums + m * (24 + 8 * arrays + turns lanes n * (cost + arrays + 6))
+
+-- Steps: at most so many machine instructions do n elements of m rows, m taken as 1 where the function has no rows
+abbrev pub steps : FunctionValue → ℕ → ℕ → ℕ
+steps f n m = steps_with (lanes f) (cost f) (length (patterns_of f.vars f.insns)) (count_of kind.Accumulator f.vars) (array_count f.vars) n (if f.two_d then m else 1)

@@ -1,0 +1,108 @@
+-- Programs as values, and what stands at a place of a function's list of variables.
+use Rattle.std.specs.Prelude.{ℕ, ◌+◌, Bool, true, false, ◌||◌, ◌==◌, List, [], ◌∷◌, Option, Some, None, if◌then◌else◌, slice_index_or, take, length, filter}
+use Rattle.std.specs.List.{count_by, range_with_len}
+use Rattle.std.specs.Str.{bytes_eq}
+use Rattle.orc_program.specs.declared.program.Var.{Var}
+use Rattle.orc_program.specs.declared.program.VarKind.{VarKind}
+use Rattle.orc_program.specs.declared.program.VarKind.TheVariants as kind
+use Rattle.orc_program.specs.declared.program.Operand.{Operand}
+use Rattle.orc_program.specs.declared.program.Operand.TheVariants as operand
+use Rattle.orc_program.specs.declared.program.Insn.{Insn}
+use Rattle.orc_program.specs.declared.program.Notes.{Notes}
+
+-- A function: its name, whether it has rows, its variables and instructions in order, and its notes.
+pub record FunctionValue : Type 0 where
+  pub name : List ℕ
+  pub two_d : Bool
+  pub vars : List Var
+  pub insns : List Insn
+  pub notes : Notes
+
+-- A program: the name after `.init`, and its functions in order.
+pub record ProgramValue : Type 0 where
+  pub init : Option (List ℕ)
+  pub functions : List FunctionValue
+
+-- ---- kinds
+
+-- one and the same kind
+abbrev pub same_kind : VarKind → VarKind → Bool
+same_kind kind.Source kind.Source = true
+same_kind kind.Dest kind.Dest = true
+same_kind kind.Accumulator kind.Accumulator = true
+same_kind kind.Param kind.Param = true
+same_kind kind.Const kind.Const = true
+same_kind kind.Temp kind.Temp = true
+same_kind a b = false
+
+-- a variable of this kind
+abbrev pub is_of : VarKind → Var → Bool
+is_of k v = same_kind k v.kind
+
+-- a dest or a source
+abbrev pub is_array_kind : VarKind → Bool
+is_array_kind k = same_kind k kind.Dest || same_kind k kind.Source
+
+-- a variable that is an array
+abbrev pub is_array : Var → Bool
+is_array v = is_array_kind v.kind
+
+-- ---- places
+
+-- what stands past the end of a list of variables: a number
+abbrev pub no_var : Var
+no_var = record { kind = kind.Const; size = 0; name = []; number = 0; words = [] }
+
+-- the variable at a place
+abbrev pub var_at : List Var → ℕ → Var
+var_at vars p = slice_index_or vars p no_var
+
+-- how many variables of a kind there are, and how many stand before a place
+abbrev pub count_of : VarKind → List Var → ℕ
+count_of k vars = count_by (is_of k) vars
+
+abbrev pub count_before : VarKind → List Var → ℕ → ℕ
+count_before k vars p = count_of k (take p vars)
+
+-- the number of dests and sources
+abbrev pub array_count : List Var → ℕ
+array_count vars = count_of kind.Dest vars + count_of kind.Source vars
+
+-- the place of an array among a call's: the dests, then the sources, each in order of declaration
+abbrev pub array_number : List Var → ℕ → ℕ
+array_number vars p = if is_of kind.Dest (var_at vars p) then count_before kind.Dest vars p else count_of kind.Dest vars + count_before kind.Source vars p
+
+-- the places of the variables of a kind, in order
+abbrev pub places_of : VarKind → List Var → List ℕ
+places_of k vars = filter (λ p. is_of k (var_at vars p)) (range_with_len 0 (length vars))
+
+-- the first variable of a name
+abbrev pub place_from : List ℕ → ℕ → List Var → Option ℕ
+place_from word p [] = None
+place_from word p (v ∷ vars) = if bytes_eq v.name word then Some p else place_from word (p + 1) vars
+
+abbrev pub place_of : List ℕ → List Var → Option ℕ
+place_of word vars = place_from word 0 vars
+
+-- ---- operands
+
+-- the kind of the variable that an operand is; a number has none
+abbrev pub operand_kind : List Var → Operand → Option VarKind
+operand_kind vars (operand.Var p) = Some (var_at vars p).kind
+operand_kind vars (operand.Number n) = None
+
+-- an operand is a variable of this kind
+abbrev pub operand_is : VarKind → List Var → Operand → Bool
+operand_is k vars (operand.Var p) = is_of k (var_at vars p)
+operand_is k vars (operand.Number n) = false
+
+-- whether an operand is the variable at a place
+abbrev pub is_place : ℕ → Operand → Bool
+is_place p (operand.Var q) = p == q
+is_place p (operand.Number n) = false
+
+-- the places of the temps among operands, in order
+abbrev pub temps_among : List Var → List Operand → List ℕ
+temps_among vars [] = []
+temps_among vars (operand.Var p ∷ os) = if is_of kind.Temp (var_at vars p) then p ∷ temps_among vars os else temps_among vars os
+temps_among vars (operand.Number n ∷ os) = temps_among vars os
