@@ -1,0 +1,277 @@
+//! The faults of directive lines.
+
+ghost use Rattle.std.specs.Prelude.{◌≡◌, ◌&&◌, map, length, drop, is_some, nat_le};
+ghost use Rattle.std.specs.List.{list_any};
+ghost use Rattle.std.specs.Result.{result_err};
+ghost use Rattle.std.specs.Str.{bytes_eq};
+ghost use Rattle.orc_program.specs.Program.{is_array_kind, count_of, place_of};
+ghost use Rattle.orc_program.specs.Checks.{check};
+ghost use Rattle.orc_program.specs.Notes.{ends_in_align};
+ghost use Rattle.orc_program.specs.Kept.{most_functions};
+ghost use Rattle.orc_text.specs.declared.directive.Directive.{Directive};
+ghost use Rattle.orc_text.specs.Text.{words};
+ghost use Rattle.orc_text.specs.Said.{functions_of, vars_in};
+ghost use Rattle.orc_text.specs.Faults.{stands_anywhere, is_wrong_variable, is_wrong_count, has_wrong_words, is_size_word, has_bad_number, word_by_word, has_n, has_m, has_backup, is_duplicate, is_full, known_fault, directive_fault};
+ghost use Rattle.orc_text.specs.Held.{said_of};
+
+use crate::directive::Directive;
+use crate::notes::{
+    ends_in_align, ends_in_count_word, has_bad_align, has_bad_count, has_strange, is_number,
+};
+use crate::state::State;
+use crate::words::{after, has_exactly, has_fewer, is_same, size_of, word};
+use orc_program::{
+    Fault, Function, MOST_FUNCTIONS, VarKind, count_of, find_var, has_function, is_name,
+    is_size_for, most_of,
+};
+
+/// The fault, where the condition holds.
+pub(crate) fn check(condition: bool, fault: Fault) -> Result<(), Fault>
+    ensures { result_err result ≡ check condition fault }
+{
+    if condition { Err(fault) } else { Ok(()) }
+}
+
+/// Whether a directive needs no function before it.
+fn stands_anywhere(directive: Directive) -> bool
+    ensures { result ≡ stands_anywhere directive }
+{
+    match directive {
+        Directive::Function | Directive::Init => true,
+        Directive::Flags
+        | Directive::CountN
+        | Directive::CountM
+        | Directive::Backup
+        | Directive::Variable(_)
+        | Directive::Float => false,
+    }
+}
+
+/// A dest or a source.
+fn is_array_kind(kind: VarKind) -> bool
+    ensures { result ≡ is_array_kind kind }
+{
+    match kind {
+        VarKind::Dest | VarKind::Source => true,
+        VarKind::Accumulator | VarKind::Param | VarKind::Const | VarKind::Temp => false,
+    }
+}
+
+/// Whether the words after an array's name are wrong: the last one is `align`.
+fn has_open_align(kind: VarKind, line: &[u8]) -> bool
+    ensures { result ≡ is_array_kind kind && ends_in_align (drop 3 (words line.now)) }
+{
+    is_array_kind(kind) && ends_in_align(after(line, 3))
+}
+
+/// Whether a variable's line has wrong words.
+fn is_wrong_variable(kind: VarKind, line: &[u8]) -> bool
+    ensures { result ≡ is_wrong_variable kind (words line.now) }
+{
+    match kind {
+        VarKind::Const => !has_exactly(line, 4),
+        VarKind::Source | VarKind::Dest | VarKind::Accumulator | VarKind::Param | VarKind::Temp =>
+            has_fewer(line, 3) || has_open_align(kind, line),
+    }
+}
+
+/// Whether a `.n` or `.m` line has wrong words.
+fn is_wrong_count(line: &[u8]) -> bool
+    ensures { result ≡ is_wrong_count (words line.now) }
+{
+    let counts = after(line, 1);
+    has_fewer(line, 2) || ends_in_count_word(counts) || has_strange(counts)
+}
+
+/// Whether a line has wrong words.
+fn has_wrong_words(directive: Directive, line: &[u8]) -> bool
+    ensures { result ≡ has_wrong_words directive (words line.now) }
+{
+    match directive {
+        Directive::Function | Directive::Init | Directive::Backup => !has_exactly(line, 2),
+        Directive::Flags => !has_exactly(line, 2) || !is_same(word(line, 1), b"2d"),
+        Directive::CountN | Directive::CountM => is_wrong_count(line),
+        Directive::Variable(kind) => is_wrong_variable(kind, line),
+        Directive::Float => false,
+    }
+}
+
+/// Whether a word is a size of a variable of this kind.
+fn is_size_word(kind: VarKind, size: Option<u8>) -> bool
+    ensures { result ≡ is_size_word kind size }
+{
+    match size {
+        Some(size) => is_size_for(kind, size),
+        None => false,
+    }
+}
+
+/// Whether a number after a variable's name is none, or out of its range.
+fn has_bad_number(kind: VarKind, line: &[u8]) -> bool
+    ensures { result ≡ has_bad_number kind (words line.now) }
+{
+    match kind {
+        VarKind::Const => !is_number(word(line, 3)),
+        VarKind::Source | VarKind::Dest => has_bad_align(after(line, 3)),
+        VarKind::Accumulator | VarKind::Param | VarKind::Temp => false,
+    }
+}
+
+/// The first fault of a variable's words, from the left.
+fn check_variable(kind: VarKind, line: &[u8]) -> Result<(), Fault>
+    ensures { result_err result ≡ word_by_word (Directive.Variable kind) (words line.now) }
+{
+    check(!is_size_word(kind, size_of(word(line, 1))), Fault::BadSize)?;
+    check(!is_name(word(line, 2)), Fault::BadName)?;
+    check(has_bad_number(kind, line), Fault::BadNumber)
+}
+
+/// The first fault of a line's words, from the left.
+fn check_words(directive: Directive, line: &[u8]) -> Result<(), Fault>
+    ensures { result_err result ≡ word_by_word directive (words line.now) }
+{
+    match directive {
+        Directive::Function | Directive::Init | Directive::Backup => {
+            check(!is_name(word(line, 1)), Fault::BadName)
+        }
+        Directive::CountN | Directive::CountM => {
+            check(has_bad_count(after(line, 1)), Fault::BadNumber)
+        }
+        Directive::Variable(kind) => check_variable(kind, line),
+        Directive::Flags | Directive::Float => Ok(()),
+    }
+}
+
+/// Whether a function's name is one that there is already.
+fn is_known_function(state: &State, name: &[u8]) -> bool
+    ensures { result ≡ list_any (bytes_eq name.now) (map (λ f. f.name) (functions_of (said_of state.now))) }
+{
+    if has_function(state.program.functions.as_slice(), name) {
+        return true;
+    }
+    match &state.current {
+        Some(f) => is_same(name, f.name.as_slice()),
+        None => false,
+    }
+}
+
+/// Whether there are as many functions as there may be, with the one that isn't over.
+fn has_all_functions(state: &State) -> bool
+    ensures { result ≡ nat_le most_functions (length (functions_of (said_of state.now))) }
+{
+    let over = state.program.functions.len();
+    match state.current {
+        Some(_) => over >= MOST_FUNCTIONS - 1,
+        None => over >= MOST_FUNCTIONS,
+    }
+}
+
+/// Whether the current function has words after `.n`.
+fn has_n(current: &Option<Function>) -> bool
+    ensures { result ≡ has_n current.now }
+{
+    match current {
+        Some(f) => f.notes.n.is_some(),
+        None => false,
+    }
+}
+
+/// Whether the current function has words after `.m`.
+fn has_m(current: &Option<Function>) -> bool
+    ensures { result ≡ has_m current.now }
+{
+    match current {
+        Some(f) => f.notes.m.is_some(),
+        None => false,
+    }
+}
+
+/// Whether the current function has a name after `.backup`.
+fn has_backup(current: &Option<Function>) -> bool
+    ensures { result ≡ has_backup current.now }
+{
+    match current {
+        Some(f) => f.notes.backup.is_some(),
+        None => false,
+    }
+}
+
+/// Whether the current function has a variable of this name.
+fn has_variable(current: &Option<Function>, name: &[u8]) -> bool
+    ensures { result ≡ is_some (place_of name.now (vars_in current.now)) }
+{
+    match current {
+        Some(f) => find_var(f, name).is_some(),
+        None => false,
+    }
+}
+
+/// Whether a line says what an earlier one did.
+fn is_duplicate(state: &State, directive: Directive, line: &[u8]) -> bool
+    ensures { result ≡ is_duplicate (said_of state.now) directive (words line.now) }
+{
+    match directive {
+        Directive::Function => is_known_function(state, word(line, 1)),
+        Directive::Init => state.program.init.is_some(),
+        Directive::Backup => has_backup(&state.current),
+        Directive::CountN => has_n(&state.current),
+        Directive::CountM => has_m(&state.current),
+        Directive::Variable(_) => has_variable(&state.current, word(line, 2)),
+        Directive::Flags | Directive::Float => false,
+    }
+}
+
+/// How many variables of a kind the current function has.
+fn count_in(current: &Option<Function>, kind: VarKind) -> usize
+    ensures { result ≡ count_of kind (vars_in current.now) }
+{
+    match current {
+        Some(f) => count_of(f, kind),
+        None => 0,
+    }
+}
+
+/// Whether a limit would be passed.
+fn is_full(state: &State, directive: Directive) -> bool
+    ensures { result ≡ is_full (said_of state.now) directive }
+{
+    match directive {
+        Directive::Function => has_all_functions(state),
+        Directive::Variable(kind) => count_in(&state.current, kind) >= most_of(kind),
+        Directive::Init
+        | Directive::Flags
+        | Directive::CountN
+        | Directive::CountM
+        | Directive::Backup
+        | Directive::Float => false,
+    }
+}
+
+/// The first fault of a line whose directive is known.
+pub(crate) fn check_known(state: &State, directive: Directive, line: &[u8]) -> Result<(), Fault>
+    ensures { result_err result ≡ known_fault (said_of state.now) directive (words line.now) }
+{
+    check(
+        !stands_anywhere(directive) && state.current.is_none(),
+        Fault::NoFunction,
+    )?;
+    check(has_wrong_words(directive, line), Fault::WrongWords)?;
+    check_words(directive, line)?;
+    check(is_duplicate(state, directive, line), Fault::Duplicate)?;
+    check(is_full(state, directive), Fault::TooMany)
+}
+
+/// The first fault of a directive line.
+pub(crate) fn check_directive(
+    state: &State,
+    directive: Option<Directive>,
+    line: &[u8],
+) -> Result<(), Fault>
+    ensures { result_err result ≡ directive_fault (said_of state.now) (words line.now) directive }
+{
+    match directive {
+        None => Err(Fault::UnknownDirective),
+        Some(Directive::Float) => Err(Fault::Unsupported),
+        Some(directive) => check_known(state, directive, line),
+    }
+}
