@@ -1,0 +1,4 @@
+pub mod Examples
+pub mod Processor
+pub mod Registers
+pub mod Bounds

@@ -1,0 +1,4 @@
+pub mod Spelling
+pub mod Vectors
+pub mod Machine
+pub mod Way
