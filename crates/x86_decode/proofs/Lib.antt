@@ -1,0 +1,5 @@
+mod FieldLaws
+mod ShapeLaws
+mod RowLaws
+pub mod Decoding
+pub mod Unique

@@ -1,0 +1,109 @@
+use crate::{decode, one_spelling};
+use std::process::Abort;
+use x86_ins::{Addr, AluOp, Gpr, Ins, VecOp, Xmm};
+
+const RAX: Gpr = Gpr { number: 0 };
+
+const RSP: Gpr = Gpr { number: 4 };
+
+const RSI: Gpr = Gpr { number: 6 };
+
+const RDI: Gpr = Gpr { number: 7 };
+
+const R12: Gpr = Gpr { number: 12 };
+
+const XMM0: Xmm = Xmm { number: 0 };
+
+const XMM9: Xmm = Xmm { number: 9 };
+
+fn agree(rt: &impl Abort, table: &[(&[u8], Option<(Ins, usize)>)]) {
+    for (bytes, want) in table {
+        assert_eq!(rt; decode(bytes), *want, "{bytes:?}");
+    }
+}
+
+#[test]
+fn decodings(rt: HostRuntime) {
+    one_spelling();
+    agree(
+        &rt,
+        &[
+            (&[], None),
+            // add rax, 127, and with bytes behind it
+            (
+                &[0x48, 0x83, 0xc0, 0x7f],
+                Some((
+                    Ins::AluImm {
+                        op: AluOp::Add,
+                        dst: RAX,
+                        value: 127,
+                    },
+                    4,
+                )),
+            ),
+            (
+                &[0x48, 0x83, 0xc0, 0x7f, 0x54],
+                Some((
+                    Ins::AluImm {
+                        op: AluOp::Add,
+                        dst: RAX,
+                        value: 127,
+                    },
+                    4,
+                )),
+            ),
+            // add rax, 127 with a number of four bytes
+            (&[0x48, 0x81, 0xc0, 0x7f, 0x00, 0x00, 0x00], None),
+            // push rsp
+            (&[0x54], None),
+            // push r12
+            (&[0x41, 0x54], Some((Ins::Push { src: R12 }, 2))),
+            // paddb without its registers, and with them
+            (&[0x66, 0x0f, 0xfc], None),
+            (
+                &[0x66, 0x44, 0x0f, 0xfc, 0xc8],
+                Some((
+                    Ins::Vec {
+                        op: VecOp::Paddb,
+                        dst: XMM9,
+                        src: XMM0,
+                    },
+                    5,
+                )),
+            ),
+            // mov rax, [rsp + 8], and with a displacement of four bytes
+            (
+                &[0x48, 0x8b, 0x44, 0x24, 0x08],
+                Some((
+                    Ins::Load {
+                        dst: RAX,
+                        at: Addr { base: RSP, disp: 8 },
+                    },
+                    5,
+                )),
+            ),
+            (&[0x48, 0x8b, 0x84, 0x24, 0x08, 0x00, 0x00, 0x00], None),
+            // mov rax, [rdi] without a displacement
+            (&[0x48, 0x8b, 0x07], None),
+            // mov byte [rdi + 0], sil, and dh in place of sil
+            (
+                &[0x40, 0x88, 0x77, 0x00],
+                Some((
+                    Ins::Store8 {
+                        src: RSI,
+                        at: Addr { base: RDI, disp: 0 },
+                    },
+                    4,
+                )),
+            ),
+            (&[0x88, 0x77, 0x00], None),
+            // mov rax, rcx by the opcode of a store
+            (&[0x48, 0x89, 0xc8], None),
+            // shl rax, 64
+            (&[0x48, 0xc1, 0xe0, 0x40], None),
+            // ret, and with a REX that sets no bit
+            (&[0xc3], Some((Ins::Ret, 1))),
+            (&[0x40, 0xc3], None),
+        ],
+    );
+}

@@ -1,0 +1,122 @@
+//! Steps and runs.
+
+ghost use Rattle.std.specs.Prelude.{◌≡◌, ◌+◌, ◌-◌, ◌≤◌, ◌^◌, ℕ, true, false, length, drop, MatchOption, OnOk, IfErr, OnErr};
+ghost use Rattle.x86_ins.specs.declared.ins.Ins.{Ins};
+ghost use Rattle.x86_ins.specs.Spelling.{Decode};
+ghost use Rattle.x86_ins.specs.Way.{InCode, Step, Stuck, IsOver, told};
+ghost use Rattle.x86_machine.specs.Ends.{code_of, point, stop_of, SameCode, EndsAt, OneEnd};
+
+use crate::machine::{End, Machine};
+use x86_apply::apply;
+use x86_decode::decode;
+use x86_ins::ins::Ins;
+use x86_ins::state::{Trap, Why};
+
+/// The bytes of the code from an address on, where it is one of the code's.
+fn rest_of(code: &[u8], code_at: u64, rip: u64) -> Option<&[u8]>
+    requires { code_at + length code.now ≤ 2 ^ 64 }
+    ensures { MatchOption result (InCode (record { bytes = code.now; start = code_at }) rip → ⊥) (λ rest. InCode (record { bytes = code.now; start = code_at }) rip × (rest.now ≡ drop (rip - code_at) code.now)) }
+{
+    if rip < code_at || code.len() as u64 <= rip - code_at {
+        return None;
+    }
+    let (_, rest) = code.split_at((rip - code_at) as usize);
+    Some(rest)
+}
+
+/// A trap as a step tells it: for want of flags its address is the instruction's.
+fn told(trap: Trap, rip: u64) -> Trap
+    ensures { result ≡ told trap.at trap.why rip }
+{
+    match trap.why {
+        Why::NoFlags => Trap {
+            at: rip,
+            why: Why::NoFlags,
+        },
+        _ => trap,
+    }
+}
+
+/// Does an instruction of this size at RIP.
+fn perform(m: &mut Machine, ins: &Ins, size: usize) -> Result<(), Trap>
+    requires decoded { Decode (drop (m.old.state.rip - m.old.code_at) m.old.code) ins.now size }
+    requires inside { InCode (code_of m.old) m.old.state.rip }
+    ensures same { SameCode m.old m.new }
+    ensures done { OnOk result (Step (code_of m.old) (point m.old) ins.now (point m.new)) }
+    ensures stuck { IfErr result (λ trap. Stuck (code_of m.old) (point m.old) trap) }
+    ensures unchanged { OnErr result (point m.new ≡ point m.old) }
+{
+    let rip = m.state.rip;
+    m.state.rip = rip.wrapping_add(size as u64);
+    match apply(ins, &mut m.state, &mut m.memory) {
+        Ok(()) => Ok(()),
+        Err(trap) => {
+            m.state.rip = rip;
+            Err(told(trap, rip))
+        }
+    }
+}
+
+/// Does the instruction at RIP.
+///
+/// # Errors
+///
+/// A trap, which changes nothing: `NoCode` where RIP is not in the code and `NoRow` where no instruction's spelling begins
+/// the rest of the code, both with RIP's value, and else what the instruction's effect says, for `NoFlags` with RIP's value.
+pub fn step(m: &mut Machine) -> Result<(), Trap>
+    ensures same { SameCode m.old m.new }
+    ensures done { OnOk result ((i : Ins) × Step (code_of m.old) (point m.old) i (point m.new)) }
+    ensures stuck { IfErr result (λ trap. Stuck (code_of m.old) (point m.old) trap) }
+    ensures unchanged { OnErr result (point m.new ≡ point m.old) }
+{
+    let at = m.state.rip;
+    let Some(rest) = rest_of(m.code.as_slice(), m.code_at, at) else {
+        return Err(Trap {
+            at,
+            why: Why::NoCode,
+        });
+    };
+    let Some((ins, size)) = decode(rest) else {
+        return Err(Trap {
+            at,
+            why: Why::NoRow,
+        });
+    };
+    perform(m, &ins, size)
+}
+
+/// Whether RIP and RSP have the stop values.
+fn is_over(m: &Machine) -> bool
+    ensures yes { result ≡ true → IsOver (stop_of m.now) (point m.now) }
+    ensures no { result ≡ false → IsOver (stop_of m.now) (point m.now) → ⊥ }
+{
+    m.state.rip == m.stop_rip && m.state.gpr[4] == m.stop_rsp
+}
+
+/// Runs the code until RIP and RSP have the stop values, a step has no effect, or so many steps are done. It takes no memory.
+///
+/// Before each step, and behind the last one, it looks whether RIP and RSP have the stop values. `Budget` comes where neither
+/// an end nor a trap came within the budget.
+pub fn run(m: &mut Machine, budget: u64) -> End
+    ensures ends { EndsAt (code_of m.old) (stop_of m.old) budget (point m.old) result (point m.new) }
+    ensures same { SameCode m.old m.new }
+{
+    for steps in 0..budget {
+        if is_over(m) {
+            return End::Returned { steps };
+        }
+        match step(m) {
+            Ok(()) => {}
+            Err(trap) => return End::Trapped { steps, trap },
+        }
+    }
+    if is_over(m) {
+        return End::Returned { steps: budget };
+    }
+    End::Budget
+}
+
+/// The law of one end: a run has one end at most within a budget, at one state and memory. So `run` tells the only one.
+pub fn one_end()
+    ensures { OneEnd }
+{}
