@@ -1,0 +1,45 @@
+-- Fewer promises, and calls in no larger memory.
+use Rattle.std.proofs.Common.{ℕ, List}
+use Rattle.orc_bits.specs.Memory.{Memory}
+use Rattle.x86_ins.specs.Machine.{Point}
+use Rattle.x86_ins.specs.Way.{Placed, Moment}
+use Rattle.orc_asm.specs.Subject.{Call, Subject}
+use Rattle.orc_asm.specs.RunsAs.{Returns, Promise, RunsWith, RunsInsideWith, RunsAs, RunsInside, RunsFully, no_promise, quiet, wide}
+
+returns_with : (f : Subject) (A B : List Moment → Point → Type 0) → ((way : List Moment) (t : Point) → A way t → B way t) →
+    (code : Placed) (s : Point) (small : Memory) (call : Call) (back : ℕ) → Returns f A code s small call back → Returns f B code s small call back
+returns_with f A B g code s small call back x = record {
+  end = x.end;
+  means = x.means;
+  way = x.way;
+  t = x.t;
+  runs = x.runs;
+  short = x.short;
+  over = x.over;
+  not_before = x.not_before;
+  same = x.same;
+  sums = x.sums;
+  rest = x.rest;
+  saved = x.saved;
+  more = g x.way x.t x.more;
+}
+
+pub weaker : (f : Subject) (P Q : Promise) → ((s : Point) (small : Memory) (call : Call) (way : List Moment) (t : Point) → P s small call way t → Q s small call way t) →
+    (bytes : List ℕ) → RunsInsideWith f P bytes → RunsInsideWith f Q bytes
+weaker f P Q g bytes h start s small call back w good = returns_with f (P s small call) (Q s small call) (g s small call) _ s small call back (h start s small call back w good)
+
+-- a good call is one inside its own memory
+pub runs_with : (f : Subject) (P : Promise) (bytes : List ℕ) → RunsInsideWith f P bytes → RunsWith f P bytes
+runs_with f P bytes h start s call back good = h start s s.core.memory call back (λ a v e. e) good
+
+pub runs_as : (f : Subject) (bytes : List ℕ) → RunsFully f bytes → RunsAs f bytes
+runs_as f bytes h = runs_with f no_promise bytes (weaker f _ no_promise (λ s small call way t p. tt) bytes h)
+
+pub runs_inside : (f : Subject) (bytes : List ℕ) → RunsFully f bytes → RunsInside f bytes
+runs_inside f bytes h = weaker f _ no_promise (λ s small call way t p. tt) bytes h
+
+pub runs_quiet : (f : Subject) (bytes : List ℕ) → RunsFully f bytes → RunsInsideWith f (quiet f) bytes
+runs_quiet f bytes h = weaker f _ (quiet f) (λ s small call way t p. p.0) bytes h
+
+pub runs_wide : (f : Subject) (bytes : List ℕ) → RunsFully f bytes → RunsWith f (wide f) bytes
+runs_wide f bytes h = runs_with f (wide f) bytes (weaker f _ (wide f) (λ s small call way t p. p.1) bytes h)

@@ -1,0 +1,81 @@
+-- Functions of the language as calls see them, and which of them are built.
+use Rattle.std.specs.Prelude.{◌≡◌, ℕ, ◌+◌, Bool, true, false, not, ◌&&◌, ◌||◌, ◌==◌, if◌then◌else◌, List, [], ◌∷◌, Option, Some, None, Result, Ok, Err, slice_index}
+use Rattle.std.specs.List.{list_all, count_by, sum_by}
+use Rattle.orc_bits.specs.Memory.{Memory}
+use Rattle.orc_ops.specs.declared.opcode.Op.{Op}
+use Rattle.orc_ops.specs.declared.opcode.Op.TheVariants as op
+use Rattle.orc_program.specs.declared.program.Var.{Var}
+use Rattle.orc_program.specs.declared.program.VarKind.TheVariants as kind
+use Rattle.orc_program.specs.declared.program.Operand.{Operand}
+use Rattle.orc_program.specs.declared.program.Insn.{Insn}
+use Rattle.orc_program.specs.Program.{FunctionValue, count_of, operand_is}
+use Rattle.orc_program.specs.Meaning.{Gap, emulate}
+use Rattle.orc_program.specs.Need.{steps, lanes, turns}
+use Rattle.orc_program.specs.Slots.{call_of, size_of_slot}
+use Rattle.orc_asm.specs.declared.refusal.AsmError.{AsmError}
+use Rattle.orc_asm.specs.declared.refusal.AsmError.TheVariants as refusal
+use Rattle.orc_asm.specs.Subject.{End, Subject}
+use Rattle.orc_asm.specs.RunsAs as runs
+
+-- ---- a function as calls see it
+
+-- the end that emulation reached, none at a gap
+abbrev pub end_of : Result (Memory × List ℕ) Gap → Option End
+end_of (Ok e) = Some (record { memory = e.0; sums = slice_index e.1 })
+end_of (Err g) = None
+
+abbrev pub is_array_operand : List Var → Operand → Bool
+is_array_operand vars o = operand_is kind.Dest vars o || operand_is kind.Source vars o
+
+-- how many operands of an instruction are arrays
+abbrev pub array_operands : List Var → Insn → ℕ
+array_operands vars insn = count_by (is_array_operand vars) insn.results.items + count_by (is_array_operand vars) insn.sources.items
+
+-- the bytes of the frame below RSP
+abbrev pub frame_size : ℕ
+frame_size = 1024
+
+abbrev pub subject_of : FunctionValue → Subject
+subject_of f = record {
+  dests = count_of kind.Dest f.vars;
+  sources = count_of kind.Source f.vars;
+  params = count_of kind.Param f.vars;
+  accs = count_of kind.Accumulator f.vars;
+  two_d = f.two_d;
+  size = size_of_slot f.vars;
+  facts = λ call. true;
+  emulate = λ call mem. end_of (emulate f (call_of f call.n call.m call.base call.stride call.param) mem);
+  frame = frame_size;
+  steps = steps f;
+  lanes = lanes f;
+  turns = turns (lanes f);
+  operands = sum_by (array_operands f.vars) f.insns;
+}
+
+-- each good call of the code returns as the function means
+abbrev pub RunsAs : FunctionValue → List ℕ → Type 0
+RunsAs f bytes = runs.RunsAs (subject_of f) bytes
+
+-- ---- what is built
+
+abbrev pub is_addb : Op → Bool
+is_addb op.Addb = true
+is_addb other = false
+
+-- an addb without a prefix, all of whose operands are arrays
+abbrev pub is_built : List Var → Insn → Bool
+is_built vars insn = is_addb insn.op && (insn.prefix == 1 && (list_all (is_array_operand vars) insn.results.items && list_all (is_array_operand vars) insn.sources.items))
+
+-- the line of the first instruction that isn't built
+abbrev pub first_line : (Insn → Bool) → List Insn → Option ℕ
+first_line built [] = None
+first_line built (insn ∷ insns) = if built insn then first_line built insns else Some insn.line
+
+-- of a function with rows no instruction is built
+abbrev pub first_unbuilt : FunctionValue → Option ℕ
+first_unbuilt f = first_line (λ insn. not f.two_d && is_built f.vars insn) f.insns
+
+-- why a function has no code: its first instruction that isn't built, or, where there is none, want of memory
+abbrev pub IsRefusal : FunctionValue → AsmError → Type 0
+IsRefusal f (refusal.NotBuilt line) = first_unbuilt f ≡ Some line
+IsRefusal f refusal.Memory = first_unbuilt f ≡ None

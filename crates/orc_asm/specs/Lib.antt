@@ -1,0 +1,4 @@
+pub mod Subject
+pub mod RunsAs
+pub mod Function
+pub mod Code

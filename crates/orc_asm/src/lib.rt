@@ -1,0 +1,10 @@
+//! Code of functions: good calls, and code that runs as emulation says.
+#![tactic(auto)]
+
+mod arrays;
+mod assembly;
+mod lists;
+mod refusal;
+
+pub use assembly::assemble;
+pub use refusal::AsmError;

@@ -1,0 +1,12 @@
+pub mod Ways
+pub mod Flow
+pub mod Unique
+pub mod Plans
+pub mod Moves
+pub mod Larger
+pub mod Frame
+pub mod Ends
+pub mod Words
+pub mod Spelled
+pub mod Returning
+pub mod Appends

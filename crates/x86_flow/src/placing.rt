@@ -1,0 +1,86 @@
+//! Lists of instructions as bytes, and loops around bytes.
+
+ghost use Rattle.std.specs.Prelude.{◌≡◌, ◌<◌, ◌+◌, ◌++◌, All, OnOk, IsTrue, length, pos, negsuc};
+ghost use Rattle.x86_ins.specs.Spelling.{spelling, has_spelling};
+ghost use Rattle.x86_ins.specs.declared.ins.Ins.TheVariants.{JumpIf, Jump};
+ghost use Rattle.x86_flow.specs.Flow.{spell_all, opposite};
+
+use std::alloc::AllocError;
+use x86_encode::encode;
+use x86_ins::{Cond, Ins};
+
+/// Appends the bytes of an instruction, which has a spelling.
+pub fn put(code: &mut Vec<u8>, ins: &Ins) -> Result<(), AllocError>
+    requires { IsTrue (has_spelling ins.now) }
+    ensures { OnOk result (code.new.items ≡ code.old.items ++ spelling ins.now) }
+{
+    code.extend_from_slice(encode(ins).as_slice())
+}
+
+/// Appends the bytes of instructions, each of which has a spelling.
+pub fn put_list(code: &mut Vec<u8>, list: &[Ins]) -> Result<(), AllocError>
+    requires { All (λ i. IsTrue (has_spelling i)) list.now }
+    ensures { OnOk result (code.new.items ≡ code.old.items ++ spell_all list.now) }
+{
+    for ins in list {
+        put(code, ins)?;
+    }
+    Ok(())
+}
+
+/// Appends a loop around the bytes of its turn, which is done while the condition holds.
+pub fn put_loop(code: &mut Vec<u8>, cond: Cond, turn: &[u8]) -> Result<(), AllocError>
+    requires { length turn.now < 2000000000 }
+    ensures { OnOk result (code.new.items ≡ code.old.items ++ (spelling (JumpIf (opposite cond) (pos (length turn.now + 5))) ++ (turn.now ++ spelling (Jump (negsuc (length turn.now + 10)))))) }
+{
+    put(
+        code,
+        &Ins::JumpIf {
+            cond: opposite(cond),
+            rel: ahead(turn.len()),
+        },
+    )?;
+    code.extend_from_slice(turn)?;
+    put(
+        code,
+        &Ins::Jump {
+            rel: behind(turn.len()),
+        },
+    )
+}
+
+/// The condition that holds where this one doesn't.
+pub fn opposite(cond: Cond) -> Cond
+    ensures { result ≡ opposite cond }
+{
+    match cond {
+        Cond::B => Cond::Ae,
+        Cond::Ae => Cond::B,
+        Cond::E => Cond::Ne,
+        Cond::Ne => Cond::E,
+        Cond::Be => Cond::A,
+        Cond::A => Cond::Be,
+        Cond::S => Cond::Ns,
+        Cond::Ns => Cond::S,
+        Cond::L => Cond::Ge,
+        Cond::Ge => Cond::L,
+        Cond::Le => Cond::G,
+        Cond::G => Cond::Le,
+    }
+}
+
+/// The distance over a turn of so many bytes and the jump behind it.
+fn ahead(size: usize) -> i32
+    requires { size < 2000000000 }
+    ensures { result ≡ pos (size + 5) }
+{
+    size as i32 + 5
+}
+
+/// The distance back to the test.
+fn behind(size: usize) -> i32
+    requires { size < 2000000000 }
+    ensures { result ≡ negsuc (size + 10) }
+{
+    -(size as i32 + 11)
+}
