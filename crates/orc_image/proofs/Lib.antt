@@ -1,0 +1,6 @@
+pub mod Growing
+pub mod Unless
+pub mod Again
+pub mod Loop
+pub mod Lines
+pub mod OneListing

@@ -1,0 +1,243 @@
+//! Reading an image.
+
+ghost use Rattle.std.specs.Prelude.{◌≡◌, ◌≢◌, ◌+◌, ◌<◌, ◌≤◌, ◌^◌, ◌++◌, ◌∷◌, ℕ, List, [], true, false, length, IfOk, OnOk, Ok, Err, MatchResult};
+ghost use Rattle.std.specs.Int.{w32, to_le_bytes};
+ghost use Rattle.orc_program.specs.Words.{is_name};
+ghost use Rattle.orc_image.specs.Spelling.{FunctionValue, ImageValue, IsFunction, IsImage, ImageBegins, OneImage, names, is_among, function_bytes, functions_bytes, image_bytes, bit, magic, version};
+ghost use Rattle.orc_image.specs.Fields.{Cursor, bytes_at, word_at, byte_at, number_at, is_new, name_at, code_at, function_at, functions_at, head_at, image_at, refusal_in, first_bad_field};
+ghost use Rattle.orc_image.specs.Told.{Gives, UnlessMemory};
+
+use crate::error::ImageError;
+use crate::image::{Image, ImageFunction};
+use orc_program::Name;
+use sqlite_items::Items;
+use std::alloc::Global;
+use std::marker::Model;
+
+/// What is left of an image's bytes, and the offset at which it stands.
+#[derive(Drop)]
+struct Reader<'t> {
+    at: usize,
+    rest: &'t [u8],
+}
+
+impl<'t> Model for Reader<'t> {
+    ghost use Rattle.std.specs.Prelude.{◌+◌, ◌<◌, ◌^◌, length};
+    ghost use Rattle.orc_image.specs.Fields.{Cursor};
+
+    ghost Value = { Cursor };
+
+    ghost view = { λ r. record { at = r.at; rest = r.rest.now } };
+
+    ghost invariant = { λ r. r.at + length r.rest.now < 2 ^ 63 };
+}
+
+impl<'t> Reader<'t> {
+    fn new(bytes: &'t [u8]) -> Reader<'t>
+        ensures { result ≡ record { at = 0; rest = bytes.now } }
+    {
+        let _ = bytes.len();
+        Reader { at: 0, rest: bytes }
+    }
+
+    /// The offset of the next field.
+    fn offset(&self) -> usize
+        ensures { result ≡ self.now.at }
+    {
+        self.at
+    }
+
+    /// So many bytes.
+    fn take(&mut self, n: usize) -> Result<&'t [u8], ImageError>
+        requires { n < 2 ^ 32 }
+        ensures gives { Gives (λ x. x.now) result self.new (bytes_at n self.old) }
+        ensures spelled { IfOk result (λ x. (self.old.rest ≡ x.now ++ self.new.rest) × (self.new.at ≡ self.old.at + length x.now)) }
+    {
+        if self.rest.len() < n {
+            return Err(ImageError::Short { need: self.at + n });
+        }
+        let (front, rest) = self.rest.split_at(n);
+        self.at += n;
+        self.rest = rest;
+        Ok(front)
+    }
+
+    /// A byte from low to high.
+    fn byte(&mut self, low: u8, high: u8) -> Result<u8, ImageError>
+        ensures gives { Gives (λ x. x) result self.new (byte_at low high self.old) }
+        ensures spelled { IfOk result (λ x. (self.old.rest ≡ x ∷ self.new.rest) × (self.new.at ≡ self.old.at + 1)) }
+        ensures within { IfOk result (λ x. (low ≤ x) × (x ≤ high)) }
+    {
+        match self.rest {
+            [] => Err(ImageError::Short { need: self.at + 1 }),
+            [b, rest @ ..] => {
+                if low <= *b && *b <= high {
+                    self.at += 1;
+                    self.rest = rest;
+                    Ok(*b)
+                } else {
+                    Err(ImageError::BadField { at: self.at })
+                }
+            }
+        }
+    }
+
+    /// These very bytes.
+    fn expect(&mut self, word: &[u8], refusal: ImageError) -> Result<(), ImageError>
+        requires { length word.now < 2 ^ 32 }
+        ensures gives { Gives (λ _. word.now) result self.new (word_at word.now refusal self.old) }
+        ensures spelled { OnOk result ((self.old.rest ≡ word.now ++ self.new.rest) × (self.new.at ≡ self.old.at + length word.now)) }
+    {
+        let found = self.take(word.len())?;
+        if found == word { Ok(()) } else { Err(refusal) }
+    }
+
+    /// A number of four bytes from low to high.
+    fn number(&mut self, low: u32, high: u32) -> Result<u32, ImageError>
+        ensures gives { Gives (λ x. x) result self.new (number_at low high self.old) }
+        ensures spelled { IfOk result (λ x. (self.old.rest ≡ to_le_bytes w32 x ++ self.new.rest) × (self.new.at ≡ self.old.at + 4)) }
+        ensures within { IfOk result (λ x. (low ≤ x) × (x ≤ high)) }
+    {
+        if self.rest.len() < 4 {
+            return Err(ImageError::Short { need: self.at + 4 });
+        }
+        let (front, rest) = self.rest.split_at(4);
+        let number = u32::from_le_bytes([front[0], front[1], front[2], front[3]]);
+        if number < low || high < number {
+            return Err(ImageError::BadField { at: self.at });
+        }
+        self.at += 4;
+        self.rest = rest;
+        Ok(number)
+    }
+
+    /// The length of a name, and a name that no function has so far.
+    #[tactic(auto, unfolding(crate::specs::Fields::name_at))]
+    fn name(&mut self, seen: &Image) -> Result<Name, ImageError>
+        ensures gives { Gives (λ x. x) result self.new (name_at (names seen.now.functions) self.old) }
+        ensures spelled { IfOk result (λ x. (self.old.rest ≡ (length x ∷ x) ++ self.new.rest) × (self.new.at ≡ self.old.at + 1 + length x)) }
+        ensures new { IfOk result (λ x. (is_name x ≡ true) × (is_among (names seen.now.functions) x ≡ false)) }
+    {
+        let n = self.byte(1, 64)?;
+        let at = self.offset();
+        let word = self.take(usize::from(n))?;
+        new_name(seen, at, word)
+    }
+
+    /// The length of the code, and the code.
+    #[tactic(auto, unfolding(crate::specs::Fields::code_at))]
+    fn code(&mut self) -> Result<&'t [u8], ImageError>
+        ensures gives { Gives (λ x. x.now) result self.new (code_at self.old) }
+        ensures spelled { IfOk result (λ x. (self.old.rest ≡ (to_le_bytes w32 (length x.now) ++ x.now) ++ self.new.rest) × (self.new.at ≡ self.old.at + 4 + length x.now)) }
+        ensures within { IfOk result (λ x. (1 ≤ length x.now) × (length x.now ≤ 1048576)) }
+    {
+        let n = self.number(1, 1048576)?;
+        self.take(n as usize)
+    }
+
+    /// The magic, the version and the number of functions.
+    #[tactic(auto, unfolding(crate::specs::Fields::head_at))]
+    fn head(&mut self) -> Result<u8, ImageError>
+        ensures gives { Gives (λ x. x) result self.new (head_at self.old) }
+        ensures spelled { IfOk result (λ x. (self.old.rest ≡ magic ++ (version ++ (x ∷ self.new.rest))) × (self.new.at ≡ self.old.at + 6)) }
+        ensures within { IfOk result (λ x. x ≤ 64) }
+    {
+        self.expect(b"ORCI", ImageError::BadMagic)?;
+        self.expect(&[1], ImageError::BadVersion)?;
+        self.byte(0, 64)
+    }
+}
+
+/// The word at this offset as a name that no function has so far.
+fn new_name(seen: &Image, at: usize, word: &[u8]) -> Result<Name, ImageError>
+    ensures { MatchResult result
+        (λ x. (x ≡ word.now) × ((is_name word.now ≡ true) × (is_among (names seen.now.functions) word.now ≡ false)))
+        (λ e. (is_new (names seen.now.functions) word.now ≡ false) × (e ≡ ImageError.BadField at)) }
+{
+    let Some(name) = Name::new(word) else {
+        return Err(ImageError::BadField { at });
+    };
+    if seen.contains(word) {
+        return Err(ImageError::BadField { at });
+    }
+    Ok(name)
+}
+
+/// A function, after those that the image has so far.
+#[tactic(auto, using(crate::proofs::Unless::unless), unfolding(crate::specs::Fields::function_at))]
+fn read_function(
+    alloc: Global,
+    reader: &mut Reader,
+    seen: &Image,
+) -> Result<ImageFunction, ImageError>
+    ensures gives { UnlessMemory result (Gives (λ x. x) result reader.new (function_at (names seen.now.functions) reader.old)) }
+    ensures spelled { IfOk result (λ x. (reader.old.rest ≡ function_bytes x ++ reader.new.rest) × (reader.new.at ≡ reader.old.at + length (function_bytes x))) }
+    ensures new { IfOk result (λ x. is_among (names seen.now.functions) x.name ≡ false) }
+{
+    let name = reader.name(seen)?;
+    let two_d = reader.byte(0, 1)? == 1;
+    let dests = reader.byte(0, 4)?;
+    let sources = reader.byte(0, 8)?;
+    let params = reader.byte(0, 8)?;
+    let accs = reader.byte(0, 4)?;
+    let bytes = reader.code()?;
+    match Items::from_slice(alloc, bytes) {
+        Ok(code) => Ok(ImageFunction {
+            name,
+            two_d,
+            dests,
+            sources,
+            params,
+            accs,
+            code,
+        }),
+        Err(_) => Err(ImageError::Memory),
+    }
+}
+
+/// So many functions.
+fn read_functions(alloc: Global, reader: &mut Reader, count: u8) -> Result<Image, ImageError>
+    requires { count ≤ 64 }
+    ensures gives { UnlessMemory result (Gives (λ i. i.functions) result reader.new (functions_at count [] reader.old)) }
+    ensures spelled { IfOk result (λ i. IsImage i × ((length i.functions ≡ count) × ((reader.old.rest ≡ functions_bytes i.functions ++ reader.new.rest) × (reader.new.at ≡ reader.old.at + length (functions_bytes i.functions))))) }
+{
+    let mut image = Image::new(alloc);
+    for _ in 0..count {
+        let f = read_function(alloc, reader, &image)?;
+        if image.push(f).is_err() {
+            return Err(ImageError::Memory);
+        }
+    }
+    Ok(image)
+}
+
+/// The magic, the version, the number of functions, and the functions.
+#[tactic(auto, using(crate::proofs::Unless::unless), unfolding(crate::specs::Fields::image_at))]
+fn read_whole(alloc: Global, reader: &mut Reader) -> Result<Image, ImageError>
+    ensures gives { UnlessMemory result (Gives (λ i. i.functions) result reader.new (image_at reader.old)) }
+    ensures spelled { IfOk result (λ i. IsImage i × ((reader.old.rest ≡ image_bytes i ++ reader.new.rest) × (reader.new.at ≡ reader.old.at + length (image_bytes i)))) }
+{
+    let count = reader.head()?;
+    read_functions(alloc, reader, count)
+}
+
+/// The image that begins the bytes, and its length in bytes.
+pub fn read_image(alloc: Global, bytes: &[u8]) -> Result<(Image, usize), ImageError>
+    // What is read begins the bytes.
+    ensures found { IfOk result (λ r. ImageBegins bytes.now r.0 r.1) }
+    // An image that begins the bytes is read, unless memory runs out.
+    ensures only { (i : ImageValue) (n : ℕ) → ImageBegins bytes.now i n → UnlessMemory result (result ≡ Ok (i, n)) }
+    // A refusal is that of the first field that isn't all there or isn't allowed, unless memory runs out.
+    ensures refused { UnlessMemory result (refusal_in result ≡ first_bad_field bytes.now) }
+{
+    let mut reader = Reader::new(bytes);
+    let image = read_whole(alloc, &mut reader)?;
+    let size = reader.offset();
+    Ok((image, size))
+}
+
+/// The law of one image: no two images share a spelling, and no spelling begins another. So bytes begin with one image at
+/// most, and what was written is read back.
+pub fn one_image()
+    ensures { OneImage }
+{}

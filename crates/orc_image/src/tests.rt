@@ -1,0 +1,106 @@
+use crate::{ImageError, list, one_image, one_listing, read_image, write_image};
+use std::alloc::Global;
+use std::test::Fail;
+
+// No functions.
+const EMPTY: [u8; 6] = [0x4f, 0x52, 0x43, 0x49, 1, 0];
+
+// One function f of no arrays, whose code is a return.
+const RETURNS: [u8; 18] = [
+    0x4f, 0x52, 0x43, 0x49, 1, 1, 1, 0x66, 0, 0, 0, 0, 0, 1, 0, 0, 0, 0xc3,
+];
+
+// One function add8 with a dest and two sources, cut within its code's length.
+const CUT: [u8; 18] = [
+    0x4f, 0x52, 0x43, 0x49, 1, 1, 4, 0x61, 0x64, 0x64, 0x38, 0, 1, 2, 0, 0, 9, 0,
+];
+
+// Functions a and b_1, the first over rows with 4 dests, 8 sources, 8 parameters and 4 accumulators.
+const PAIR: [u8; 55] = [
+    0x4f, 0x52, 0x43, 0x49, 1, 2, 1, 0x61, 1, 4, 8, 8, 4, 17, 0, 0, 0, 0x66, 0x0f, 0xfc, 0xc1,
+    0x48, 0x83, 0xc0, 0x7f, 0x06, 0xe9, 0xfb, 0xff, 0xff, 0xff, 0x0f, 0xb6, 0xc3, 3, 0x62, 0x5f,
+    0x31, 0, 0, 0, 0, 0, 8, 0, 0, 0, 0x0f, 0x84, 0, 0, 0, 0, 0xc3, 0x66,
+];
+
+// Two functions of the name a.
+const TWICE: [u8; 30] = [
+    0x4f, 0x52, 0x43, 0x49, 1, 2, 1, 0x61, 0, 0, 0, 0, 0, 1, 0, 0, 0, 0xc3, 1, 0x61, 0, 0, 0, 0, 0,
+    1, 0, 0, 0, 0xc3,
+];
+
+fn refusal(alloc: Global, bytes: &[u8]) -> Option<ImageError> {
+    match read_image(alloc, bytes) {
+        Ok(_) => None,
+        Err(e) => Some(e),
+    }
+}
+
+#[test]
+fn images_read_back_and_listed(rt: HostRuntime) -> Result<(), Fail> {
+    one_image();
+    one_listing();
+    let alloc = rt.alloc();
+    let listings: [(&[u8], &str); 3] = [
+        (&EMPTY, ""),
+        (&RETURNS, "function f\n00000000 c3 ret\n"),
+        (
+            &PAIR,
+            "function a\n00000000 660ffcc1 paddb\n00000004 4883c07f add\n00000008 06 bad\n00000009 e9fbffffff jmp\n0000000e 0f bad\n0000000f b6 bad\n00000010 c3 ret\nfunction b_1\n00000000 0f8400000000 je\n00000006 c3 ret\n00000007 66 bad\n",
+        ),
+    ];
+    for (bytes, want) in listings {
+        let (image, size) = read_image(alloc, bytes)?;
+        assert_eq!(rt; size, bytes.len());
+        assert_eq!(rt; write_image(alloc, &image)?.as_slice(), bytes);
+        assert_eq!(rt; list(alloc, &image)?.as_slice(), want.as_bytes());
+        // Bytes behind an image are left.
+        let mut more = Vec::from_slice(alloc, bytes)?;
+        more.push(0x90)?;
+        let (_, again) = read_image(alloc, &more)?;
+        assert_eq!(rt; again, size);
+    }
+    Ok(())
+}
+
+#[test]
+fn refusals(rt: HostRuntime) -> Result<(), Fail> {
+    let alloc = rt.alloc();
+    // The end of the field in which an image of each length is cut.
+    let ends = [
+        4, 4, 4, 4, 5, 6, 7, 8, 9, 10, 11, 12, 13, 17, 17, 17, 17, 18,
+    ];
+    for (length, need) in ends.iter().enumerate() {
+        assert_eq!(rt;
+            refusal(alloc, &RETURNS[..length]),
+            Some(ImageError::Short { need: *need }),
+            "{length}"
+        );
+    }
+    assert_eq!(rt; refusal(alloc, &CUT), Some(ImageError::Short { need: 20 }));
+    assert_eq!(rt;
+        refusal(alloc, &TWICE),
+        Some(ImageError::BadField { at: 19 })
+    );
+    let changes = [
+        (3, 0x4a, ImageError::BadMagic),
+        (4, 2, ImageError::BadVersion),
+        (5, 65, ImageError::BadField { at: 5 }),
+        (6, 0, ImageError::BadField { at: 6 }),
+        (6, 65, ImageError::BadField { at: 6 }),
+        (7, 0x31, ImageError::BadField { at: 7 }),
+        (8, 2, ImageError::BadField { at: 8 }),
+        (9, 5, ImageError::BadField { at: 9 }),
+        (10, 9, ImageError::BadField { at: 10 }),
+        (11, 9, ImageError::BadField { at: 11 }),
+        (12, 5, ImageError::BadField { at: 12 }),
+        (13, 0, ImageError::BadField { at: 13 }),
+        (15, 0x10, ImageError::BadField { at: 13 }),
+    ];
+    for (at, byte, want) in changes {
+        let mut bytes = PAIR;
+        assert!(rt; at < bytes.len());
+        bytes[at] = byte;
+        assert_eq!(rt; refusal(alloc, &bytes), Some(want), "{at}");
+    }
+    Ok(())
+}
