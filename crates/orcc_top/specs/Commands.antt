@@ -1,0 +1,26 @@
+-- The words after the program's name, and what they ask for.
+use Rattle.std.specs.Prelude.{◌≢◌, ℕ, List, [], ◌∷◌, ◌++◌, map, codes, String, string_bytes}
+use Rattle.std.specs.declared.alloc.Global.{Global}
+use Rattle.orcc_top.specs.declared.command.Command.{Command}
+use Rattle.orcc_top.specs.declared.command.Command.TheVariants.{Asm, Fmt, Dis}
+
+abbrev pub Word : Type 0
+Word = List ℕ
+
+-- the bytes of the words
+abbrev pub spelled : List (String Global) → List Word
+spelled words = map (λ word. string_bytes word) words
+
+-- the words that ask for a command
+abbrev pub words_of : Command → List Word
+words_of Asm = codes "asm" ∷ []
+words_of Fmt = codes "fmt" ∷ []
+words_of Dis = codes "dis" ∷ []
+
+-- the words ask for no command
+abbrev pub IsWrongUsage : List Word → Type 0
+IsWrongUsage words = (command : Command) → words ≢ words_of command
+
+-- the line that names the listed forms
+abbrev pub usage_line : List ℕ
+usage_line = codes "usage: orcc asm | c | check | fmt | run | emulate | dis | gen S" ++ 10 ∷ []

@@ -1,0 +1,88 @@
+//! Assembling a text.
+ghost use Rattle.std.specs.Prelude.{◌≡◌, ◌≤◌, None, true, length, map, IfOk, OnOk, IfErr};
+ghost use Rattle.orc_program.specs.Program.{count_of};
+ghost use Rattle.orc_program.specs.Kept.{is_function, all_distinct, most_of};
+ghost use Rattle.orc_asm.specs.Function.{first_unbuilt, IsRefusal};
+ghost use Rattle.orcc_top.specs.Assembly.{EntryOf, EntriesOf, first_unbuilt_in, TellsUnbuilt};
+ghost use Rattle.orcc_top.specs.Replies.{Replies};
+
+use crate::command::Command;
+use crate::refusal::{Refusal, line_of};
+use crate::reply::Reply;
+use orc_asm::{AsmError, assemble};
+use orc_image::{Image, ImageFunction, write_image};
+use orc_program::{Function, Name, VarKind, count_of};
+use orc_text::{TextError, read};
+use std::alloc::{AllocError, Global};
+
+/// How many variables of a kind a function has.
+#[tactic(auto, using(crate::proofs::Entries::few, crate::proofs::Entries::most_fits))]
+fn count(f: &Function, kind: VarKind) -> u8
+    requires { is_function f.now ≡ true }
+    ensures count { result ≡ count_of kind f.now.vars }
+    ensures few { result ≤ most_of kind }
+{
+    count_of(f, kind) as u8
+}
+
+/// A function's entry in an image.
+fn entry_of(alloc: Global, f: &Function) -> Result<ImageFunction, AsmError>
+    ensures entry { IfOk result (λ entry. EntryOf f.now entry) }
+    ensures built { OnOk result (first_unbuilt f.now ≡ None) }
+    ensures refusal { IfErr result (λ e. IsRefusal f.now e) }
+{
+    let code = assemble(alloc, f)?;
+    let Some(name) = Name::new(f.name.as_slice()) else {
+        unreachable!();
+    };
+    Ok(ImageFunction {
+        name,
+        two_d: f.two_d,
+        dests: count(f, VarKind::Dest),
+        sources: count(f, VarKind::Source),
+        params: count(f, VarKind::Param),
+        accs: count(f, VarKind::Accumulator),
+        code,
+    })
+}
+
+/// The image of a program's functions.
+fn image_of(alloc: Global, functions: &[Function]) -> Result<Image, AsmError>
+    requires few { length functions.now ≤ 64 }
+    requires distinct { all_distinct (map (λ f. f.name) functions.now) ≡ true }
+    ensures entries { IfOk result (λ image. EntriesOf functions.now image.functions) }
+    ensures built { OnOk result (first_unbuilt_in functions.now ≡ None) }
+    ensures unbuilt { IfErr result (λ e. TellsUnbuilt (first_unbuilt_in functions.now) e) }
+{
+    let mut image = Image::new(alloc);
+    for f in functions {
+        let entry = entry_of(alloc, f)?;
+        if image.push(entry).is_err() {
+            return Err(AsmError::Memory);
+        }
+    }
+    Ok(image)
+}
+
+/// What `asm` answers to a text.
+pub fn assemble_text(alloc: Global, text: &[u8]) -> Result<Reply, AllocError>
+    requires { length text.now ≤ 1048576 }
+    ensures { IfOk result (λ reply. Replies Command.Asm text.now reply) }
+{
+    let program = match read(alloc, text) {
+        Ok(program) => program,
+        Err(TextError::Fault { line, fault }) => {
+            let refusal = Refusal::Text { line, fault };
+            return Ok(Reply::Refusal(line_of(alloc, refusal)?));
+        }
+        Err(TextError::Memory) => return Err(AllocError),
+    };
+    match image_of(alloc, program.functions.as_slice()) {
+        Ok(image) => Ok(Reply::Output(write_image(alloc, &image)?)),
+        Err(AsmError::NotBuilt { line }) => {
+            let refusal = Refusal::NotBuilt { line };
+            Ok(Reply::Refusal(line_of(alloc, refusal)?))
+        }
+        Err(AsmError::Memory) => Err(AllocError),
+    }
+}

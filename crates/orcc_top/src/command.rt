@@ -1,0 +1,60 @@
+//! The words after the program's name.
+ghost use Rattle.std.specs.Prelude.{◌≡◌, ◌≤◌, ◌↔◌, IsTrue, IfSome, IfNone, codes};
+ghost use Rattle.orcc_top.specs.Commands.{spelled, words_of, IsWrongUsage};
+
+/// What the words ask for.
+#[derive(Clone, Copy, Debug, PartialEq, Eq)]
+pub enum Command {
+    /// `asm`: reads a text and writes an image.
+    Asm,
+    /// `fmt`: reads a text and writes its canonical text.
+    Fmt,
+    /// `dis`: reads an image and writes its listing.
+    Dis,
+}
+
+fn is_asm(word: &str) -> bool
+    ensures { IsTrue result ↔ (word.now ≡ codes "asm") }
+{
+    word == "asm"
+}
+
+fn is_fmt(word: &str) -> bool
+    ensures { IsTrue result ↔ (word.now ≡ codes "fmt") }
+{
+    word == "fmt"
+}
+
+fn is_dis(word: &str) -> bool
+    ensures { IsTrue result ↔ (word.now ≡ codes "dis") }
+{
+    word == "dis"
+}
+
+/// The command that the words ask for, if they are one of the listed forms.
+pub fn command_of(words: &[String]) -> Option<Command>
+    ensures asked { IfSome result (λ command. spelled words.now ≡ words_of command) }
+    ensures wrong { IfNone result (IsWrongUsage (spelled words.now)) }
+{
+    match words {
+        [word] if is_asm(word.as_str()) => Some(Command::Asm),
+        [word] if is_fmt(word.as_str()) => Some(Command::Fmt),
+        [word] if is_dis(word.as_str()) => Some(Command::Dis),
+        _ => None,
+    }
+}
+
+impl Command {
+    ghost use Rattle.orcc_top.specs.Answer.{limit_of};
+
+    /// The most bytes that the command's input has.
+    pub fn limit(self) -> usize
+        ensures limit { result ≡ limit_of self }
+        ensures readable { result ≤ 67108864 }
+    {
+        match self {
+            Command::Asm | Command::Fmt => 1_048_576,
+            Command::Dis => 67_108_864,
+        }
+    }
+}

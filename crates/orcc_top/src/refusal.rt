@@ -1,0 +1,73 @@
+//! Why an input is refused.
+ghost use Rattle.std.specs.Prelude.{◌≡◌, IfOk, Some, string_bytes};
+ghost use Rattle.orcc_top.specs.Refusals.{fault_text, text_of, line_of};
+
+use orc_image::ImageError;
+use orc_program::Fault;
+use std::alloc::{AllocError, Global};
+use std::fmt;
+
+/// Why an input is refused.
+#[derive(Clone, Copy, Debug, PartialEq, Eq)]
+pub enum Refusal {
+    /// The input has more bytes than its limit.
+    TooLong,
+    /// The text has a fault, whose line is counted from 1.
+    Text { line: u32, fault: Fault },
+    /// The text has an instruction that is not built, on a line counted from 1.
+    NotBuilt { line: u32 },
+    /// The input is not one image: its first field that is not all there or not allowed.
+    Image(ImageError),
+}
+
+/// The name of a fault.
+fn name_of(fault: Fault) -> &'static str
+    ensures { result.now ≡ fault_text fault }
+{
+    match fault {
+        Fault::BadByte => "BadByte",
+        Fault::UnknownDirective => "UnknownDirective",
+        Fault::WrongWords => "WrongWords",
+        Fault::BadName => "BadName",
+        Fault::BadNumber => "BadNumber",
+        Fault::NoFunction => "NoFunction",
+        Fault::Duplicate => "Duplicate",
+        Fault::BadSize => "BadSize",
+        Fault::TooMany => "TooMany",
+        Fault::UnknownOpcode => "UnknownOpcode",
+        Fault::Unsupported => "Unsupported",
+        Fault::BadPrefix => "BadPrefix",
+        Fault::UnknownName => "UnknownName",
+        Fault::SizeMismatch => "SizeMismatch",
+        Fault::NotWritable => "NotWritable",
+        Fault::NotReadable => "NotReadable",
+        Fault::NotArray => "NotArray",
+        Fault::NotScalar => "NotScalar",
+        Fault::NotAccumulator => "NotAccumulator",
+        Fault::Unset => "Unset",
+    }
+}
+
+impl fmt::Display for Refusal {
+    ghost output = { λ refusal. Some (text_of refusal) };
+
+    fn fmt<W: fmt::Write>(&self, f: &mut fmt::Formatter<W>) -> fmt::Result {
+        match self {
+            Refusal::TooLong => write!(f, "TooLong"),
+            Refusal::Text { line, fault } => write!(f, "line {line}: {}", name_of(*fault)),
+            Refusal::NotBuilt { line } => write!(f, "line {line}: NotBuilt"),
+            Refusal::Image(ImageError::BadMagic) => write!(f, "image: BadMagic"),
+            Refusal::Image(ImageError::BadVersion) => write!(f, "image: BadVersion"),
+            Refusal::Image(ImageError::Short { need }) => write!(f, "image: Short {need}"),
+            Refusal::Image(ImageError::BadField { at }) => write!(f, "image: BadField {at}"),
+            Refusal::Image(ImageError::Memory) => write!(f, "image: Memory"),
+        }
+    }
+}
+
+/// The line that says why, with its end.
+pub fn line_of(alloc: Global, refusal: Refusal) -> Result<String, AllocError>
+    ensures { IfOk result (λ line. string_bytes line ≡ line_of refusal) }
+{
+    format!(in alloc; "{refusal}\n")
+}

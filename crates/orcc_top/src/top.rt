@@ -1,0 +1,108 @@
+//! The top call.
+ghost use Rattle.std.specs.Prelude.{◌≡◌, ◌≢◌, ◌⊎◌, List, ℕ, IfSome};
+ghost use Rattle.std.specs.Io.KnownBytes.{Appends};
+ghost use Rattle.orc_io.specs.Causes.{Rose};
+ghost use Rattle.orcc_top.specs.Commands.{spelled, usage_line, IsWrongUsage};
+ghost use Rattle.orcc_top.specs.Runs.{IsAsked, IsAccepted, IsRefused, GivesOutput, GivesRefusal, CutsOutput, CutsLine};
+
+use crate::answer::{Stop, reply_to};
+use crate::command::command_of;
+use crate::reply::Reply;
+use crate::status::Status;
+use crate::writing::write;
+use orc_io::{Sink, Source};
+use std::alloc::Global;
+
+const USAGE: &str = "usage: orcc asm | c | check | fmt | run | emulate | dis | gen S\n";
+
+/// Does what the words after the program's name ask for, and says how it ended.
+///
+/// `asm` reads a text of at most 1,048,576 bytes and writes an image. It has an entry for each
+/// function of the text, in order, with the function's name and counts and with code of its own:
+/// in every good call that code returns within the stated steps, and leaves memory and sums as the
+/// function means. Built so far are functions without rows whose instructions are addb without a
+/// prefix on arrays. `fmt` reads such a text and writes its canonical text. `dis` reads an image of
+/// at most 67,108,864 bytes and writes its listing. All output is built before the first byte is
+/// put.
+///
+/// # Errors
+///
+/// [`Status`] has each way to end. Refused comes with one line on the notes: `TooLong` where one
+/// byte more than the limit was taken; for a text `line N: ` and its first fault, or else, with
+/// `asm`, `line N: NotBuilt` for the first instruction that is not built, in the first function
+/// that has one; for an image `image: ` and its first field that is not all there or not allowed,
+/// which bytes behind the image are too. Usage comes exactly where the words are no listed form;
+/// nothing is read then. Where such a line cannot be written in whole the end is WriteFault.
+pub fn orcc<S: Source, K: Sink, N: Sink>(
+    alloc: Global,
+    words: &[String],
+    input: &mut S,
+    output: &mut K,
+    notes: &mut N,
+) -> Status
+    // Done: the output has grown by the answer to the input, which was read to its end.
+    ensures done { result ≡ Status.Done → ((bytes : List ℕ)
+        × GivesOutput (spelled words.now) (S.left input.old) (S.left input.new) bytes
+        × Appends (K.held output.old) (K.held output.new) bytes) }
+    ensures done_notes { result ≡ Status.Done → notes.new ≡ notes.old }
+
+    // Refused: the notes have grown by the refusal's line.
+    ensures refused { result ≡ Status.Refused → ((line : List ℕ)
+        × GivesRefusal (spelled words.now) (S.left input.old) (S.left input.new) line
+        × Appends (N.held notes.old) (N.held notes.new) line) }
+    ensures refused_output { result ≡ Status.Refused → output.new ≡ output.old }
+
+    // Usage: exactly on wrong words, unless the usage line itself fails. Nothing is read.
+    ensures usage { result ≡ Status.Usage → IsWrongUsage (spelled words.now) }
+    ensures usage_line { result ≡ Status.Usage
+        → Appends (N.held notes.old) (N.held notes.new) usage_line }
+    ensures usage_output { result ≡ Status.Usage → output.new ≡ output.old }
+    ensures wrong_words { IsWrongUsage (spelled words.now)
+        → ((result ≡ Status.Usage) ⊎ (result ≡ Status.WriteFault)) }
+    ensures wrong_words_input { IsWrongUsage (spelled words.now) → input.new ≡ input.old }
+
+    // ReadFault: only where the input's count rose.
+    ensures read_fault { result ≡ Status.ReadFault
+        → Rose (S.faults input.old) (S.faults input.new) }
+    ensures read_fault_untouched { result ≡ Status.ReadFault
+        → ((output.new ≡ output.old) × (notes.new ≡ notes.old)) }
+
+    // Memory: before the first put.
+    ensures memory_untouched { result ≡ Status.Memory
+        → ((output.new ≡ output.old) × (notes.new ≡ notes.old)) }
+
+    // WriteFault: only where the count of the output or of the notes rose. That one has some
+    // first bytes of what was to be written, and the other one is untouched.
+    ensures write_fault { result ≡ Status.WriteFault
+        → (Rose (K.faults output.old) (K.faults output.new)
+        ⊎ Rose (N.faults notes.old) (N.faults notes.new)) }
+    ensures write_fault_part { result ≡ Status.WriteFault
+        → (((notes.new ≡ notes.old)
+        × CutsOutput (spelled words.now) (S.left input.old) (S.left input.new)
+        (K.faults output.old) (K.faults output.new) (K.held output.old) (K.held output.new))
+        ⊎ ((output.new ≡ output.old)
+        × CutsLine (spelled words.now) (S.left input.old) (S.left input.new)
+        (N.faults notes.old) (N.faults notes.new) (N.held notes.old) (N.held notes.new))) }
+
+    // Where the words ask for a command and no count rose, the run ends as its input asks, or for
+    // want of memory: Refused never comes for an input that is accepted, nor Done for another.
+    ensures complete { IsAsked (spelled words.now)
+        → (¬ Rose (S.faults input.old) (S.faults input.new))
+        → (¬ Rose (K.faults output.old) (K.faults output.new))
+        → (¬ Rose (N.faults notes.old) (N.faults notes.new))
+        → ((result ≡ Status.Done) ⊎ (result ≡ Status.Refused) ⊎ (result ≡ Status.Memory)) }
+    ensures accepted { IfSome (S.left input.old) (λ text.
+        IsAccepted (spelled words.now) text → result ≢ Status.Refused) }
+    ensures rejected { IfSome (S.left input.old) (λ text.
+        IsRefused (spelled words.now) text → result ≢ Status.Done) }
+{
+    let Some(command) = command_of(words) else {
+        return write(notes, USAGE.as_bytes(), Status::Usage);
+    };
+    match reply_to(alloc, command, input) {
+        Ok(Reply::Output(bytes)) => write(output, bytes.as_slice(), Status::Done),
+        Ok(Reply::Refusal(line)) => write(notes, line.as_bytes(), Status::Refused),
+        Err(Stop::Read) => Status::ReadFault,
+        Err(Stop::Memory) => Status::Memory,
+    }
+}
