@@ -15,9 +15,10 @@ use Rattle.orc_program.specs.Checks.{check, or_else}
 use Rattle.orc_program.specs.Kept.{most_of, most_functions, is_size_for, is_var, is_count_note, has_none}
 use Rattle.orc_text.specs.declared.directive.Directive.{Directive}
 use Rattle.orc_text.specs.declared.directive.Directive.TheVariants as directive
-use Rattle.orc_text.specs.Said.{Said, word, functions_of, vars_in, var_of}
+use Rattle.orc_words.specs.Text.{word}
+use Rattle.orc_text.specs.Said.{Said, functions_of, vars_in, var_of}
 use Rattle.orc_text.specs.Faults.{stands_anywhere, has_wrong_words, is_size_word, has_bad_number, word_by_word, is_duplicate, is_full, known_fault, directive_fault}
-use Rattle.orc_text.proofs.Clean.{neither, drop_fine}
+use Rattle.orc_words.proofs.Clean.{neither, drop_fine}
 
 -- ---- checks
 

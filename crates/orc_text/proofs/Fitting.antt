@@ -16,7 +16,8 @@ use Rattle.orc_program.specs.Program.{FunctionValue, place_from, place_of}
 use Rattle.orc_program.specs.Checks.{check, or_else, is_bad_prefix, is_too_many, result_fault, source_fault, insn_fault}
 use Rattle.orc_program.specs.Kept.{result_count, source_count, is_in_range, is_shaped, has_none}
 use Rattle.orc_program.proofs.Declared.{both_hold}
-use Rattle.orc_text.specs.Said.{Said, word, operand_of, operands_of, var_operand, looks_like_number, result_words, source_words, insn_of, prefix_of, behind_prefix, split_prefix, vars_in, insns_in}
+use Rattle.orc_words.specs.Text.{word, looks_like_number, prefix_of}
+use Rattle.orc_text.specs.Said.{Said, operand_of, operands_of, var_operand, result_words, source_words, insn_of, behind_prefix, split_prefix, vars_in, insns_in}
 use Rattle.orc_text.specs.Faults.{operand_word_fault, result_words_fault, source_words_fault, opcode_fault, found_fault, insn_line_fault}
 use Rattle.orc_text.specs.Held.{is_prefix}
 use Rattle.orc_text.proofs.Typed.{AreFine, insn_typed}

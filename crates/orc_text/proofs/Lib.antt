@@ -1,13 +1,22 @@
 mod Examples
 pub mod Lines
 pub mod Typed
-pub mod Split
-pub mod Places
-pub mod Taking
-pub mod Passing
 pub mod Operands
-pub mod Clean
 pub mod Faultless
 pub mod Fitting
 pub mod Rest
 pub mod Printed
+pub mod Named
+pub mod Spaced
+pub mod Chained
+pub mod Numbers
+pub mod NameWords
+pub mod Distinct
+pub mod Directives
+pub mod Declarations
+pub mod Unlined
+pub mod Instructions
+pub mod KeptVars
+pub mod InsnLines
+pub mod Functions
+pub mod Reread

@@ -1,5 +1,5 @@
 -- Operand words, one by one.
-use Rattle.std.proofs.Common.{◌≡◌, ℕ, ◌+◌, ◌≤◌, ◌==◌, true, List, ◌∷◌, Option, Some, None, length, take, drop, refl, arith, inl, inr}
+use Rattle.std.proofs.Common.{◌≡◌, ℕ, zero, suc, ◌+◌, ◌-◌, ◌<◌, ◌≤◌, ◌==◌, true, List, ◌∷◌, Option, Some, None, length, take, drop, refl, arith, inl, inr}
 use Rattle.std.proofs.lemmas.Bool.{cases_Bool}
 use Rattle.std.proofs.lemmas.Bool.Decides.{nat_tests}
 use Rattle.std.proofs.lemmas.List.{take_all, length-drop}
@@ -12,6 +12,11 @@ use Rattle.orc_program.specs.Checks.{or_else, result_fault, source_fault}
 use Rattle.orc_program.specs.Kept.{count_sizes}
 use Rattle.orc_text.specs.Said.{operand_of}
 use Rattle.orc_text.specs.Faults.{operand_word_fault, result_words_fault, source_words_fault}
+
+-- one more of the first words
+pub take_next : (w : Word) (ws : List Word) (k : ℕ) → 0 < k → take k (w ∷ ws) ≡ w ∷ take (k - 1) ws
+take_next w ws zero h = absurd (omega (arith, h))
+take_next w ws (suc k) h = let e : suc k - 1 ≡ k = omega arith in rw e refl
 
 -- an opcode has at most two results, and at most two sources
 pub count_few : (a b : ℕ) → count_sizes a b ≤ 2

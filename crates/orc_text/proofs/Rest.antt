@@ -10,13 +10,12 @@ use Rattle.orc_program.specs.Checks.{check, or_else}
 use Rattle.orc_text.specs.declared.directive.Directive.{Directive}
 use Rattle.orc_text.specs.declared.reading.TextError.{TextError}
 use Rattle.orc_text.specs.declared.reading.TextError.TheVariants as error
-use Rattle.orc_text.specs.Text.{lines, content, words, is_bad_byte}
-use Rattle.orc_text.specs.Said.{Said, say, say_words, counted, directive_of, starts_with_dot, split_prefix, program_of, nothing_said}
+use Rattle.orc_words.specs.Text.{lines, content, words, is_bad_byte, starts_with_dot, is_hash}
+use Rattle.orc_text.specs.Said.{Said, say, say_words, counted, directive_of, split_prefix, program_of, nothing_said}
 use Rattle.orc_text.specs.Faults.{line_fault, words_fault, directive_fault, insn_line_fault}
 use Rattle.orc_text.specs.Reads.{found_or, first_fault, text_fault, text_program, Reads}
 use Rattle.orc_text.specs.Refused.{Tells}
-use Rattle.orc_text.specs.Held.{is_hash}
-use Rattle.orc_text.proofs.Clean.{words_fine}
+use Rattle.orc_words.proofs.Clean.{words_fine}
 use Rattle.orc_text.proofs.Faultless.{or_none, check_none}
 
 -- ---- the words of a line

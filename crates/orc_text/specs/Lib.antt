@@ -1,7 +1,7 @@
-pub mod Text
 pub mod Said
 pub mod Faults
 pub mod Reads
 pub mod Refused
 pub mod Held
 pub mod Shown
+pub mod Again

@@ -9,20 +9,17 @@ ghost use Rattle.orc_program.specs.Checks.{check};
 ghost use Rattle.orc_program.specs.Notes.{ends_in_align};
 ghost use Rattle.orc_program.specs.Kept.{most_functions};
 ghost use Rattle.orc_text.specs.declared.directive.Directive.{Directive};
-ghost use Rattle.orc_text.specs.Text.{words};
+ghost use Rattle.orc_words.specs.Text.{words};
 ghost use Rattle.orc_text.specs.Said.{functions_of, vars_in};
 ghost use Rattle.orc_text.specs.Faults.{stands_anywhere, is_wrong_variable, is_wrong_count, has_wrong_words, is_size_word, has_bad_number, word_by_word, has_n, has_m, has_backup, is_duplicate, is_full, known_fault, directive_fault};
-ghost use Rattle.orc_text.specs.Held.{said_of};
+ghost use Rattle.orc_text.specs.Held.{said_of, function_in, Holds};
 
 use crate::directive::Directive;
-use crate::notes::{
-    ends_in_align, ends_in_count_word, has_bad_align, has_bad_count, has_strange, is_number,
-};
-use crate::state::State;
-use crate::words::{after, has_exactly, has_fewer, is_same, size_of, word};
-use orc_program::{
-    Fault, Function, MOST_FUNCTIONS, VarKind, count_of, find_var, has_function, is_name,
-    is_size_for, most_of,
+use crate::state::{Current, State};
+use orc_program::{Fault, MOST_FUNCTIONS, VarKind, count_of, is_name, is_size_for, most_of};
+use orc_words::{
+    after, ends_in_align, ends_in_count_word, has_bad_align, has_bad_count, has_exactly, has_fewer,
+    has_strange, is_number, is_same, size_of, word,
 };
 
 /// The fault, where the condition holds.
@@ -144,15 +141,10 @@ fn check_words(directive: Directive, line: &[u8]) -> Result<(), Fault>
 
 /// Whether a function's name is one that there is already.
 fn is_known_function(state: &State, name: &[u8]) -> bool
+    requires { Holds state.now }
     ensures { result ≡ list_any (bytes_eq name.now) (map (λ f. f.name) (functions_of (said_of state.now))) }
 {
-    if has_function(state.program.functions.as_slice(), name) {
-        return true;
-    }
-    match &state.current {
-        Some(f) => is_same(name, f.name.as_slice()),
-        None => false,
-    }
+    state.names.contains(name)
 }
 
 /// Whether there are as many functions as there may be, with the one that isn't over.
@@ -167,47 +159,49 @@ fn has_all_functions(state: &State) -> bool
 }
 
 /// Whether the current function has words after `.n`.
-fn has_n(current: &Option<Function>) -> bool
-    ensures { result ≡ has_n current.now }
+fn has_n(current: &Option<Current>) -> bool
+    ensures { result ≡ has_n (function_in current.now) }
 {
     match current {
-        Some(f) => f.notes.n.is_some(),
+        Some(current) => current.function.notes.n.is_some(),
         None => false,
     }
 }
 
 /// Whether the current function has words after `.m`.
-fn has_m(current: &Option<Function>) -> bool
-    ensures { result ≡ has_m current.now }
+fn has_m(current: &Option<Current>) -> bool
+    ensures { result ≡ has_m (function_in current.now) }
 {
     match current {
-        Some(f) => f.notes.m.is_some(),
+        Some(current) => current.function.notes.m.is_some(),
         None => false,
     }
 }
 
 /// Whether the current function has a name after `.backup`.
-fn has_backup(current: &Option<Function>) -> bool
-    ensures { result ≡ has_backup current.now }
+fn has_backup(current: &Option<Current>) -> bool
+    ensures { result ≡ has_backup (function_in current.now) }
 {
     match current {
-        Some(f) => f.notes.backup.is_some(),
+        Some(current) => current.function.notes.backup.is_some(),
         None => false,
     }
 }
 
 /// Whether the current function has a variable of this name.
-fn has_variable(current: &Option<Function>, name: &[u8]) -> bool
-    ensures { result ≡ is_some (place_of name.now (vars_in current.now)) }
+#[tactic(auto, using(crate::proofs::Named::known_named))]
+fn has_variable(current: &Option<Current>, name: &[u8]) -> bool
+    ensures { result ≡ is_some (place_of name.now (vars_in (function_in current.now))) }
 {
     match current {
-        Some(f) => find_var(f, name).is_some(),
+        Some(current) => current.names.contains(name),
         None => false,
     }
 }
 
 /// Whether a line says what an earlier one did.
 fn is_duplicate(state: &State, directive: Directive, line: &[u8]) -> bool
+    requires { Holds state.now }
     ensures { result ≡ is_duplicate (said_of state.now) directive (words line.now) }
 {
     match directive {
@@ -222,11 +216,11 @@ fn is_duplicate(state: &State, directive: Directive, line: &[u8]) -> bool
 }
 
 /// How many variables of a kind the current function has.
-fn count_in(current: &Option<Function>, kind: VarKind) -> usize
-    ensures { result ≡ count_of kind (vars_in current.now) }
+fn count_in(current: &Option<Current>, kind: VarKind) -> usize
+    ensures { result ≡ count_of kind (vars_in (function_in current.now)) }
 {
     match current {
-        Some(f) => count_of(f, kind),
+        Some(current) => count_of(&current.function, kind),
         None => 0,
     }
 }
@@ -249,6 +243,7 @@ fn is_full(state: &State, directive: Directive) -> bool
 
 /// The first fault of a line whose directive is known.
 pub(crate) fn check_known(state: &State, directive: Directive, line: &[u8]) -> Result<(), Fault>
+    requires { Holds state.now }
     ensures { result_err result ≡ known_fault (said_of state.now) directive (words line.now) }
 {
     check(
@@ -267,6 +262,7 @@ pub(crate) fn check_directive(
     directive: Option<Directive>,
     line: &[u8],
 ) -> Result<(), Fault>
+    requires { Holds state.now }
     ensures { result_err result ≡ directive_fault (said_of state.now) (words line.now) directive }
 {
     match directive {

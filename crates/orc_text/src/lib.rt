@@ -4,14 +4,10 @@
 mod directive;
 mod fault;
 mod instruction;
-mod notes;
-mod number;
 mod reading;
 mod saying;
-mod scan;
 mod showing;
 mod state;
-mod words;
 
 pub use directive::Directive;
 pub use reading::{TextError, read};

@@ -1,23 +1,22 @@
 //! Texts as programs.
 
-ghost use Rattle.std.specs.Prelude.{◌≡◌, ◌<◌, ◌+◌, ◌^◌, false, true, Some, None, length, IfOk, IfErr, OnOk, option_map};
+ghost use Rattle.std.specs.Prelude.{◌≡◌, ◌<◌, ◌+◌, ◌^◌, false, Some, None, length, IfOk, IfErr, OnOk};
 ghost use Rattle.std.specs.Result.{result_err};
 ghost use Rattle.std.specs.List.{list_any};
-ghost use Rattle.orc_text.specs.Text.{words};
+ghost use Rattle.orc_words.specs.Text.{words, is_hash};
 ghost use Rattle.orc_text.specs.Said.{say_words, counted};
 ghost use Rattle.orc_text.specs.Faults.{line_fault};
 ghost use Rattle.orc_text.specs.Reads.{Reads, found_or, text_fault};
 ghost use Rattle.orc_text.specs.Refused.{Tells};
-ghost use Rattle.orc_text.specs.Held.{said_of, HasPlace, is_hash};
+ghost use Rattle.orc_text.specs.Held.{said_of, Holds};
 
 use crate::directive::directive_of;
 use crate::fault::{check, check_directive};
 use crate::instruction::check_instruction;
 use crate::saying::{close, say_directive, say_instruction};
-use crate::scan::{content, has_bad_byte, next_line, next_word};
 use crate::state::State;
-use crate::words::starts_with_dot;
 use orc_program::{Fault, Program, new_program};
+use orc_words::{Names, content, has_bad_byte, next_line, next_word, starts_with_dot};
 use std::alloc::{AllocError, Global};
 
 /// Why a text is no program.
@@ -43,7 +42,8 @@ impl From<AllocError> for TextError {
 /// The first fault of a line, whose content is given.
 #[tactic(auto, unfolding(crate::specs::Faults::line_fault))]
 fn check_line(state: &State, line: &[u8]) -> Result<(), Fault>
-    requires { state.now.lines + 1 < 2 ^ 32 }
+    requires few { state.now.lines + 1 < 2 ^ 32 }
+    requires held { Holds state.now }
     ensures { result_err result ≡ line_fault (said_of state.now) line.now }
 {
     let Some((first, _)) = next_word(line) else {
@@ -61,9 +61,9 @@ fn say_words(alloc: Global, state: &mut State, line: &[u8]) -> Result<(), AllocE
     requires few { state.old.lines + 1 < 2 ^ 32 }
     requires clean { list_any is_hash line.now ≡ false }
     requires faultless { line_fault (said_of state.old) line.now ≡ None }
-    requires place { HasPlace state.old.program.functions (option_map (λ f. f.name) state.old.current) }
+    requires held { Holds state.old }
     ensures says { OnOk result (said_of state.new ≡ say_words (said_of state.old) (words line.now)) }
-    ensures place { OnOk result (HasPlace state.new.program.functions (option_map (λ f. f.name) state.new.current)) }
+    ensures held { OnOk result (Holds state.new) }
 {
     let Some((first, _)) = next_word(line) else {
         return Ok(());
@@ -81,10 +81,10 @@ fn say_words(alloc: Global, state: &mut State, line: &[u8]) -> Result<(), AllocE
 fn read_line(alloc: Global, state: &mut State, line: &[u8]) -> Result<(), TextError>
     requires few { state.old.lines + 1 < 2 ^ 32 }
     requires clean { list_any is_hash line.now ≡ false }
-    requires place { HasPlace state.old.program.functions (option_map (λ f. f.name) state.old.current) }
+    requires held { Holds state.old }
     ensures passes { OnOk result (line_fault (said_of state.old) line.now ≡ None) }
     ensures says { OnOk result (said_of state.new ≡ counted (state.old.lines + 1) (say_words (said_of state.old) (words line.now))) }
-    ensures place { OnOk result (HasPlace state.new.program.functions (option_map (λ f. f.name) state.new.current)) }
+    ensures held { OnOk result (Holds state.new) }
     ensures tells { IfErr result (λ e. Tells (found_or (state.old.lines + 1) (line_fault (said_of state.old) line.now) None) e) }
 {
     let number = state.lines + 1;
@@ -102,7 +102,6 @@ fn read_line(alloc: Global, state: &mut State, line: &[u8]) -> Result<(), TextEr
 }
 
 /// The program that a text says, or its first fault. The text has fewer than 2^32 bytes.
-#[tactic(auto, using(crate::proofs::Clean::no_hash))]
 pub fn read(alloc: Global, text: &[u8]) -> Result<Program, TextError>
     requires { length text.now < 2 ^ 32 }
     ensures reads { IfOk result (λ p. Reads text.now p) }
@@ -111,6 +110,7 @@ pub fn read(alloc: Global, text: &[u8]) -> Result<Program, TextError>
     let mut state = State {
         lines: 0,
         program: new_program(alloc),
+        names: Names::new(alloc),
         current: None,
     };
     let mut rest = text;

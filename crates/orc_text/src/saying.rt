@@ -1,24 +1,24 @@
 //! What a line without a fault says.
 
-ghost use Rattle.std.specs.Prelude.{◌≡◌, ◌<◌, ◌+◌, ◌++◌, ◌∷◌, ◌^◌, [], true, Some, None, OnOk, IfOk, option_map, drop, length};
+ghost use Rattle.std.specs.Prelude.{◌≡◌, ◌<◌, ◌+◌, ◌++◌, ◌∷◌, ◌^◌, [], true, Some, None, OnOk, IfOk, map};
 ghost use Rattle.std.specs.List.{list_all};
 ghost use Rattle.orc_program.specs.Words.{is_word, is_name};
-ghost use Rattle.orc_text.specs.Text.{words};
-ghost use Rattle.orc_text.specs.Said.{word, functions_of, var_of, insn_of, split_prefix, say_directive, say_insn};
+ghost use Rattle.orc_program.specs.Program.{place_of, count_of};
+ghost use Rattle.orc_program.specs.Kept.{is_var, most_of};
+ghost use Rattle.orc_words.specs.Text.{words, word};
+ghost use Rattle.orc_text.specs.Said.{functions_of, var_of, insn_of, split_prefix, say_directive, say_insn};
 ghost use Rattle.orc_text.specs.Faults.{directive_fault, opcode_fault, insn_line_fault};
-ghost use Rattle.orc_text.specs.Held.{said_of, HasPlace, is_prefix};
+ghost use Rattle.orc_text.specs.Held.{said_of, Holds, is_prefix};
 
 use crate::directive::Directive;
 use crate::instruction::{insn_of, split_prefix};
-use crate::number::number_of;
-use crate::scan::next_word;
-use crate::state::State;
-use crate::words::{after, size_of, word};
+use crate::state::{Current, State};
 use orc_ops::{Found, Op, find};
 use orc_program::{
-    Function, Name, Var, VarKind, Words, add_function, add_insn, declare, new_function, set_backup,
-    set_init, set_m, set_n, set_two_d,
+    Name, Var, VarKind, Words, add_function, add_insn, declare, new_function, set_backup, set_init,
+    set_m, set_n, set_two_d,
 };
+use orc_words::{Names, after, next_word, number_of, size_of, word};
 use sqlite_items::Items;
 use std::alloc::{AllocError, Global};
 
@@ -83,6 +83,23 @@ fn var_of(alloc: Global, kind: VarKind, line: &[u8]) -> Result<Var, AllocError>
     })
 }
 
+/// The current function with one more variable.
+#[tactic(auto, using(crate::proofs::Named::unknown_named))]
+fn declared(alloc: Global, current: Current, var: Var) -> Result<Current, AllocError>
+    requires fine { is_var var ≡ true }
+    requires unnamed { place_of var.name current.function.vars ≡ None }
+    requires room { count_of var.kind current.function.vars < most_of var.kind }
+    ensures { IfOk result (λ c. c.function ≡ record (current.function) { vars = current.function.vars ++ var ∷ [] }) }
+{
+    let Current {
+        mut function,
+        mut names,
+    } = current;
+    names.add(alloc, var.name.as_slice())?;
+    declare(&mut function, var)?;
+    Ok(Current { function, names })
+}
+
 /// Declares a line's variable.
 fn say_variable(
     alloc: Global,
@@ -92,25 +109,25 @@ fn say_variable(
 ) -> Result<(), AllocError>
     requires faultless { directive_fault (said_of state.old) (words line.now) (Some (Directive.Variable kind)) ≡ None }
     requires fine { list_all is_word (words line.now) ≡ true }
-    requires place { HasPlace state.old.program.functions (option_map (λ f. f.name) state.old.current) }
+    requires held { Holds state.old }
     ensures says { OnOk result (said_of state.new ≡ say_directive (said_of state.old) (words line.now) (Directive.Variable kind)) }
-    ensures place { OnOk result (HasPlace state.new.program.functions (option_map (λ f. f.name) state.new.current)) }
+    ensures held { OnOk result (Holds state.new) }
 {
     let var = var_of(alloc, kind, line)?;
-    match &mut state.current {
-        Some(f) => declare(f, var),
-        None => Ok(()),
+    if let Some(current) = state.current.take() {
+        state.current = Some(declared(alloc, current, var)?);
     }
+    Ok(())
 }
 
 /// Sets that the current function has rows.
 fn say_flags(state: &mut State, line: &[u8])
-    requires place { HasPlace state.old.program.functions (option_map (λ f. f.name) state.old.current) }
+    requires held { Holds state.old }
     ensures says { said_of state.new ≡ say_directive (said_of state.old) (words line.now) Directive.Flags }
-    ensures place { HasPlace state.new.program.functions (option_map (λ f. f.name) state.new.current) }
+    ensures held { Holds state.new }
 {
-    if let Some(f) = &mut state.current {
-        set_two_d(f);
+    if let Some(current) = &mut state.current {
+        set_two_d(&mut current.function);
     }
 }
 
@@ -118,13 +135,13 @@ fn say_flags(state: &mut State, line: &[u8])
 fn say_n(alloc: Global, state: &mut State, line: &[u8]) -> Result<(), AllocError>
     requires faultless { directive_fault (said_of state.old) (words line.now) (Some Directive.CountN) ≡ None }
     requires fine { list_all is_word (words line.now) ≡ true }
-    requires place { HasPlace state.old.program.functions (option_map (λ f. f.name) state.old.current) }
+    requires held { Holds state.old }
     ensures says { OnOk result (said_of state.new ≡ say_directive (said_of state.old) (words line.now) Directive.CountN) }
-    ensures place { OnOk result (HasPlace state.new.program.functions (option_map (λ f. f.name) state.new.current)) }
+    ensures held { OnOk result (Holds state.new) }
 {
     let counts = copy_words(alloc, after(line, 1))?;
-    if let Some(f) = &mut state.current {
-        set_n(f, counts);
+    if let Some(current) = &mut state.current {
+        set_n(&mut current.function, counts);
     }
     Ok(())
 }
@@ -133,13 +150,13 @@ fn say_n(alloc: Global, state: &mut State, line: &[u8]) -> Result<(), AllocError
 fn say_m(alloc: Global, state: &mut State, line: &[u8]) -> Result<(), AllocError>
     requires faultless { directive_fault (said_of state.old) (words line.now) (Some Directive.CountM) ≡ None }
     requires fine { list_all is_word (words line.now) ≡ true }
-    requires place { HasPlace state.old.program.functions (option_map (λ f. f.name) state.old.current) }
+    requires held { Holds state.old }
     ensures says { OnOk result (said_of state.new ≡ say_directive (said_of state.old) (words line.now) Directive.CountM) }
-    ensures place { OnOk result (HasPlace state.new.program.functions (option_map (λ f. f.name) state.new.current)) }
+    ensures held { OnOk result (Holds state.new) }
 {
     let counts = copy_words(alloc, after(line, 1))?;
-    if let Some(f) = &mut state.current {
-        set_m(f, counts);
+    if let Some(current) = &mut state.current {
+        set_m(&mut current.function, counts);
     }
     Ok(())
 }
@@ -148,13 +165,13 @@ fn say_m(alloc: Global, state: &mut State, line: &[u8]) -> Result<(), AllocError
 #[tactic(auto, using(crate::proofs::Faultless::backup_name))]
 fn say_backup(state: &mut State, line: &[u8])
     requires faultless { directive_fault (said_of state.old) (words line.now) (Some Directive.Backup) ≡ None }
-    requires place { HasPlace state.old.program.functions (option_map (λ f. f.name) state.old.current) }
+    requires held { Holds state.old }
     ensures says { said_of state.new ≡ say_directive (said_of state.old) (words line.now) Directive.Backup }
-    ensures place { HasPlace state.new.program.functions (option_map (λ f. f.name) state.new.current) }
+    ensures held { Holds state.new }
 {
     let name = name_of(word(line, 1));
-    if let Some(f) = &mut state.current {
-        set_backup(f, name);
+    if let Some(current) = &mut state.current {
+        set_backup(&mut current.function, name);
     }
 }
 
@@ -162,20 +179,21 @@ fn say_backup(state: &mut State, line: &[u8])
 #[tactic(auto, using(crate::proofs::Faultless::init_name))]
 fn say_init(state: &mut State, line: &[u8])
     requires faultless { directive_fault (said_of state.old) (words line.now) (Some Directive.Init) ≡ None }
-    requires place { HasPlace state.old.program.functions (option_map (λ f. f.name) state.old.current) }
+    requires held { Holds state.old }
     ensures says { said_of state.new ≡ say_directive (said_of state.old) (words line.now) Directive.Init }
-    ensures place { HasPlace state.new.program.functions (option_map (λ f. f.name) state.new.current) }
+    ensures held { Holds state.new }
 {
     set_init(&mut state.program, name_of(word(line, 1)));
 }
 
 /// Adds the current function to those that are over.
 pub(crate) fn close(state: &mut State) -> Result<(), AllocError>
-    requires place { HasPlace state.old.program.functions (option_map (λ f. f.name) state.old.current) }
-    ensures { OnOk result (said_of state.new ≡ record (said_of state.old) { over = functions_of (said_of state.old); current = None }) }
+    requires held { Holds state.old }
+    ensures says { OnOk result (said_of state.new ≡ record (said_of state.old) { over = functions_of (said_of state.old); current = None }) }
+    ensures names { OnOk result (state.new.names ≡ map (λ f. f.name) (functions_of (said_of state.old))) }
 {
     match state.current.take() {
-        Some(f) => add_function(&mut state.program, f),
+        Some(current) => add_function(&mut state.program, current.function),
         None => Ok(()),
     }
 }
@@ -184,12 +202,16 @@ pub(crate) fn close(state: &mut State) -> Result<(), AllocError>
 #[tactic(auto, using(crate::proofs::Faultless::function_name, crate::proofs::Faultless::function_new, crate::proofs::Faultless::function_room))]
 fn say_function(alloc: Global, state: &mut State, line: &[u8]) -> Result<(), AllocError>
     requires faultless { directive_fault (said_of state.old) (words line.now) (Some Directive.Function) ≡ None }
-    requires place { HasPlace state.old.program.functions (option_map (λ f. f.name) state.old.current) }
+    requires held { Holds state.old }
     ensures says { OnOk result (said_of state.new ≡ say_directive (said_of state.old) (words line.now) Directive.Function) }
-    ensures place { OnOk result (HasPlace state.new.program.functions (option_map (λ f. f.name) state.new.current)) }
+    ensures held { OnOk result (Holds state.new) }
 {
     close(state)?;
-    state.current = Some(new_function(alloc, name_of(word(line, 1))));
+    state.names.add(alloc, word(line, 1))?;
+    state.current = Some(Current {
+        function: new_function(alloc, name_of(word(line, 1))),
+        names: Names::new(alloc),
+    });
     Ok(())
 }
 
@@ -202,9 +224,9 @@ pub(crate) fn say_directive(
 ) -> Result<(), AllocError>
     requires faultless { directive_fault (said_of state.old) (words line.now) (Some directive) ≡ None }
     requires fine { list_all is_word (words line.now) ≡ true }
-    requires place { HasPlace state.old.program.functions (option_map (λ f. f.name) state.old.current) }
+    requires held { Holds state.old }
     ensures says { OnOk result (said_of state.new ≡ say_directive (said_of state.old) (words line.now) directive) }
-    ensures place { OnOk result (HasPlace state.new.program.functions (option_map (λ f. f.name) state.new.current)) }
+    ensures held { OnOk result (Holds state.new) }
 {
     match directive {
         Directive::Function => return say_function(alloc, state, line),
@@ -221,18 +243,18 @@ pub(crate) fn say_directive(
 
 /// Adds the instruction of an opcode and the words behind it.
 fn say_opcode(
-    f: &mut Function,
+    current: &mut Current,
     number: u32,
     op: Op,
     prefix: u8,
     line: &[u8],
 ) -> Result<(), AllocError>
-    requires faultless { opcode_fault f.old.vars f.old.insns number op prefix (words line.now) ≡ None }
+    requires faultless { opcode_fault current.old.function.vars current.old.function.insns number op prefix (words line.now) ≡ None }
     requires prefix { is_prefix prefix ≡ true }
-    ensures { OnOk result (f.new ≡ record (f.old) { insns = f.old.insns ++ insn_of f.old.vars number op prefix (words line.now) ∷ [] }) }
+    ensures { OnOk result (current.new.function ≡ record (current.old.function) { insns = current.old.function.insns ++ insn_of current.old.function.vars number op prefix (words line.now) ∷ [] }) }
 {
-    let insn = insn_of(f, number, op, prefix, line);
-    add_insn(f, insn)
+    let insn = insn_of(current, number, op, prefix, line);
+    add_insn(&mut current.function, insn)
 }
 
 /// What an instruction line says.
@@ -240,9 +262,9 @@ fn say_opcode(
 pub(crate) fn say_instruction(state: &mut State, line: &[u8]) -> Result<(), AllocError>
     requires few { state.old.lines + 1 < 2 ^ 32 }
     requires faultless { insn_line_fault (said_of state.old) (split_prefix (words line.now)) ≡ None }
-    requires place { HasPlace state.old.program.functions (option_map (λ f. f.name) state.old.current) }
+    requires held { Holds state.old }
     ensures says { OnOk result (said_of state.new ≡ say_insn (said_of state.old) (split_prefix (words line.now))) }
-    ensures place { OnOk result (HasPlace state.new.program.functions (option_map (λ f. f.name) state.new.current)) }
+    ensures held { OnOk result (Holds state.new) }
 {
     let (prefix, behind) = split_prefix(line);
     let Some((name, operands)) = next_word(behind) else {
@@ -253,7 +275,7 @@ pub(crate) fn say_instruction(state: &mut State, line: &[u8]) -> Result<(), Allo
     };
     let number = state.lines + 1;
     match &mut state.current {
-        Some(f) => say_opcode(f, number, op, prefix, operands),
+        Some(current) => say_opcode(current, number, op, prefix, operands),
         None => Ok(()),
     }
 }

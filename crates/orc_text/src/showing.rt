@@ -2,6 +2,8 @@
 
 ghost use Rattle.std.specs.Prelude.{◌≡◌, ◌++◌, [], ◌∷◌, OnOk, IfOk, string_bytes};
 ghost use Rattle.std.specs.Fmt.{decimal};
+ghost use Rattle.orc_text.specs.Reads.{text_program};
+ghost use Rattle.orc_text.specs.Again.{ReadsAgain};
 ghost use Rattle.orc_text.specs.Shown.{number_text, spaced, words_line, note_text, name_text, kind_word, tail_text, var_text, vars_text, prefix_text, operand_text, more_operands, operands_text, insn_text, insns_text, flags_text, notes_text, function_text, functions_text, program_text};
 
 use orc_ops::name;
@@ -279,7 +281,11 @@ fn put_functions(alloc: Global, out: &mut Vec<u8>, functions: &[Function]) -> Re
 /// a comma and a space, and numbers are signed decimals of 64 bits.
 #[tactic(auto, unfolding(crate::specs::Shown::program_text))]
 pub fn show(alloc: Global, p: &Program) -> Result<Vec<u8>, AllocError>
-    ensures { IfOk result (λ text. text.items ≡ program_text p.now) }
+    ensures text { IfOk result (λ text. text.items ≡ program_text p.now) }
+
+    // Reading the text gives the program again, but for the numbers of lines, and showing that gives the text again.
+    ensures again { IfOk result (λ text. ReadsAgain text.items p.now) }
+    ensures fixed { IfOk result (λ text. program_text (text_program text.items) ≡ text.items) }
 {
     let mut out = Vec::new(alloc);
     put_name_if(&mut out, b".init", &p.init)?;

@@ -1,5 +1,5 @@
 use Rattle.std.proofs.Common.{length}
-use Rattle.orc_text.specs.Text.{words}
+use Rattle.orc_words.specs.Text.{words}
 use Rattle.orc_text.proofs.instruction.+check_sources.Given as goal
 
 abbrev pub decreases-check_sources : goal.decreases-check_sources

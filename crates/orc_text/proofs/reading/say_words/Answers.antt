@@ -1,5 +1,5 @@
 use Rattle.std.proofs.Common.{sym, ◌∙◌}
-use Rattle.orc_text.specs.Text.{words}
+use Rattle.orc_words.specs.Text.{words}
 use Rattle.orc_text.specs.Held.{said_of}
 use Rattle.orc_text.proofs.Rest.{words_good, directive_good, instruction_good}
 use Rattle.orc_text.proofs.reading.say_words.Goals as goal

@@ -1,5 +1,5 @@
 use Rattle.std.proofs.Common.{◌≡◌, ◌++◌, length}
-use Rattle.orc_text.specs.Text.{words}
+use Rattle.orc_words.specs.Text.{words}
 use Rattle.orc_text.proofs.saying.copy_words.Given as goal
 
 abbrev pub invariant-loop-word : goal.invariant-loop-word

@@ -1,6 +1,6 @@
 use Rattle.std.proofs.Common.{ap, ◌∙◌}
 use Rattle.orc_program.specs.Kept.{is_count_note}
-use Rattle.orc_text.specs.Text.{words}
+use Rattle.orc_words.specs.Text.{words}
 use Rattle.orc_text.specs.Held.{said_of}
 use Rattle.orc_text.proofs.Faultless.{n_fine}
 use Rattle.orc_text.proofs.saying.say_n.Goals as goal

@@ -1,4 +1,0 @@
-use Rattle.orc_text.proofs.words.+has_exactly.Given as goal
-
-abbrev pub decreases-has_exactly : goal.decreases-has_exactly
-decreases-has_exactly l = l.count

@@ -1,4 +1,0 @@
-use Rattle.orc_text.proofs.words.+has_fewer.Given as goal
-
-abbrev pub decreases-has_fewer : goal.decreases-has_fewer
-decreases-has_fewer l = l.count
