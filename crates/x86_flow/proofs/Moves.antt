@@ -1,14 +1,17 @@
 -- Bytes between memory and a vector register, and lists one after another.
-use Rattle.std.proofs.Common.{◌≡◌, ◌≢◌, ℕ, ◌+◌, ◌*◌, ◌%◌, ◌/◌, ◌^◌, ◌<◌, List, [], ◌∷◌, ◌++◌, get_or, Some, Ok, refl, sym, ap, ◌∙◌, subst, arith, lit<, inl, inr}
-use Rattle.orc_bits.specs.Lanes.{lane, from_bytes, byte_of}
-use Rattle.orc_bits.proofs.LaneLaws.{lane_law, lane_one, from_byte, change_other, change_same}
+use Rattle.std.proofs.Common.{◌≡◌, ◌≢◌, ℕ, zero, suc, ◌+◌, ◌*◌, ◌%◌, ◌/◌, ◌^◌, ◌<◌, ◌≤◌, nat_lt, Bool, true, false, if◌then◌else◌, List, [], ◌∷◌, ◌++◌, get_or, Some, Result, Ok, refl, sym, ap, ◌∙◌, subst, arith, lit<, inl, inr}
+use Rattle.std.proofs.lemmas.Bool.Decides.{nat_tests}
+use Rattle.orc_bits.specs.Lanes.{lane, from_bytes, byte_of, AreBytes}
+use Rattle.orc_bits.proofs.LaneLaws.{lane_law, lane_one, from_byte, AreBytes-from_bytes, change_other, change_same}
+use Rattle.x86_ins.specs.declared.ins.MoveOp.{MoveOp}
 use Rattle.x86_ins.specs.declared.ins.MoveOp.TheVariants as move
 use Rattle.x86_ins.specs.declared.ins.Ins.{Ins}
-use Rattle.x86_ins.specs.declared.ins.Ins.TheVariants.{VecLoad, VecStore, Load8, Store8}
-use Rattle.orc_bits.specs.Memory.{Memory, bind, read, value, number, fill, IsMapped}
-use Rattle.x86_ins.specs.Machine.{Core, with_gpr, with_xmm, with_memory, address, access, save, work}
-use Rattle.orc_bits.proofs.Memories.{fill_in, fill_out, read_lanes, all_there, store_there}
-use Rattle.x86_flow.specs.Moves.{here, IsCount, load_code, store_code}
+use Rattle.x86_ins.specs.declared.ins.Ins.TheVariants.{VecLoad, VecStore, FromGpr, ToGpr, Load8, Load16, Store8, Store16}
+use Rattle.orc_bits.specs.Memory.{Memory, bind, read, number, fill, IsMapped}
+use Rattle.x86_ins.specs.declared.state.Trap.{Trap}
+use Rattle.x86_ins.specs.Machine.{Core, with_gpr, with_xmm, with_memory, address, access, aligned, move_size, load, save, work}
+use Rattle.orc_bits.proofs.Memories.{fill_in, fill_out, all_there, store_there}
+use Rattle.x86_flow.specs.Moves.{here, IsWidth, load_code, store_code}
 use Rattle.x86_flow.proofs.Flow.{Line}
 
 pub line_append : (Q : Core → Ins → Type 0) (a b : List Ins) (c u d : Core) → Line Q a c u → Line Q b u d → Line Q (a ++ b) c d
@@ -23,106 +26,214 @@ pub record IsFill (count : ℕ) (mem : Memory) (a : ℕ) (f : ℕ → ℕ) (end 
 pub fill_is : (count : ℕ) (mem : Memory) (a : ℕ) (f g : ℕ → ℕ) → a + count < 2 ^ 63 → ((j : ℕ) → j < count → f j ≡ g j) → IsFill count mem a g (fill count mem a f)
 fill_is count mem a f g w e = record { inside = λ j l. fill_in count mem a f j w l ∙ ap Some (e j l); outside = λ x h. fill_out count mem a f x w h }
 
-low_byte : (b : List ℕ) → lane 4 0 b % 256 ≡ lane 1 0 b % 256
-low_byte b =
+-- what holds of each width
+pub each_width : (P : ℕ → Type 0) → P 1 → P 2 → P 4 → P 8 → P 16 → (width : ℕ) → IsWidth width → P width
+each_width P one two four eight all width (inl e) = subst P (sym e) one
+each_width P one two four eight all width (inr (inl e)) = subst P (sym e) two
+each_width P one two four eight all width (inr (inr (inl e))) = subst P (sym e) four
+each_width P one two four eight all width (inr (inr (inr (inl e)))) = subst P (sym e) eight
+each_width P one two four eight all width (inr (inr (inr (inr e)))) = subst P (sym e) all
+
+below_1 : (P : ℕ → Type 0) → P 0 → (j : ℕ) → j < 1 → P j
+below_1 P a zero l = a
+below_1 P a (suc j) l = absurd (omega (arith, l))
+
+below_2 : (P : ℕ → Type 0) → P 0 → P 1 → (j : ℕ) → j < 2 → P j
+below_2 P a b zero l = a
+below_2 P a b (suc zero) l = b
+below_2 P a b (suc (suc j)) l = absurd (omega (arith, l))
+
+-- ---- bytes that are read
+
+-- z 0, z 1 and so on, so many
+abbrev front : ℕ → (ℕ → ℕ) → List ℕ
+front zero z = []
+front (suc n) z = z 0 ∷ front n (λ j. z (suc j))
+
+front_at : (n : ℕ) (z : ℕ → ℕ) (j : ℕ) → j < n → get_or (front n z) j 0 ≡ z j
+front_at zero z j l = absurd (omega (arith, l))
+front_at (suc n) z zero l = refl
+front_at (suc n) z (suc j) l = front_at n (λ j. z (suc j)) j (omega (arith, l))
+
+front_small : (n : ℕ) (z : ℕ → ℕ) → ((j : ℕ) → j < n → z j < 256) → AreBytes (front n z)
+front_small zero z h j = lit< tt
+front_small (suc n) z h zero = h 0 (omega arith)
+front_small (suc n) z h (suc j) = front_small n (λ j. z (suc j)) (λ j l. h (suc j) (omega (arith, l))) j
+
+read_front : (n : ℕ) (mem : Memory) (a : ℕ) (z : ℕ → ℕ) → a + n < 2 ^ 63 → ((j : ℕ) → j < n → mem (a + j) ≡ Some (z j)) → read n mem a ≡ Some (front n z)
+read_front zero mem a z w h = refl
+read_front (suc n) mem a z w h =
+    let e : a % 2 ^ 64 ≡ a + 0 = omega (arith, w) in
+    let first : mem (a % 2 ^ 64) ≡ Some (z 0) = ap mem e ∙ h 0 (omega arith) in
+    let rest = read_front n mem (a + 1) (λ j. z (suc j)) (omega (arith, w)) (λ j l. ap mem (let q : a + 1 + j ≡ a + suc j = omega arith in q) ∙ h (suc j) (omega (arith, l))) in
+    ap (λ o. bind o (λ b. bind (read n mem (a + 1)) (λ bs. Some (b ∷ bs)))) first ∙ ap (λ o. bind o (λ bs. Some (z 0 ∷ bs))) rest
+
+one_byte : (z : ℕ → ℕ) (j : ℕ) → j < 1 → number (front 1 z) / 256 ^ j % 256 ≡ z j % 256
+one_byte z = below_1 (λ j. number (front 1 z) / 256 ^ j % 256 ≡ z j % 256) (omega arith)
+
+two_bytes : (z : ℕ → ℕ) → z 0 < 256 → (j : ℕ) → j < 2 → number (front 2 z) / 256 ^ j % 256 ≡ z j % 256
+two_bytes z low = below_2 (λ j. number (front 2 z) / 256 ^ j % 256 ≡ z j % 256) (omega (arith, low)) (omega (arith, low))
+
+-- ---- the low bytes of a register
+
+low_byte : (b : List ℕ) → AreBytes b → (j : ℕ) → j < 1 → byte_of 1 (lane 4 0 b) j ≡ get_or b j 0
+low_byte b small =
     let e : lane 4 0 b ≡ lane 2 0 b + 256 ^ 2 * lane 2 1 b = lane_law b 2 0 in
     let f : lane 2 0 b ≡ lane 1 0 b + 256 ^ 1 * lane 1 1 b = lane_law b 1 0 in
-    omega (arith, e, f)
+    let first : lane 4 0 b / 256 ^ 0 % 256 ≡ get_or b 0 0 = omega (arith, e, f, lane_one 0 b, small 0) in
+    below_1 (λ j. byte_of 1 (lane 4 0 b) j ≡ get_or b j 0) first
+
+low_bytes : (b : List ℕ) → AreBytes b → (j : ℕ) → j < 2 → byte_of 2 (lane 4 0 b) j ≡ get_or b j 0
+low_bytes b small =
+    let e : lane 4 0 b ≡ lane 2 0 b + 256 ^ 2 * lane 2 1 b = lane_law b 2 0 in
+    let f : lane 2 0 b ≡ lane 1 0 b + 256 ^ 1 * lane 1 1 b = lane_law b 1 0 in
+    let first : lane 4 0 b / 256 ^ 0 % 256 ≡ get_or b 0 0 = omega (arith, e, f, lane_one 0 b, small 0) in
+    let second : lane 4 0 b / 256 ^ 1 % 256 ≡ get_or b 1 0 = omega (arith, e, f, lane_one 0 b, lane_one 1 b, small 0, small 1) in
+    below_2 (λ j. byte_of 2 (lane 4 0 b) j ≡ get_or b j 0) first second
+
+-- ---- moves
 
 -- what a load of bytes leaves
-pub record Loaded (count x : ℕ) (z : ℕ → ℕ) (c d : Core) : Type 0 where
+pub record Loaded (width x : ℕ) (z : ℕ → ℕ) (c d : Core) : Type 0 where
   pub memory : d.memory ≡ c.memory
   pub gpr : (r : ℕ) → r ≢ 0 → d.gpr r ≡ c.gpr r
   pub others : (y : ℕ) → y ≢ x → d.xmm y ≡ c.xmm y
-  pub bytes : (j : ℕ) → j < count → get_or (d.xmm x) j 0 % 256 ≡ z j % 256
+  pub bytes : (j : ℕ) → j < width → get_or (d.xmm x) j 0 % 256 ≡ z j % 256
+  -- if they are bytes, the register holds bytes alone
+  pub small : ((j : ℕ) → j < width → z j < 256) → AreBytes (d.xmm x)
 
 -- what a store of bytes leaves
-pub record Stored (count x p : ℕ) (c d : Core) : Type 0 where
-  pub memory : IsFill count c.memory p (λ j. get_or (c.xmm x) j 0) d.memory
+pub record Stored (width x p : ℕ) (c d : Core) : Type 0 where
+  pub memory : IsFill width c.memory p (λ j. get_or (c.xmm x) j 0) d.memory
   pub gpr : (r : ℕ) → r ≢ 0 → d.gpr r ≡ c.gpr r
+  pub xmm : d.xmm ≡ c.xmm
 
-pub at_base : (c : Core) (r p : ℕ) → c.gpr r ≡ p → p + 16 < 2 ^ 63 → address c (here r) ≡ p
+at_base : (c : Core) (r p : ℕ) → c.gpr r ≡ p → p + 16 < 2 ^ 63 → address c (here r) ≡ p
 at_base c r p e low = omega (arith, e, low)
 
-pub byte_there : (c : Core) (p z : ℕ) → p + 16 < 2 ^ 63 → c.memory p ≡ Some z → value 1 c.memory p ≡ Some z
-byte_there c p z low e =
-    ap (λ o. bind (bind o (λ b. bind (read 0 c.memory (p + 1)) (λ bs. Some (b ∷ bs)))) (λ bs. Some (number bs))) (ap c.memory (let q : p % 2 ^ 64 ≡ p = omega (arith, low) in q) ∙ e)
-    ∙ ap Some (let q : z + 256 * 0 ≡ z = omega arith in q)
+move_fits : (op : MoveOp) → move_size op ≤ 16
+move_fits move.Movdqa = omega arith
+move_fits move.Movdqu = omega arith
+move_fits move.Movq = omega arith
+move_fits move.Movd = omega arith
+
+-- the operation asks for no alignment
+abbrev IsFree : MoveOp → Type 0
+IsFree op = (a : ℕ) (o : Result Core Trap) → aligned op a o ≡ o
+
+byte_below : (n v j : ℕ) → j < n → byte_of n v j ≡ v / 256 ^ j % 256
+byte_below n v j l = let t : nat_lt j n ≡ true = grind (arith, nat_tests) in ap (λ b. if b then v / 256 ^ j % 256 else 0) t
+
+byte_small : (n v j : ℕ) → byte_of n v j < 256
+byte_small n v j = go (nat_lt j n)
+  where
+    go : (t : Bool) → (if t then v / 256 ^ j % 256 else 0) < 256
+    go true = omega arith
+    go false = lit< tt
 
 module _ (Q : Core → Ins → Type 0) (c : Core) (keeps : (u : Core) (i : Ins) → u.memory ≡ c.memory → ((r : ℕ) → r ≢ 0 → u.gpr r ≡ c.gpr r) → Q u i) where
-  load_one : (x r p : ℕ) (z : ℕ → ℕ) → c.gpr r ≡ p → p + 16 < 2 ^ 63 → ((j : ℕ) → j < 1 → c.memory (p + j) ≡ Some (z j)) → (d : Core) × Line Q (load_code 1 x r) c d × Loaded 1 x z c d
-  load_one x r p z e low h =
-      let v = z 0 in
-      let first : c.memory p ≡ Some v = ap c.memory (let q : p ≡ p + 0 = omega arith in q) ∙ h 0 (omega arith) in
+  abbrev Loads : ℕ → List Ins → ℕ → (ℕ → ℕ) → Type 0
+  Loads width code x z = (d : Core) × Line Q code c d × Loaded width x z c d
+
+  -- by way of RAX
+  load_narrow : (n x r p : ℕ) (z : ℕ → ℕ) (i : Ins) → ((u : Core) → work i u ≡ load n u (address u (here r)) (λ v. with_gpr u 0 v)) → n ≤ 4 → c.gpr r ≡ p → p + 16 < 2 ^ 63 → ((j : ℕ) → j < n → c.memory (p + j) ≡ Some (z j)) → ((j : ℕ) → j < n → number (front n z) / 256 ^ j % 256 ≡ z j % 256)
+      → Loads n (i ∷ FromGpr false x 0 ∷ []) x z
+  load_narrow n x r p z i is_load few e low h digits =
+      let v = number (front n z) in
       let c1 : Core = with_gpr c 0 v in
-      let d : Core = with_xmm c1 x (from_bytes (byte_of 4 v)) in
-      let loads : work (Load8 0 (here r)) c ≡ Ok c1 =
-      ap (λ a. access 1 c.memory a (value 1 c.memory a) (λ v. with_gpr c 0 v)) (at_base c r p e low)
-      ∙ ap (λ o. access 1 c.memory p o (λ v. with_gpr c 0 v)) (byte_there c p v low first) in
-      let other : (y : ℕ) → y ≢ 0 → c1.gpr y ≡ c.gpr y = λ y ne. change_other c.gpr 0 v y ne in (
+      let new : List ℕ = from_bytes (byte_of 4 v) in
+      let d : Core = with_xmm c1 x new in
+      let loads : work i c ≡ Ok c1 =
+      is_load c ∙ ap (λ a. load n c a (λ v. with_gpr c 0 v)) (at_base c r p e low)
+      ∙ ap (λ o. access n c.memory p (bind o (λ bs. Some (number bs))) (λ v. with_gpr c 0 v)) (read_front n c.memory p z (omega (arith, low, few)) h) in
+      let other : (y : ℕ) → y ≢ 0 → c1.gpr y ≡ c.gpr y = λ y ne. change_other c.gpr 0 v y ne in
+      let is_new : d.xmm x ≡ new = change_same c.xmm x new in (
         d,
         (keeps c _ refl (λ y ne. refl), (c1, loads, (keeps c1 _ refl other, (d, refl, refl)))),
         record {
           memory = refl;
           gpr = other;
-          others = λ y ne. change_other c.xmm x (from_bytes (byte_of 4 v)) y ne;
+          others = λ y ne. change_other c.xmm x new y ne;
           bytes = λ j l.
-              ap (λ b. get_or b j 0 % 256) (change_same c.xmm x (from_bytes (byte_of 4 v)))
-              ∙ ap (λ i. get_or (from_bytes (byte_of 4 v)) i 0 % 256) (let q : j ≡ 0 = omega (arith, l) in q)
-              ∙ ap (λ b. b % 256) (from_byte (byte_of 4 v) 0 (lit< tt)) ∙ (let q : v / 256 ^ 0 % 256 % 256 ≡ v % 256 = omega arith in q)
-              ∙ ap (λ i. z i % 256) (let q : 0 ≡ j = omega (arith, l) in q);
+              ap (λ b. get_or b j 0 % 256) is_new ∙ ap (λ b. b % 256) (from_byte (byte_of 4 v) j (omega (arith, l, few)) ∙ byte_below 4 v j (omega (arith, l, few)) ∙ digits j l)
+              ∙ (let q : z j % 256 % 256 ≡ z j % 256 = omega arith in q);
+          small = λ s. subst AreBytes (sym is_new) (AreBytes-from_bytes (byte_of 4 v) (λ k l. byte_small 4 v k));
         },
       )
 
-  load_whole : (x r p : ℕ) (z : ℕ → ℕ) → c.gpr r ≡ p → p + 16 < 2 ^ 63 → ((j : ℕ) → j < 16 → c.memory (p + j) ≡ Some (z j)) → (d : Core) × Line Q (load_code 16 x r) c d × Loaded 16 x z c d
-  load_whole x r p z e low h =
-      let a = read_lanes 16 c.memory p z low h in
-      let v : List ℕ = from_bytes (λ j. get_or a.0 j 0) in
-      let d : Core = with_xmm c x v in
-      let loads : work (VecLoad move.Movdqu x (here r)) c ≡ Ok d =
-      ap (λ p. access 16 c.memory p (read 16 c.memory p) (λ bs. with_xmm c x (from_bytes (λ j. get_or bs j 0)))) (at_base c r p e low)
-      ∙ ap (λ o. access 16 c.memory p o (λ bs. with_xmm c x (from_bytes (λ j. get_or bs j 0)))) a.1 in (
+  -- at once
+  load_vector : (op : MoveOp) (x r p : ℕ) (z : ℕ → ℕ) → IsFree op → c.gpr r ≡ p → p + 16 < 2 ^ 63 → ((j : ℕ) → j < move_size op → c.memory (p + j) ≡ Some (z j)) → Loads (move_size op) (VecLoad op x (here r) ∷ []) x z
+  load_vector op x r p z free e low h =
+      let n = move_size op in
+      let few = move_fits op in
+      let new : List ℕ = from_bytes (λ j. get_or (front n z) j 0) in
+      let d : Core = with_xmm c x new in
+      let loads : work (VecLoad op x (here r)) c ≡ Ok d =
+      free _ _
+      ∙ ap (λ a. access n c.memory a (read n c.memory a) (λ bs. with_xmm c x (from_bytes (λ j. get_or bs j 0)))) (at_base c r p e low)
+      ∙ ap (λ o. access n c.memory p o (λ bs. with_xmm c x (from_bytes (λ j. get_or bs j 0)))) (read_front n c.memory p z (omega (arith, low, few)) h) in
+      let is_new : d.xmm x ≡ new = change_same c.xmm x new in (
         d,
         (keeps c _ refl (λ y ne. refl), (d, loads, refl)),
         record {
           memory = refl;
           gpr = λ y ne. refl;
-          others = λ y ne. change_other c.xmm x v y ne;
-          bytes = λ j l. ap (λ b. get_or b j 0 % 256) (change_same c.xmm x v) ∙ ap (λ b. b % 256) (from_byte (λ j. get_or a.0 j 0) j l ∙ a.2 j l);
+          others = λ y ne. change_other c.xmm x new y ne;
+          bytes = λ j l. ap (λ b. get_or b j 0 % 256) is_new ∙ ap (λ b. b % 256) (from_byte (λ j. get_or (front n z) j 0) j (omega (arith, l, few)) ∙ front_at n z j l);
+          small = λ s. subst AreBytes (sym is_new) (AreBytes-from_bytes (λ j. get_or (front n z) j 0) (λ k l. front_small n z s k));
         },
       )
 
-  -- bytes are loaded
-  pub load_line : (count x r p : ℕ) (z : ℕ → ℕ) → IsCount count → c.gpr r ≡ p → p + 16 < 2 ^ 63 → ((j : ℕ) → j < count → c.memory (p + j) ≡ Some (z j)) → (d : Core) × Line Q (load_code count x r) c d × Loaded count x z c d
-  load_line count x r p z (inl one) e low h = subst (λ n. (d : Core) × Line Q (load_code n x r) c d × Loaded n x z c d) (sym one) (load_one x r p z e low (λ j l. h j (omega (arith, l, one))))
-  load_line count x r p z (inr all) e low h = subst (λ n. (d : Core) × Line Q (load_code n x r) c d × Loaded n x z c d) (sym all) (load_whole x r p z e low (λ j l. h j (omega (arith, l, all))))
+  -- bytes are loaded; two of them make a number, whose low byte is the first where that is a byte
+  pub load_line : (width x r p : ℕ) (z : ℕ → ℕ) → IsWidth width → c.gpr r ≡ p → p + 16 < 2 ^ 63 → ((j : ℕ) → j < width → c.memory (p + j) ≡ Some (z j)) → (width ≡ 2 → z 0 < 256) → (d : Core) × Line Q (load_code width x r) c d × Loaded width x z c d
+  load_line width x r p z is e low =
+      each_width (λ n. ((j : ℕ) → j < n → c.memory (p + j) ≡ Some (z j)) → (n ≡ 2 → z 0 < 256) → Loads n (load_code n x r) x z)
+      (λ h s. load_narrow 1 x r p z (Load8 0 (here r)) (λ u. refl) (omega arith) e low h (one_byte z))
+      (λ h s. load_narrow 2 x r p z (Load16 0 (here r)) (λ u. refl) (omega arith) e low h (two_bytes z (s refl)))
+      (λ h s. load_vector move.Movd x r p z (λ a o. refl) e low h)
+      (λ h s. load_vector move.Movq x r p z (λ a o. refl) e low h)
+      (λ h s. load_vector move.Movdqu x r p z (λ a o. refl) e low h)
+      width is
 
-  store_one : (x r p : ℕ) → r ≢ 0 → c.gpr r ≡ p → p + 16 < 2 ^ 63 → ((j : ℕ) → j < 1 → IsMapped c.memory (p + j)) → ((j : ℕ) → get_or (c.xmm x) j 0 < 256) → (d : Core) × Line Q (store_code 1 x r) c d × Stored 1 x p c d
-  store_one x r p ne e low h small =
+  abbrev Stores : ℕ → List Ins → ℕ → ℕ → Type 0
+  Stores width code x p = (d : Core) × Line Q code c d × Stored width x p c d
+
+  -- by way of RAX
+  store_narrow : (n x r p : ℕ) (i : Ins) → ((u : Core) → work i u ≡ save n u (address u (here r)) (byte_of n (u.gpr 0)) (λ mem. with_memory u mem)) → n ≤ 4 → r ≢ 0 → c.gpr r ≡ p → p + 16 < 2 ^ 63 → ((j : ℕ) → j < n → IsMapped c.memory (p + j)) → ((j : ℕ) → j < n → byte_of n (lane 4 0 (c.xmm x)) j ≡ get_or (c.xmm x) j 0)
+      → Stores n (ToGpr false 0 x ∷ i ∷ []) x p
+  store_narrow n x r p i is_store few ne e low h digits =
       let v = lane 4 0 (c.xmm x) in
       let c1 : Core = with_gpr c 0 v in
-      let f = byte_of 1 v in
-      let there = all_there 1 c.memory p (omega (arith, low)) h in
-      let d : Core = with_memory c1 (fill 1 c.memory p f) in
+      let f = byte_of n v in
+      let there = all_there n c.memory p (omega (arith, low, few)) h in
+      let d : Core = with_memory c1 (fill n c.memory p f) in
       let other : (y : ℕ) → y ≢ 0 → c1.gpr y ≡ c.gpr y = λ y ne. change_other c.gpr 0 v y ne in
-      let stores : work (Store8 0 (here r)) c1 ≡ Ok d =
-      ap (λ a. save 1 c1 a f (λ mem. with_memory c1 mem)) (at_base c1 r p (other r ne ∙ e) low)
-      ∙ ap (λ o. access 1 c.memory p o (λ mem. with_memory c1 mem)) (store_there 1 c.memory p f there) in
-      let byte : v / 256 ^ 0 % 256 ≡ get_or (c.xmm x) 0 0 = omega (arith, low_byte (c.xmm x), lane_one 0 (c.xmm x), small 0) in
-      let bytes : (j : ℕ) → j < 1 → f j ≡ get_or (c.xmm x) j 0 = λ j l. ap f (let q : j ≡ 0 = omega (arith, l) in q) ∙ byte ∙ ap (λ i. get_or (c.xmm x) i 0) (let q : 0 ≡ j = omega (arith, l) in q) in
-      (d, (keeps c _ refl (λ y n. refl), (c1, refl, (keeps c1 _ refl other, (d, stores, refl)))), record { memory = fill_is 1 c.memory p f (λ j. get_or (c.xmm x) j 0) (omega (arith, low)) bytes; gpr = other })
+      let stores : work i c1 ≡ Ok d =
+      is_store c1 ∙ ap (λ a. save n c1 a f (λ mem. with_memory c1 mem)) (at_base c1 r p (other r ne ∙ e) low)
+      ∙ ap (λ o. access n c.memory p o (λ mem. with_memory c1 mem)) (store_there n c.memory p f there) in
+      (d, (keeps c _ refl (λ y n. refl), (c1, refl, (keeps c1 _ refl other, (d, stores, refl)))), record { memory = fill_is n c.memory p f (λ j. get_or (c.xmm x) j 0) (omega (arith, low, few)) digits; gpr = other; xmm = refl })
 
-  store_whole : (x r p : ℕ) → c.gpr r ≡ p → p + 16 < 2 ^ 63 → ((j : ℕ) → j < 16 → IsMapped c.memory (p + j)) → (d : Core) × Line Q (store_code 16 x r) c d × Stored 16 x p c d
-  store_whole x r p e low h =
+  -- at once
+  store_vector : (op : MoveOp) (x r p : ℕ) → IsFree op → c.gpr r ≡ p → p + 16 < 2 ^ 63 → ((j : ℕ) → j < move_size op → IsMapped c.memory (p + j)) → Stores (move_size op) (VecStore op x (here r) ∷ []) x p
+  store_vector op x r p free e low h =
+      let n = move_size op in
+      let few = move_fits op in
       let f : ℕ → ℕ = λ j. get_or (c.xmm x) j 0 in
-      let there = all_there 16 c.memory p low h in
-      let d : Core = with_memory c (fill 16 c.memory p f) in
-      let stores : work (VecStore move.Movdqu x (here r)) c ≡ Ok d =
-      ap (λ p. save 16 c p f (λ mem. with_memory c mem)) (at_base c r p e low)
-      ∙ ap (λ o. access 16 c.memory p o (λ mem. with_memory c mem)) (store_there 16 c.memory p f there) in
-      (d, (keeps c _ refl (λ y n. refl), (d, stores, refl)), record { memory = fill_is 16 c.memory p f f low (λ j l. refl); gpr = λ y n. refl })
+      let there = all_there n c.memory p (omega (arith, low, few)) h in
+      let d : Core = with_memory c (fill n c.memory p f) in
+      let stores : work (VecStore op x (here r)) c ≡ Ok d =
+      free _ _
+      ∙ ap (λ a. save n c a f (λ mem. with_memory c mem)) (at_base c r p e low)
+      ∙ ap (λ o. access n c.memory p o (λ mem. with_memory c mem)) (store_there n c.memory p f there) in
+      (d, (keeps c _ refl (λ y n. refl), (d, stores, refl)), record { memory = fill_is n c.memory p f f (omega (arith, low, few)) (λ j l. refl); gpr = λ y n. refl; xmm = refl })
 
   -- bytes are stored
-  pub store_line : (count x r p : ℕ) → IsCount count → r ≢ 0 → c.gpr r ≡ p → p + 16 < 2 ^ 63 → ((j : ℕ) → j < count → IsMapped c.memory (p + j)) → ((j : ℕ) → get_or (c.xmm x) j 0 < 256) → (d : Core) × Line Q (store_code count x r) c d × Stored count x p c d
-  store_line count x r p (inl one) ne e low h small = subst (λ n. (d : Core) × Line Q (store_code n x r) c d × Stored n x p c d) (sym one) (store_one x r p ne e low (λ j l. h j (omega (arith, l, one))) small)
-  store_line count x r p (inr all) ne e low h small = subst (λ n. (d : Core) × Line Q (store_code n x r) c d × Stored n x p c d) (sym all) (store_whole x r p e low (λ j l. h j (omega (arith, l, all))))
+  pub store_line : (width x r p : ℕ) → IsWidth width → r ≢ 0 → c.gpr r ≡ p → p + 16 < 2 ^ 63 → ((j : ℕ) → j < width → IsMapped c.memory (p + j)) → ((j : ℕ) → get_or (c.xmm x) j 0 < 256) → (d : Core) × Line Q (store_code width x r) c d × Stored width x p c d
+  store_line width x r p is ne e low h small =
+      each_width (λ n. ((j : ℕ) → j < n → IsMapped c.memory (p + j)) → Stores n (store_code n x r) x p)
+      (λ h. store_narrow 1 x r p (Store8 0 (here r)) (λ u. refl) (omega arith) ne e low h (low_byte (c.xmm x) small))
+      (λ h. store_narrow 2 x r p (Store16 0 (here r)) (λ u. refl) (omega arith) ne e low h (low_bytes (c.xmm x) small))
+      (λ h. store_vector move.Movd x r p (λ a o. refl) e low h)
+      (λ h. store_vector move.Movq x r p (λ a o. refl) e low h)
+      (λ h. store_vector move.Movdqu x r p (λ a o. refl) e low h)
+      width is h

@@ -1,18 +1,19 @@
 -- Instructions of lists are allowed, and have few bytes.
-use Rattle.std.proofs.Common.{◌≡◌, ℕ, zero, suc, ◌+◌, ◌*◌, ◌%◌, ◌^◌, ◌<◌, ◌≤◌, ◌==◌, Bool, true, false, if◌then◌else◌, ℤ, pos, negsuc, List, [], ◌∷◌, ◌++◌, length, All, IsTrue, refl, sym, subst, inl, inr, arith, rules, length-append}
+use Rattle.std.proofs.Common.{◌≡◌, ℕ, zero, suc, ◌+◌, ◌*◌, ◌%◌, ◌^◌, ◌<◌, ◌≤◌, ◌==◌, Bool, true, false, if◌then◌else◌, ℤ, pos, negsuc, List, [], ◌∷◌, ◌++◌, length, All, IsTrue, refl, arith, rules, length-append}
 use Rattle.std.specs.Int.{w32}
 use Rattle.std.specs.Int.RustNames.{FitsSigned}
 use Rattle.x86_ins.specs.declared.ins.Addr.{Addr}
 use Rattle.x86_ins.specs.declared.ins.VecOp.{VecOp}
 use Rattle.x86_ins.specs.declared.ins.AluOp.{AluOp}
 use Rattle.x86_ins.specs.declared.ins.MoveOp.{MoveOp}
-use Rattle.x86_ins.specs.declared.ins.MoveOp.TheVariants.{Movdqu}
+use Rattle.x86_ins.specs.declared.ins.MoveOp.TheVariants.{Movdqu, Movq, Movd}
 use Rattle.x86_ins.specs.declared.ins.Ins.{Ins}
-use Rattle.x86_ins.specs.declared.ins.Ins.TheVariants.{Vec, VecLoad, VecStore, FromGpr, ToGpr, Load, Store, Load8, Store8, MovImm, AluImm, Test}
+use Rattle.x86_ins.specs.declared.ins.Ins.TheVariants.{Vec, VecLoad, VecStore, FromGpr, ToGpr, Load, Store, Load8, Load16, Store8, Store16, MovImm, AluImm, Test}
 use Rattle.x86_ins.specs.Spelling.{IsAllowed, has_spelling, spelling, rex_bits, rex, m_reg, m_mem, sib, dword, byte, is_small, reg_form, mem_form, plus_form, bare_rex, top, vec_byte, load_prefix, load_byte, store_prefix, store_byte, alu_digit}
 use Rattle.x86_ins.specs.Way.{Each}
 use Rattle.x86_flow.specs.Flow.{spell_all, size}
-use Rattle.x86_flow.specs.Moves.{here, away, IsCount, load_code, store_code, stores_code, loads_code}
+use Rattle.x86_flow.specs.Moves.{here, away, IsWidth, load_code, store_code, stores_code, loads_code}
+use Rattle.x86_flow.proofs.Moves.{each_width}
 
 pub fits_up : (n : ℕ) → n < 2 ^ 31 → FitsSigned w32 (pos n)
 fits_up n h = search (rules, arith)
@@ -99,6 +100,14 @@ fine_store_8 s at h g e =
     let b : length front ≤ 1 = if_short (bare_rex s at.base) (0x40 ∷ []) [] 1 (omega arith) (omega arith) in
     record { allowed = ((h, (g, e)), refl); short = omega (arith, b, length-append front (mem_form [] false (0x88 ∷ []) s at), form_short [] (0x88 ∷ []) false s at (omega arith) (omega arith)) }
 
+pub fine_load_16 : (d : ℕ) (at : Addr) → d < 16 → at.base < 16 → FitsSigned w32 at.disp → IsFine (Load16 d at)
+unfolding spelling
+fine_load_16 d at h g e = record { allowed = ((h, (g, e)), refl); short = omega (arith, form_short [] (0x0f ∷ 0xb7 ∷ []) false d at (omega arith) (omega arith)) }
+
+pub fine_store_16 : (s : ℕ) (at : Addr) → s < 16 → at.base < 16 → FitsSigned w32 at.disp → IsFine (Store16 s at)
+unfolding spelling
+fine_store_16 s at h g e = record { allowed = ((h, (g, e)), refl); short = omega (arith, form_short (0x66 ∷ []) (0x89 ∷ []) false s at (omega arith) (omega arith)) }
+
 pub fine_alu_imm : (op : AluOp) (d : ℕ) (v : ℤ) → d < 16 → FitsSigned w32 v → IsFine (AluImm op d v)
 unfolding spelling
 fine_alu_imm op d v h g = record {
@@ -139,25 +148,43 @@ pub size_within : (is : List Ins) → Each IsFine is → size is ≤ 11 * length
 size_within [] h = omega arith
 size_within (i ∷ is) h = omega (arith, h.0.short, size_within is h.1, length-append (spelling i) (spell_all is))
 
-one_load : (x r : ℕ) → x < 16 → r < 16 → Each IsFine (load_code 1 x r)
-one_load x r g e = (fine_load_8 0 (here r) (omega arith) e (fits_up 0 (omega arith)), (fine_from_gpr false x 0 g (omega arith), tt))
+pub fine_load_code : (width x r : ℕ) → IsWidth width → x < 16 → r < 16 → Each IsFine (load_code width x r)
+fine_load_code width x r is g e =
+    let from_rax = fine_from_gpr false x 0 g (omega arith) in
+    let zero_far = fits_up 0 (omega arith) in
+    each_width (λ n. Each IsFine (load_code n x r))
+    (fine_load_8 0 (here r) (omega arith) e zero_far, (from_rax, tt))
+    (fine_load_16 0 (here r) (omega arith) e zero_far, (from_rax, tt))
+    (fine_vec_load Movd x (here r) g e zero_far, tt)
+    (fine_vec_load Movq x (here r) g e zero_far, tt)
+    (fine_vec_load Movdqu x (here r) g e zero_far, tt)
+    width is
 
-whole_load : (x r : ℕ) → x < 16 → r < 16 → Each IsFine (load_code 16 x r)
-whole_load x r g e = (fine_vec_load Movdqu x (here r) g e (fits_up 0 (omega arith)), tt)
+pub fine_store_code : (width x r : ℕ) → IsWidth width → x < 16 → r < 16 → Each IsFine (store_code width x r)
+fine_store_code width x r is g e =
+    let to_rax = fine_to_gpr false 0 x (omega arith) g in
+    let zero_far = fits_up 0 (omega arith) in
+    each_width (λ n. Each IsFine (store_code n x r))
+    (to_rax, (fine_store_8 0 (here r) (omega arith) e zero_far, tt))
+    (to_rax, (fine_store_16 0 (here r) (omega arith) e zero_far, tt))
+    (fine_vec_store Movd x (here r) g e zero_far, tt)
+    (fine_vec_store Movq x (here r) g e zero_far, tt)
+    (fine_vec_store Movdqu x (here r) g e zero_far, tt)
+    width is
 
-pub fine_load_code : (count x r : ℕ) → IsCount count → x < 16 → r < 16 → Each IsFine (load_code count x r)
-fine_load_code count x r (inl q) g e = subst (λ n. Each IsFine (load_code n x r)) (sym q) (one_load x r g e)
-fine_load_code count x r (inr q) g e = subst (λ n. Each IsFine (load_code n x r)) (sym q) (whole_load x r g e)
+pub load_short : (width x r : ℕ) → length (load_code width x r) ≤ 2
+load_short width x r =
+    if_short (width == 1) _ _ 2 (omega arith)
+    (if_short (width == 2) _ _ 2 (omega arith)
+    (if_short (width == 4) _ _ 2 (omega arith)
+    (if_short (width == 8) _ _ 2 (omega arith) (omega arith))))
 
-one_store : (x r : ℕ) → x < 16 → r < 16 → Each IsFine (store_code 1 x r)
-one_store x r g e = (fine_to_gpr false 0 x (omega arith) g, (fine_store_8 0 (here r) (omega arith) e (fits_up 0 (omega arith)), tt))
-
-whole_store : (x r : ℕ) → x < 16 → r < 16 → Each IsFine (store_code 16 x r)
-whole_store x r g e = (fine_vec_store Movdqu x (here r) g e (fits_up 0 (omega arith)), tt)
-
-pub fine_store_code : (count x r : ℕ) → IsCount count → x < 16 → r < 16 → Each IsFine (store_code count x r)
-fine_store_code count x r (inl q) g e = subst (λ n. Each IsFine (store_code n x r)) (sym q) (one_store x r g e)
-fine_store_code count x r (inr q) g e = subst (λ n. Each IsFine (store_code n x r)) (sym q) (whole_store x r g e)
+pub store_short : (width x r : ℕ) → length (store_code width x r) ≤ 2
+store_short width x r =
+    if_short (width == 1) _ _ 2 (omega arith)
+    (if_short (width == 2) _ _ 2 (omega arith)
+    (if_short (width == 4) _ _ 2 (omega arith)
+    (if_short (width == 8) _ _ 2 (omega arith) (omega arith))))
 
 pub fine_stores : (r first : ℕ) (reg : ℕ → ℕ) (n : ℕ) → r < 16 → first + 8 * n < 2 ^ 31 → ((j : ℕ) → j < n → reg j < 16) → Each IsFine (stores_code r first reg n)
 fine_stores r first reg zero h w g = tt

@@ -1,25 +1,35 @@
 -- So many adjacent bytes between memory and a vector register.
 use Rattle.std.specs.Prelude.{◌≡◌, ℕ, zero, suc, ◌+◌, ◌*◌, ◌⊎◌, ◌==◌, if◌then◌else◌, pos, false, List, [], ◌∷◌, ◌++◌}
 use Rattle.x86_ins.specs.declared.ins.Addr.{Addr}
-use Rattle.x86_ins.specs.declared.ins.MoveOp.TheVariants.{Movdqu}
+use Rattle.x86_ins.specs.declared.ins.MoveOp.TheVariants.{Movdqu, Movq, Movd}
 use Rattle.x86_ins.specs.declared.ins.Ins.{Ins}
-use Rattle.x86_ins.specs.declared.ins.Ins.TheVariants.{VecLoad, VecStore, FromGpr, ToGpr, Load, Store, Load8, Store8}
+use Rattle.x86_ins.specs.declared.ins.Ins.TheVariants.{VecLoad, VecStore, FromGpr, ToGpr, Load, Store, Load8, Load16, Store8, Store16}
 
 -- the address that a register holds
 abbrev pub here : ℕ → Addr
 here r = record { base = r; disp = pos 0 }
 
--- 1 byte goes through RAX, and 16 go at once
-abbrev pub IsCount : ℕ → Type 0
-IsCount count = (count ≡ 1) ⊎ (count ≡ 16)
+-- the bytes that a move can take
+abbrev pub IsWidth : ℕ → Type 0
+IsWidth width = (width ≡ 1) ⊎ ((width ≡ 2) ⊎ ((width ≡ 4) ⊎ ((width ≡ 8) ⊎ (width ≡ 16))))
 
--- bytes from the address in general register r on become the low bytes of vector register x
+-- so many bytes from the address in general register r on become the low bytes of vector register x, and the rest of x is cleared; 1 and 2 bytes go through RAX
 abbrev pub load_code : ℕ → ℕ → ℕ → List Ins
-load_code count x r = if count == 1 then Load8 0 (here r) ∷ FromGpr false x 0 ∷ [] else VecLoad Movdqu x (here r) ∷ []
+load_code width x r =
+    if width == 1 then Load8 0 (here r) ∷ FromGpr false x 0 ∷ []
+    else if width == 2 then Load16 0 (here r) ∷ FromGpr false x 0 ∷ []
+    else if width == 4 then VecLoad Movd x (here r) ∷ []
+    else if width == 8 then VecLoad Movq x (here r) ∷ []
+    else VecLoad Movdqu x (here r) ∷ []
 
 -- and the low bytes of x are stored from that address on
 abbrev pub store_code : ℕ → ℕ → ℕ → List Ins
-store_code count x r = if count == 1 then ToGpr false 0 x ∷ Store8 0 (here r) ∷ [] else VecStore Movdqu x (here r) ∷ []
+store_code width x r =
+    if width == 1 then ToGpr false 0 x ∷ Store8 0 (here r) ∷ []
+    else if width == 2 then ToGpr false 0 x ∷ Store16 0 (here r) ∷ []
+    else if width == 4 then VecStore Movd x (here r) ∷ []
+    else if width == 8 then VecStore Movq x (here r) ∷ []
+    else VecStore Movdqu x (here r) ∷ []
 
 -- ---- so many words
 

@@ -1,12 +1,13 @@
 //! Instructions that move bytes and words between memory and registers.
 
-ghost use Rattle.std.specs.Prelude.{◌≡◌, ◌<◌, ◌+◌, ◌++◌, ◌^◌, OnOk, pos};
-ghost use Rattle.x86_flow.specs.Moves.{IsCount, away, load_code, store_code};
+ghost use Rattle.std.specs.Prelude.{◌≡◌, ◌<◌, ◌+◌, ◌++◌, ◌^◌, OnOk, pos, false};
+ghost use Rattle.x86_ins.specs.declared.ins.Ins.TheVariants.{FromGpr, ToGpr};
+ghost use Rattle.x86_flow.specs.Moves.{IsWidth, away, load_code, store_code};
 
 use std::alloc::AllocError;
 use x86_ins::{Addr, Gpr, Ins, InsList, MoveOp, Xmm};
 
-/// The register through which single bytes go: RAX.
+/// The register through which one or two bytes go: RAX.
 pub const SCRATCH: Gpr = Gpr { number: 0 };
 
 /// The address so many bytes behind the one in a register.
@@ -28,44 +29,90 @@ fn far(by: usize) -> i32
     by as i32
 }
 
-/// Adds what loads `count` bytes, 1 or 16, from the address in `base` to the low end of `dst`.
-pub fn push_load(list: &mut InsList, count: usize, dst: Xmm, base: Gpr) -> Result<(), AllocError>
-    requires { IsCount count }
-    ensures { OnOk result (list.new ≡ list.old ++ load_code count dst base) }
+/// Moves four bytes from RAX to the low end of a vector register, and clears the rest of it.
+fn from_scratch(dst: Xmm) -> Ins
+    ensures { result ≡ FromGpr false dst 0 }
 {
-    let at = away(base, 0);
-    if count == 1 {
-        list.push(Ins::Load8 { dst: SCRATCH, at })?;
-        return list.push(Ins::FromGpr {
-            wide: false,
-            dst,
-            src: SCRATCH,
-        });
-    }
-    list.push(Ins::VecLoad {
-        op: MoveOp::Movdqu,
+    Ins::FromGpr {
+        wide: false,
         dst,
-        at,
-    })
+        src: SCRATCH,
+    }
 }
 
-/// Adds what stores the low `count` bytes, 1 or 16, of `src` from the address in `base` on.
-pub fn push_store(list: &mut InsList, count: usize, src: Xmm, base: Gpr) -> Result<(), AllocError>
-    requires { IsCount count }
-    ensures { OnOk result (list.new ≡ list.old ++ store_code count src base) }
+/// Moves the low four bytes of a vector register to RAX.
+fn to_scratch(src: Xmm) -> Ins
+    ensures { result ≡ ToGpr false 0 src }
+{
+    Ins::ToGpr {
+        wide: false,
+        dst: SCRATCH,
+        src,
+    }
+}
+
+/// Adds what loads `width` bytes, 1, 2, 4, 8 or 16, from the address in `base` to the low end of `dst`, whose other bytes become 0.
+pub fn push_load(list: &mut InsList, width: usize, dst: Xmm, base: Gpr) -> Result<(), AllocError>
+    requires { IsWidth width }
+    ensures { OnOk result (list.new ≡ list.old ++ load_code width dst base) }
 {
     let at = away(base, 0);
-    if count == 1 {
-        list.push(Ins::ToGpr {
-            wide: false,
-            dst: SCRATCH,
-            src,
-        })?;
-        return list.push(Ins::Store8 { src: SCRATCH, at });
+    match width {
+        1 => {
+            list.push(Ins::Load8 { dst: SCRATCH, at })?;
+            list.push(from_scratch(dst))
+        }
+        2 => {
+            list.push(Ins::Load16 { dst: SCRATCH, at })?;
+            list.push(from_scratch(dst))
+        }
+        4 => list.push(Ins::VecLoad {
+            op: MoveOp::Movd,
+            dst,
+            at,
+        }),
+        8 => list.push(Ins::VecLoad {
+            op: MoveOp::Movq,
+            dst,
+            at,
+        }),
+        _ => list.push(Ins::VecLoad {
+            op: MoveOp::Movdqu,
+            dst,
+            at,
+        }),
     }
-    list.push(Ins::VecStore {
-        op: MoveOp::Movdqu,
-        src,
-        at,
-    })
+}
+
+/// Adds what stores the low `width` bytes, 1, 2, 4, 8 or 16, of `src` from the address in `base` on.
+pub fn push_store(list: &mut InsList, width: usize, src: Xmm, base: Gpr) -> Result<(), AllocError>
+    requires { IsWidth width }
+    ensures { OnOk result (list.new ≡ list.old ++ store_code width src base) }
+{
+    let at = away(base, 0);
+    match width {
+        1 => {
+            list.push(to_scratch(src))?;
+            list.push(Ins::Store8 { src: SCRATCH, at })
+        }
+        2 => {
+            list.push(to_scratch(src))?;
+            list.push(Ins::Store16 { src: SCRATCH, at })
+        }
+        4 => list.push(Ins::VecStore {
+            op: MoveOp::Movd,
+            src,
+            at,
+        }),
+        8 => list.push(Ins::VecStore {
+            op: MoveOp::Movq,
+            src,
+            at,
+        }),
+        _ => list.push(Ins::VecStore {
+            op: MoveOp::Movdqu,
+            src,
+            at,
+        }),
+    }
 }
