@@ -1,0 +1,7 @@
+mod Known
+pub mod Lanewise
+pub mod Ranges
+pub mod Runs
+pub mod Two
+pub mod Ways
+pub mod Formulas

@@ -1,0 +1,8 @@
+//! Lists of instructions on vector registers, and what they compute on each lane.
+#![tactic(auto)]
+
+mod line;
+mod size;
+
+pub use line::{Line, list};
+pub use size::is_of_size;
