@@ -1,0 +1,6 @@
+mod Equations
+mod Widenings
+mod Narrowings
+mod Clamps
+mod Products
+pub mod Meet

@@ -1,0 +1,3 @@
+mod Equations
+mod Products
+pub mod Meet

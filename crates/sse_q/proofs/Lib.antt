@@ -1,0 +1,3 @@
+mod Equations
+mod Words
+pub mod Meet

@@ -1,0 +1,3 @@
+mod Equations
+mod Division
+pub mod Meet

@@ -1,0 +1,7 @@
+//! Sequences of vector instructions that compute the word opcodes on all lanes of a register.
+#![tactic(auto)]
+
+mod lines;
+mod rules;
+
+pub use rules::{has_rule, rule};
