@@ -1,0 +1,4 @@
+pub mod Totals
+mod Moved
+mod Distances
+pub mod Meet
