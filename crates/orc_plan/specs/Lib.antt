@@ -1,0 +1,5 @@
+pub mod Core
+pub mod Need
+pub mod Places
+pub mod Placing
+pub mod Lowered

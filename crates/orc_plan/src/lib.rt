@@ -1,0 +1,27 @@
+//! Functions as steps over value numbers, how many values each step needs at once, and places for them.
+//!
+//! [`lower`] turns a function into a [`Core`]: one step per instruction, with numbered values in place of temps. [`need`] counts the values
+//! that a step needs at once and [`widest_need`] is the largest such count. [`place`] gives each value one of ten places, or refuses with
+//! [`Pressure`] where some step needs more. [`lanes`] and [`cost`] are figures of a function.
+//!
+//! `specs/` says what steps keep (`Core`), what they need (`Need`), when places are good (`Places`) and what the steps of a function are
+//! (`Lowered`).
+#![tactic(auto)]
+
+mod copying;
+mod counting;
+mod figures;
+mod items;
+mod lowering;
+mod placing;
+mod steps;
+mod variables;
+
+pub use counting::{need, widest_need};
+pub use figures::{cost, lanes};
+pub use lowering::lower;
+pub use placing::place;
+pub use steps::{Core, Item, Placed, Pressure, Step};
+
+#[cfg(test)]
+mod tests;
