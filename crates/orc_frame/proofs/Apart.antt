@@ -1,0 +1,69 @@
+-- The slots of a layout lie apart.
+use Rattle.std.proofs.Common.{Bool, ◌≡◌, ℕ, zero, suc, ◌+◌, ◌≤◌, ℤ, pos, List, [], ◌∷◌, ◌++◌, length, map, sym, subst, ap, ◌∙◌, arith}
+use Rattle.std.specs.Prelude.{◌≤ℤ◌, true}
+use Rattle.std.specs.List.{range_with_len}
+use lib.Dec.{le→leb}
+use Rattle.orc_program.specs.declared.program.Pattern.{Pattern}
+use Rattle.orc_program.specs.declared.program.VarKind.TheVariants as kind
+use Rattle.orc_program.specs.Program.{FunctionValue, places_of, count_of}
+use Rattle.orc_program.specs.Checks.{patterns_of}
+use Rattle.orc_program.specs.Kept.{is_function}
+use Rattle.orc_frame.specs.declared.frame.Layout.{Layout}
+use Rattle.orc_frame.specs.Layout.{pattern_slot, sum_slot, saved_slot, row_slot, acc_sizes_of, layout_of, displacements, with_size, slots_of, LieApart}
+use Rattle.orc_frame.proofs.Places.{limits, length-places_of, length-map}
+
+pub low : (a b : ℕ) → a ≤ b → pos a ≤ℤ pos b
+low a b h = record { le = le→leb a b h }
+
+range_apart : (s : ℕ → ℕ) (w : ℕ) → ((k : ℕ) → s k + w ≤ s (suc k)) → (rest : List (ℤ × ℕ)) (a n from : ℕ) → from ≤ s a → ((end : ℕ) → end ≤ s (a + n) → LieApart (pos end) rest) → LieApart (pos from) (with_size w (map (λ k. pos (s k)) (range_with_len a n)) ++ rest)
+range_apart s w grows rest a zero from l h = h from (subst (λ x. from ≤ s x) (let e : a ≡ a + 0 = omega arith in e) l)
+range_apart s w grows rest a (suc n) from l h =
+    (low from (s a) l, range_apart s w grows rest (a + 1) n (s a + w) (subst (λ x. s a + w ≤ s x) (let e : suc a ≡ a + 1 = omega arith in e) (grows a)) (λ end m. h end (subst (λ x. end ≤ s x) (let e : a + 1 + n ≡ a + suc n = omega arith in e) m)))
+
+pub length-acc_sizes_of : (f : FunctionValue) → length (acc_sizes_of f.vars) ≡ count_of kind.Accumulator f.vars
+length-acc_sizes_of f = length-map _ (places_of kind.Accumulator f.vars) ∙ length-places_of kind.Accumulator f.vars
+
+pub slots_apart : (f : FunctionValue) → is_function f ≡ true → LieApart (pos 0) (slots_of (layout_of f))
+unfolding layout_of
+slots_apart f is =
+    let few = limits f is in
+    let n = length (patterns_of f.vars f.insns) in
+    let m = length (acc_sizes_of f.vars) in
+    let m_few : m ≤ 4 = omega (arith, length-acc_sizes_of f, few.accs) in
+    let words : List (ℤ × ℕ) = (pos 976, 8) ∷ (pos 984, 8) ∷ [] in
+    let rows : List (ℤ × ℕ) = with_size 8 (displacements row_slot 12) ++ words in
+    let kept : List (ℤ × ℕ) = with_size 8 (displacements saved_slot 6) ++ rows in
+    let sums : List (ℤ × ℕ) = with_size 16 (displacements sum_slot m) ++ kept in
+    let last : (e : ℕ) → e ≤ 976 → LieApart (pos e) words = λ e j. (low e 976 j, (low 984 984 (omega arith), low 992 1024 (omega arith))) in
+    let from_rows : (d : ℕ) → d ≤ 880 → LieApart (pos d) rows = λ d i. range_apart row_slot 8 (λ k. omega arith) words 0 12 d (omega (arith, i)) (λ e j. last e (omega (arith, j))) in
+    let from_kept : (b : ℕ) → b ≤ 832 → LieApart (pos b) kept = λ b h. range_apart saved_slot 8 (λ k. omega arith) rows 0 6 b (omega (arith, h)) (λ d i. from_rows d (omega (arith, i))) in
+    let from_sums : (a : ℕ) → a ≤ 768 → LieApart (pos a) sums = λ a l. range_apart sum_slot 16 (λ k. omega arith) kept 0 m a (omega (arith, l)) (λ b h. from_kept b (omega (arith, h, m_few))) in
+    range_apart pattern_slot 16 (λ k. omega arith) sums 0 n 0 (omega arith) (λ a l. from_sums a (omega (arith, l, few.patterns)))
+
+pub lie_apart : (l : Layout) (f : FunctionValue) → is_function f ≡ true → l ≡ layout_of f → LieApart (pos 0) (slots_of l)
+lie_apart l f is e = subst (λ x. LieApart (pos 0) (slots_of x)) (sym e) (slots_apart f is)
+
+abbrev made : Bool → List Pattern → List ℕ → List ℕ → List ℤ → List ℤ → Layout
+made two_d patterns sizes params pattern_at sum_at = record {
+  two_d = two_d;
+  patterns = record { items = patterns };
+  acc_sizes = record { items = sizes };
+  params = record { items = params };
+  pattern_at = record { items = pattern_at };
+  sum_at = record { items = sum_at };
+  saved_at = displacements saved_slot 6;
+  row_at = displacements row_slot 12;
+  block_at = pos 976;
+  rows_at = pos 984;
+}
+
+-- a layout that was put together from its parts
+pub layout_is : (f : FunctionValue) (patterns : List Pattern) (sizes params : List ℕ) (n m : ℕ) (pattern_at sum_at : List ℤ) → patterns ≡ patterns_of f.vars f.insns → sizes ≡ acc_sizes_of f.vars → params ≡ places_of kind.Param f.vars
+    → n ≡ length patterns → m ≡ length sizes → pattern_at ≡ displacements pattern_slot n → sum_at ≡ displacements sum_slot m → made f.two_d patterns sizes params pattern_at sum_at ≡ layout_of f
+unfolding layout_of
+layout_is f patterns sizes params n m pattern_at sum_at p s q n_is m_is a b =
+    ap (λ x. made f.two_d x sizes params pattern_at sum_at) p
+    ∙ ap (λ x. made f.two_d (patterns_of f.vars f.insns) x params pattern_at sum_at) s
+    ∙ ap (λ x. made f.two_d (patterns_of f.vars f.insns) (acc_sizes_of f.vars) x pattern_at sum_at) q
+    ∙ ap (λ x. made f.two_d (patterns_of f.vars f.insns) (acc_sizes_of f.vars) (places_of kind.Param f.vars) x sum_at) (a ∙ ap (displacements pattern_slot) (n_is ∙ ap length p))
+    ∙ ap (λ x. made f.two_d (patterns_of f.vars f.insns) (acc_sizes_of f.vars) (places_of kind.Param f.vars) (displacements pattern_slot (length (patterns_of f.vars f.insns))) x) (b ∙ ap (displacements sum_slot) (m_is ∙ ap length s))

@@ -1,0 +1,14 @@
+pub mod Leaving
+pub mod Meant
+pub mod Places
+pub mod Apart
+pub mod Bytes
+pub mod Entering
+pub mod Fills
+pub mod Counted
+pub mod Facts
+pub mod Found
+pub mod Grown
+pub mod Reach
+pub mod Reduced
+pub mod Writes

@@ -1,0 +1,6 @@
+use Rattle.std.proofs.Common.{◌≡◌, ◌++◌}
+use Rattle.orc_frame.specs.Code.{joined, clear_code}
+use Rattle.orc_frame.proofs.lists.push_clears.Given as goal
+
+abbrev pub invariant-loop-number : goal.invariant-loop-number
+invariant-loop-number l = l.list ≡ l.initial.list ++ joined (clear_code l.layout) l.number
