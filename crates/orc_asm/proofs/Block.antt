@@ -1,98 +1,565 @@
--- Blocks of additions do so many elements at once adds emulation does them one by one.
-use Rattle.std.proofs.Common.{◌≡◌, ◌≢◌, ℕ, ◌+◌, ◌%◌, ◌/◌, ◌^◌, ◌<◌, ◌≤◌, List, [], ◌∷◌, ◌++◌, get_or, Some, is_some, refl, ap, ◌∙◌, arith, inl, inr}
-use Rattle.orc_bits.specs.Lanes.{lane}
-use Rattle.orc_bits.specs.Memory.{Memory}
-use Rattle.orc_bits.proofs.LaneLaws.{lane_one, byte_is}
-use Rattle.x86_ins.specs.declared.ins.VecOp.TheVariants.{Paddb}
+-- Blocks of actions do so many elements at once as emulation does them one by one.
+use Rattle.std.proofs.Common.{◌≡◌, ◌≢◌, ℕ, suc, ◌+◌, ◌*◌, ◌%◌, ◌^◌, ◌<◌, ◌≤◌, Bool, true, false, max, if◌then◌else◌, List, [], ◌∷◌, ◌++◌, get_or, Some, is_some, refl, sym, ap, ap₂, ◌∙◌, subst, arith, le_trans}
+use Rattle.std.proofs.Math.Nat.{le-max_left, le-max_right, mul-le-mul_left, mul-le-mul_right, mod-eq_of_lt, mod-mod}
+use Rattle.orc_bits.specs.Numbers.{cut}
+use Rattle.orc_bits.specs.Lanes.{lane, AreBytes}
+use Rattle.orc_bits.specs.Memory.{Memory, IsMapped}
+use Rattle.orc_bits.proofs.LaneLaws.{lane_of_digits}
+use Rattle.orc_bits.proofs.Memories.{or_else}
+use Rattle.orc_ops.specs.declared.opcode.Op.{Op}
+use Rattle.orc_ops.specs.Table.{row, wide, to, size_of_result, size_of_source}
+use Rattle.orc_ops.specs.Stems.{apply}
+use Rattle.orc_ops.specs.Formula.{formula, source_of}
 use Rattle.x86_ins.specs.declared.ins.Ins.{Ins}
-use Rattle.x86_ins.specs.declared.ins.Ins.TheVariants.{Vec}
-use Rattle.x86_ins.specs.Vectors.{result_of, shape}
-use Rattle.x86_ins.specs.Machine.{Core, with_xmm}
-use Rattle.x86_ins.proofs.Registers.{bytes_result}
-use Rattle.x86_flow.specs.Moves.{IsCount, load_code, store_code}
+use Rattle.x86_ins.specs.declared.ins.Ins.TheVariants.{VecLoad, VecStore}
+use Rattle.x86_ins.specs.declared.ins.MoveOp.TheVariants.{Movdqu}
+use Rattle.x86_ins.specs.Vectors.{after}
+use Rattle.x86_ins.specs.Machine.{Core, Bounded}
+use Rattle.x86_ins.specs.Spelling.{IsIns}
+use Rattle.x86_ins.specs.Way.{Each}
+use Rattle.x86_ins.proofs.Registers.{registers_after}
+use Rattle.x86_flow.specs.Moves.{IsWidth, away, load_code, store_code}
 use Rattle.x86_flow.proofs.Flow.{Line}
-use Rattle.x86_flow.proofs.Moves.{line_append, IsFill, load_line, store_line}
-use Rattle.orc_asm.specs.Code.{Addition, pointer, addition_code, additions_code}
+use Rattle.x86_flow.proofs.Moves.{IsFill, line_append, load_line, store_line}
+use Rattle.x86_flow.proofs.Plans.{rule_line, with_lanes}
+use Rattle.sse_laws.specs.Meets.{Meets, widest, size_beside, is_shift, second_of, results_at}
+use Rattle.sse_acc.specs.Sums.{AddsUp, sum_below, sum_of}
+use Rattle.sse_acc.specs.Sums.{number_of as adds_number}
+use Rattle.sse_acc.proofs.Totals.{sum_below-same}
+use Rattle.orc_program.specs.Meaning.{sub_lane, pack}
+use Rattle.orc_asm.specs.Code.{Action, IsRule, Source, FromArray, FromPattern, Target, ToArray, ToSum, pointer, pattern_slot, sum_slot, source_code, sources_code, sum_code, results_code, action_code, actions_code}
 use Rattle.orc_asm.proofs.Registers.{not_0}
-use Rattle.orc_asm.proofs.Cells.{Local, Lanes, Others, IsKnown, AllKnown, Separate, Low, local_add, local, store_lanes, store_others, others_more}
+use Rattle.orc_asm.proofs.Digits.{digit, digit_small, byte_split, byte_within, byte_further}
+use Rattle.orc_asm.proofs.SubLanes.{lane_sub_lane, packed_bytes}
+use Rattle.orc_asm.proofs.Sized.{one_shift, shift_two}
+use Rattle.orc_asm.proofs.Cells.{Numbers, Local, given_by, given, results_add, Lanes, Others, AtElements, IsOf, IsFrom, IsBeside, AreFrom, AreTo, IsKnown, AllKnown, Separate, Low, set_local, set_results, value_of, local_act, local, adds, store_lanes, store_others}
+use Rattle.orc_asm.proofs.Keeping.{line_bounded, each_front, each_back}
+use Rattle.orc_asm.proofs.Frames.{IsFrame, InSums, Framed, framed_same, framed_totals, framed_grown, load_slot, store_slot, pattern_lane, same_sum, no_sum, adds_all, sum_both}
 
--- sixteen sums
-sums_are : (x y : List ℕ) (j : ℕ) → j < 16 → get_or (result_of (shape Paddb) x y) j 0 ≡ (get_or x j 0 + get_or y j 0) % 256
-sums_are x y j h =
-    let e = byte_is 1 (λ q. (lane 1 q x + lane 1 q y) % 2 ^ 8) j h in
-    let k : j / 1 ≡ j = omega arith in
-    let l : j % 1 ≡ 0 = omega arith in
-    e ∙ rw (k, l, lane_one j x, lane_one j y) (omega arith)
+-- so many elements can be moved at once
+abbrev pub IsMovedFrom : ℕ → (ℕ → ℕ) → Source → Type 0
+IsMovedFrom count size (FromArray k) = IsWidth (count * size k)
+IsMovedFrom count size (FromPattern j) = Unit {0}
 
-pub count_small : (count : ℕ) → IsCount count → (0 < count) × (count ≤ 16)
-count_small count (inl e) = (omega (arith, e), omega (arith, e))
-count_small count (inr e) = (omega (arith, e), omega (arith, e))
+abbrev pub IsMovedTo : ℕ → (ℕ → ℕ) → Target → Type 0
+IsMovedTo count size (ToArray k) = IsWidth (count * size k)
+IsMovedTo count size (ToSum g) = Unit {0}
 
-module _ (n : ℕ) (base : ℕ → ℕ) (P : ℕ → Type 0) (separate : Separate n base P) (low : Low n base P) (Q : Core → Ins → Type 0) (count : ℕ) (is : IsCount count) where
-  -- what lets Q be known at each step: but for RAX the general registers stand, and only cells of these elements have changed
+-- so many elements of the action's slots can be moved at once, and their lanes fit into a register
+pub record IsFit (count : ℕ) (size : ℕ → ℕ) (a : Action) : Type 0 where
+  pub to : Each (IsMovedTo count size) a.to
+  pub sources : Each (IsMovedFrom count size) a.sources
+  pub lanes : count * a.prefix * widest a.op ≤ 16
+  pub rule : IsRule count a.op a.rule
+  pub known : Each IsIns (action_code count size a)
+
+lane_fits : (q count w : ℕ) → q < count → count * w ≤ 16 → q * w + w ≤ 16
+lane_fits q count w l h =
+    let m : suc q * w ≤ count * w = mul-le-mul_right w (let p : suc q ≤ count = omega (arith, l) in p) in
+    let e : suc q * w ≡ q * w + w = omega arith in
+    omega (arith, m, e, h)
+
+no_lane : (x : List ℕ) (n q : ℕ) → n ≡ 0 → lane n q x ≡ 0
+no_lane x n q e = ap (λ w. lane w q x) e ∙ lane_of_digits x 0 q 0 (λ k l. absurd (omega (arith, l)))
+
+second_is : (op : Op) (q : ℕ) (x : ℕ → List ℕ) → is_shift (row op).kind ≡ false → second_of op q x ≡ lane (size_of_source op 1) q (x 1)
+second_is op q x e = ap (λ b. if b then lane 8 0 (x 1) else lane (size_of_source op 1) q (x 1)) e
+
+-- ---- a formula cuts its sources
+
+cut_twice : (w v : ℕ) → v % 2 ^ w % 2 ^ w ≡ v % 2 ^ w
+cut_twice w v = mod-mod v (2 ^ w)
+
+formula_first : (op : Op) (v b : ℕ) → formula op (v % 2 ^ (8 * size_of_source op 0)) b ≡ formula op v b
+unfolding formula
+formula_first op v b = ap (λ x. apply (row op).stem (wide op) (to op) x (source_of op 1 b)) (cut_twice (8 * size_of_source op 0) v)
+
+formula_second : (op : Op) (a v : ℕ) → formula op a (v % 2 ^ (8 * size_of_source op 1)) ≡ formula op a v
+unfolding formula
+formula_second op a v = ap (λ x. apply (row op).stem (wide op) (to op) (source_of op 0 a) x) (cut_twice (8 * size_of_source op 1) v)
+
+-- the bytes of the first source, and of a second one that is no count
+first_width : (op : Op) → size_of_source op 0 ≤ widest op
+first_width op = within (size_of_result op 0) (size_of_result op 1) (size_of_source op 0) (size_beside op)
+  where
+    within : (a b c d : ℕ) → c ≤ max (max a b) (max c d)
+    within a b c d = le_trans (le-max_left c d) (le-max_right (max a b) (max c d))
+
+second_width : (op : Op) → is_shift (row op).kind ≡ false → size_of_source op 1 ≤ widest op
+second_width op e = subst (λ n. n ≤ widest op) (ap (λ b. if b then 0 else size_of_source op 1) e) (within (size_of_result op 0) (size_of_result op 1) (size_of_source op 0) (size_beside op))
+  where
+    within : (a b c d : ℕ) → d ≤ max (max a b) (max c d)
+    within a b c d = le_trans (le-max_right c d) (le-max_right (max a b) (max c d))
+
+narrower : (q w v : ℕ) → w ≤ v → q * v + v ≤ 16 → q * w + w ≤ 16
+narrower q w v l h = let m : suc q * w ≤ suc q * v = mul-le-mul_left (suc q) l in let a : suc q * w ≡ q * w + w = omega arith in let b : suc q * v ≡ q * v + v = omega arith in omega (arith, m, a, b, h)
+
+-- ---- so many elements from one on
+
+-- what a turn does its work on: n elements of arrays, patterns and running sums, with RSP at `rsp`
+pub record Ground (n : ℕ) (base size : ℕ → ℕ) (P : ℕ → Type 0) (numbers : Numbers) (rsp : ℕ) : Type 0 where
+  pub separate : Separate n base size P
+  pub low : Low n base size P
+  pub frame : IsFrame numbers rsp
+  -- arrays lie outside the frame
+  pub apart : (k : ℕ) → P k → (i : ℕ) → i < n → (r : ℕ) → r < size k → rsp ≤ base k + i * size k + r → base k + i * size k + r < rsp + 1024 → ⊥
+
+module _ (n : ℕ) (base size : ℕ → ℕ) (P : ℕ → Type 0) (numbers : Numbers) (rsp : ℕ) (ground : Ground n base size P numbers rsp) (Q : Core → Ins → Type 0) (count : ℕ) (some : 0 < count) where
+  separate : Separate n base size P
+  separate = ground.separate
+
+  low : Low n base size P
+  low = ground.low
+
+  -- but for cells of these elements and for running sums memory is as at first
+  abbrev pub Rest : ℕ → Memory → Memory → Type 0
+  Rest i first mem = (a : ℕ) → (AtElements n base size P i count a → ⊥) → (InSums numbers rsp a → ⊥) → mem a ≡ first a
+
+  -- what lets Q be known at each step: but for RAX the general registers stand, and only cells of these elements and running sums have changed
   abbrev pub Keeps : ℕ → (ℕ → ℕ) → Memory → Type 0
-  Keeps i gpr first = (u : Core) (ins : Ins) → ((r : ℕ) → r ≢ 0 → u.gpr r ≡ gpr r) → Others n base P i count first u.memory → Q u ins
+  Keeps i gpr first = (u : Core) (ins : Ins) → ((r : ℕ) → r ≢ 0 → u.gpr r ≡ gpr r) → Rest i first u.memory → Q u ins
+
+  -- what lets it be known while memory stands
+  abbrev Stays : Core → Type 0
+  Stays c = (u : Core) (ins : Ins) → u.memory ≡ c.memory → ((r : ℕ) → r ≢ 0 → u.gpr r ≡ c.gpr r) → Q u ins
+
+  -- the pointers of the arrays that have bytes
+  abbrev pub Points : ℕ → (ℕ → ℕ) → Type 0
+  Points i gpr = (k : ℕ) → P k → 0 < size k → gpr (pointer k) ≡ base k + i * size k
 
   -- what a block leaves
-  pub record After (i : ℕ) (c d : Core) (first : Memory) (sig : ℕ → Local) : Type 0 where
+  pub record After (i : ℕ) (c d : Core) (first : Memory) (sig : ℕ → Local) (totals : ℕ → ℕ) : Type 0 where
     pub gpr : (r : ℕ) → r ≢ 0 → d.gpr r ≡ c.gpr r
-    pub lanes : Lanes n base P i count d.memory sig
-    pub others : Others n base P i count first d.memory
+    pub lanes : Lanes n base size P i count d.memory sig
+    pub framed : Framed numbers rsp d.memory totals
+    pub others : Rest i first d.memory
+    pub bounded : Bounded d
 
-  addition_line : (i : ℕ) (a : Addition) (c : Core) (first : Memory) (sig : ℕ → Local) → IsKnown n base P a → i + count ≤ n → ((k : ℕ) → P k → c.gpr (pointer k) ≡ base k + i) → Lanes n base P i count c.memory sig → Others n base P i count first c.memory → Keeps i c.gpr first
-      → (d : Core) × Line Q (addition_code count a) c d × After i c d first (λ q. local_add n base P a (sig q))
-  addition_line i a c first sig known w at h o keeps =
-      let few = count_small count is in
-      let hd = known.0 in
-      let ha = known.1 in
-      let hb = known.2 in
-      let near : (k : ℕ) → P k → base k + i + 16 < 2 ^ 63 = λ k hk. omega (arith, low k hk i (omega (arith, w, few.0))) in
-      let cells : (k : ℕ) → P k → (j : ℕ) → j < count → c.memory (base k + i + j) ≡ Some (sig j k) = λ k hk j l. ap c.memory (let p : base k + i + j ≡ base k + (i + j) = omega arith in p) ∙ h k hk j l in
-      let x = load_line Q c (λ u ins m g. keeps u ins g (λ v out. ap (λ f. f v) m ∙ o v out)) count 0 (pointer a.left) (base a.left + i) (λ j. sig j a.left) is (at a.left ha) (near a.left ha) (cells a.left ha) in
-      let b = x.0 in
-      let y = load_line Q b (λ u ins m g. keeps u ins (λ r ne. g r ne ∙ x.2.gpr r ne) (λ v out. ap (λ f. f v) (m ∙ x.2.memory) ∙ o v out)) count 1 (pointer a.right) (base a.right + i) (λ j. sig j a.right) is
-      (x.2.gpr (pointer a.right) (not_0 a.right) ∙ at a.right hb) (near a.right hb) (λ j l. ap (λ f. f (base a.right + i + j)) x.2.memory ∙ cells a.right hb j l) in
-      let e = y.0 in
-      let memory : e.memory ≡ c.memory = y.2.memory ∙ x.2.memory in
-      let gpr : (r : ℕ) → r ≢ 0 → e.gpr r ≡ c.gpr r = λ r ne. y.2.gpr r ne ∙ x.2.gpr r ne in
-      let v : List ℕ = result_of (shape Paddb) (e.xmm 0) (e.xmm 1) in
-      let u : Core = with_xmm e 0 v in
-      let s = store_line Q u (λ t ins m g. keeps t ins (λ r ne. g r ne ∙ gpr r ne) (λ v out. ap (λ f. f v) (m ∙ memory) ∙ o v out)) count 0 (pointer a.to) (base a.to + i) is (not_0 a.to)
-      (gpr (pointer a.to) (not_0 a.to) ∙ at a.to hd) (near a.to hd) (λ j l. ap is_some (ap (λ f. f (base a.to + i + j)) memory ∙ cells a.to hd j l)) (bytes_result (shape Paddb) (e.xmm 0) (e.xmm 1)) in
-      let d = s.0 in
-      let z : ℕ → ℕ = λ q. (sig q a.left + sig q a.right) % 256 in
-      let sum : (j : ℕ) → j < count → get_or v j 0 ≡ z j = λ j l.
-      sums_are (e.xmm 0) (e.xmm 1) j (omega (arith, l, few.1))
-      ∙ omega (arith, ap (λ t. get_or t j 0 % 256) (y.2.others 0 (λ q. omega (arith, q))) ∙ x.2.bytes j l, y.2.bytes j l) in
-      let filled : IsFill count c.memory (base a.to + i) z d.memory = record {
-        inside = λ j l. s.2.memory.inside j l ∙ ap Some (sum j l);
-        outside = λ t out. s.2.memory.outside t out ∙ ap (λ f. f t) memory;
-      } in
-      let line : Line Q (addition_code count a) c d =
-      line_append Q (load_code count 0 (pointer a.left)) (load_code count 1 (pointer a.right) ++ (Vec Paddb 0 1 ∷ store_code count 0 (pointer a.to))) c b d x.1
-      (line_append Q (load_code count 1 (pointer a.right)) (Vec Paddb 0 1 ∷ store_code count 0 (pointer a.to)) b e d y.1
-      (keeps e _ gpr (λ v out. ap (λ f. f v) memory ∙ o v out), (u, refl, s.1))) in (
+  near : (i k b : ℕ) → IsOf n base size P k b → i + count ≤ n → base k + i * size k + 16 < 2 ^ 63
+  near i k b o w = let l = low k o.array i (omega (arith, w, some)) 0 o.some in omega (arith, l)
+
+  -- a byte of these elements, by its distance from the first
+  byte_at : (i k b : ℕ) (mem : Memory) (sig : ℕ → Local) → IsOf n base size P k b → Lanes n base size P i count mem sig → (q r : ℕ) → q < count → r < size k → mem (base k + i * size k + (q * size k + r)) ≡ Some (digit (sig q k) r)
+  byte_at i k b mem sig o h q r l lr = ap mem (sym (byte_further (base k) i q (size k) r)) ∙ h k o.array q l r lr
+
+  each_byte : (i k b : ℕ) (mem : Memory) (sig : ℕ → Local) → IsOf n base size P k b → Lanes n base size P i count mem sig → (j : ℕ) → j < count * size k → (v : ℕ) × (v < 256) × (mem (base k + i * size k + j) ≡ Some v)
+  each_byte i k b mem sig o h j l =
+      let x = byte_split (size k) count j l in
+      (digit (sig x.0 k) x.1, digit_small (sig x.0 k) x.1, ap (λ t. mem (base k + i * size k + t)) x.4 ∙ byte_at i k b mem sig o h x.0 x.1 x.2 x.3)
+
+  -- what a load leaves: sub-lanes of w bytes, `prefix` of them for each element
+  record Got (k w prefix x : ℕ) (sig : ℕ → Local) (c d : Core) : Type 0 where
+    memory : d.memory ≡ c.memory
+    gpr : (r : ℕ) → r ≢ 0 → d.gpr r ≡ c.gpr r
+    others : (y : ℕ) → y ≢ x → d.xmm y ≡ c.xmm y
+    lanes : AreBytes (d.xmm x) → (q : ℕ) → q < count → (p : ℕ) → p < prefix → lane w (q * prefix + p) (d.xmm x) ≡ sub_lane (8 * w) (sig q k) p
+
+  load_cells : (i k w prefix x : ℕ) (c : Core) (sig : ℕ → Local) → IsOf n base size P k (w * prefix) → IsWidth (count * size k) → i + count ≤ n → Points i c.gpr → Lanes n base size P i count c.memory sig → Stays c
+      → (d : Core) × Line Q (load_code (count * size k) x (pointer k)) c d × Got k w prefix x sig c d
+  load_cells i k w prefix x c sig o wide fits at h stays =
+      let b = w * prefix in
+      let p = base k + i * size k in
+      let z : ℕ → ℕ = λ j. or_else 0 (c.memory (p + j)) in
+      let byte = each_byte i k b c.memory sig o h in
+      let there : (j : ℕ) → j < count * size k → c.memory (p + j) ≡ Some (z j) = λ j l. let v = byte j l in v.2 ∙ ap (λ m. Some (or_else 0 m)) (sym v.2) in
+      let small : (j : ℕ) → j < count * size k → z j < 256 = λ j l. let v = byte j l in subst (λ m. or_else 0 m < 256) (sym v.2) v.1 in
+      let l = load_line Q c stays (count * size k) x (pointer k) p z wide (at k o.array o.some) (near i k b o fits) there (λ two. small 0 (omega (arith, two))) in
+      let d = l.0 in
+      let g = l.2 in
+      let digits : AreBytes (d.xmm x) → (q : ℕ) → q < count → (r : ℕ) → r < size k → get_or (d.xmm x) (q * size k + r) 0 ≡ digit (sig q k) r = λ bytes q lq r lr.
+      let j = q * size k + r in
+      let lj = byte_within q count (size k) r lq lr in
+      let is : z j ≡ digit (sig q k) r = ap (or_else 0) (byte_at i k b c.memory sig o h q r lq lr) in
+      let full : get_or (d.xmm x) j 0 ≡ get_or (d.xmm x) j 0 % 256 = sym (mod-eq_of_lt (bytes j)) in
+      let cut : z j % 256 ≡ z j = mod-eq_of_lt (small j lj) in
+      full ∙ g.bytes j lj ∙ cut ∙ is in (
         d,
-        line,
+        l.1,
         record {
-          gpr = λ r ne. s.2.gpr r ne ∙ gpr r ne;
-          lanes = store_lanes n base P separate low i count c.memory d.memory sig a.to z hd w h filled;
-          others = others_more n base P separate low i count first c.memory d.memory o (store_others n base P separate low i count c.memory d.memory a.to z hd filled);
+          memory = g.memory;
+          gpr = g.gpr;
+          others = g.others;
+          lanes = λ bytes q lq. lane_sub_lane (d.xmm x) w prefix q (sig q k) (subst (λ s. (r : ℕ) → r < s → get_or (d.xmm x) (q * s + r) 0 ≡ digit (sig q k) r) o.bytes_are (digits bytes q lq));
         },
       )
 
-  -- a whole block
-  pub additions_line : (i : ℕ) (adds : List Addition) (c : Core) (first : Memory) (sig : ℕ → Local) → AllKnown n base P adds → i + count ≤ n → ((k : ℕ) → P k → c.gpr (pointer k) ≡ base k + i) → Lanes n base P i count c.memory sig → Others n base P i count first c.memory → Keeps i c.gpr first
-      → (d : Core) × Line Q (additions_code count adds) c d × After i c d first (λ q. local n base P adds (sig q))
-  additions_line i [] c first sig known w at h o keeps = (c, refl, record { gpr = λ r ne. refl; lanes = h; others = o })
-  additions_line i (a ∷ adds) c first sig known w at h o keeps =
-      let x = addition_line i a c first sig known.0 w at h o keeps in
-      let y = additions_line i adds x.0 first (λ q. local_add n base P a (sig q)) known.1 w (λ k hk. x.2.gpr (pointer k) (not_0 k) ∙ at k hk) x.2.lanes x.2.others (λ u ins g. keeps u ins (λ r ne. g r ne ∙ x.2.gpr r ne)) in (
-        y.0,
-        line_append Q (addition_code count a) (additions_code count adds) c x.0 y.0 x.1 y.1,
+  -- what a source leaves in a register: its sub-lanes, or a pattern's bytes
+  abbrev InRegister : ℕ → ℕ → (ℕ → Local) → Source → List ℕ → Type 0
+  InRegister w prefix sig (FromArray k) x = (q : ℕ) → q < count → (p : ℕ) → p < prefix → lane w (q * prefix + p) x ≡ sub_lane (8 * w) (sig q k) p
+  InRegister w prefix sig (FromPattern j) x = (b : ℕ) → b < 16 → get_or x b 0 ≡ digit (numbers.number j) (b % numbers.period j)
+
+  record GotFrom (s : Source) (w prefix x : ℕ) (sig : ℕ → Local) (c d : Core) : Type 0 where
+    memory : d.memory ≡ c.memory
+    gpr : (r : ℕ) → r ≢ 0 → d.gpr r ≡ c.gpr r
+    others : (y : ℕ) → y ≢ x → d.xmm y ≡ c.xmm y
+    lanes : AreBytes (d.xmm x) → InRegister w prefix sig s (d.xmm x)
+
+  load_source : (i : ℕ) (s : Source) (w prefix x : ℕ) (c : Core) (sig : ℕ → Local) (totals : ℕ → ℕ) → IsFrom n base size P numbers w prefix s → IsMovedFrom count size s → i + count ≤ n → Points i c.gpr → c.gpr 4 ≡ rsp
+      → Lanes n base size P i count c.memory sig → Framed numbers rsp c.memory totals → Stays c → (d : Core) × Line Q (source_code count size x s) c d × GotFrom s w prefix x sig c d
+  load_source i (FromArray k) w prefix x c sig totals o wide fits at stack h framed stays =
+      let l = load_cells i k w prefix x c sig o wide fits at h stays in
+      (l.0, l.1, record { memory = l.2.memory; gpr = l.2.gpr; others = l.2.others; lanes = l.2.lanes })
+  load_source i (FromPattern j) w prefix x c sig totals o wide fits at stack h framed stays =
+      let l = load_slot c x rsp (pattern_slot j) (λ b. digit (numbers.number j) (b % numbers.period j)) stack (omega (arith, ground.frame.low, ground.frame.few_patterns, o.0)) (framed.patterns j o.0) in (
+        l.0,
+        (stays c _ refl (λ r ne. refl), (l.0, l.1, refl)),
+        record { memory = l.2.memory; gpr = λ r ne. ap (λ f. f r) l.2.gpr; others = l.2.others; lanes = λ bytes. l.2.bytes },
+      )
+
+  -- the first source of a lane
+  first_value : (op : Op) (prefix : ℕ) (s : Source) (sig : ℕ → Local) (x : List ℕ) → IsFrom n base size P numbers (size_of_source op 0) prefix s → InRegister (size_of_source op 0) prefix sig s x
+      → (q : ℕ) → q < count → (p : ℕ) → p < prefix → (q * prefix + p) * widest op + widest op ≤ 16 → (b : ℕ) → formula op (lane (size_of_source op 0) (q * prefix + p) x) b ≡ formula op (given_by numbers.number (size_of_source op 0) (sig q) s p) b
+  first_value op prefix (FromArray k) sig x o h q l p lp fits b = ap (λ v. formula op v b) (h q l p lp)
+  first_value op prefix (FromPattern j) sig x o h q l p lp fits b =
+      ap (λ v. formula op v b) (pattern_lane x (size_of_source op 0) (numbers.number j) (q * prefix + p) (λ k lk. h k lk ∙ ap (λ w. digit (numbers.number j) (k % w)) o.1) (narrower (q * prefix + p) (size_of_source op 0) (widest op) (first_width op) fits))
+      ∙ formula_first op (numbers.number j) b
+
+  -- and the second, or the count
+  second_value : (op : Op) (prefix : ℕ) (s : Source) (sig : ℕ → Local) (x : ℕ → List ℕ) → IsFrom n base size P numbers (size_of_source op 1) prefix s → IsBeside n base size P numbers op s → InRegister (size_of_source op 1) prefix sig s (x 1)
+      → (q : ℕ) → q < count → (p : ℕ) → p < prefix → (q * prefix + p) * widest op + widest op ≤ 16 → (a : ℕ) → formula op a (second_of op (q * prefix + p) x) ≡ formula op a (given_by numbers.number (size_of_source op 1) (sig q) s p)
+  second_value op prefix (FromArray k) sig x o plain h q l p lp fits a = ap (formula op a) (second_is op (q * prefix + p) x plain ∙ h q l p lp)
+  second_value op prefix (FromPattern j) sig x o plain h q l p lp fits a = go (is_shift (row op).kind) refl
+    where
+      bytes : (k : ℕ) → k < 16 → get_or (x 1) k 0 ≡ digit (numbers.number j) (k % size_of_source op 1)
+      bytes k lk = h k lk ∙ ap (λ w. digit (numbers.number j) (k % w)) o.1
+
+      at_lane : (t : ℕ) → t * size_of_source op 1 + size_of_source op 1 ≤ 16 → formula op a (lane (size_of_source op 1) t (x 1)) ≡ formula op a (numbers.number j)
+      at_lane t room = ap (formula op a) (pattern_lane (x 1) (size_of_source op 1) (numbers.number j) t bytes room) ∙ formula_second op a (numbers.number j)
+
+      go : (b : Bool) → is_shift (row op).kind ≡ b → formula op a (second_of op (q * prefix + p) x) ≡ formula op a (numbers.number j)
+      go false e = ap (formula op a) (second_is op (q * prefix + p) x e) ∙ at_lane (q * prefix + p) (narrower (q * prefix + p) (size_of_source op 1) (widest op) (second_width op e) fits)
+      go true e =
+          let eight : size_of_source op 1 ≡ 8 = shift_two op e in
+          ap (λ b. formula op a (if b then lane 8 0 (x 1) else lane (size_of_source op 1) (q * prefix + p) (x 1))) e
+          ∙ ap (λ w. formula op a (lane w 0 (x 1))) (sym eight) ∙ at_lane 0 (omega (arith, eight))
+
+  -- what an opcode makes of each sub-lane
+  abbrev made : Op → Local → List Source → ℕ → ℕ × ℕ
+  made op l ss p = formula op ((given numbers.number op l ss).0 p) ((given numbers.number op l ss).1 p)
+
+  -- the registers hold an action's sources
+  abbrev Values : Op → ℕ → List Source → (ℕ → Local) → (ℕ → List ℕ) → Type 0
+  Values op prefix ss sig x = (q : ℕ) → q < count → (p : ℕ) → p < prefix → results_at op (q * prefix + p) x ≡ made op (sig q) ss p
+
+  abbrev Fits : Op → ℕ → Type 0
+  Fits op prefix = (q : ℕ) → q < count → (p : ℕ) → p < prefix → (q * prefix + p) * widest op + widest op ≤ 16
+
+  -- what the loads of an action's sources leave
+  record Read (op : Op) (prefix : ℕ) (ss : List Source) (sig : ℕ → Local) (c d : Core) : Type 0 where
+    memory : d.memory ≡ c.memory
+    gpr : (r : ℕ) → r ≢ 0 → d.gpr r ≡ c.gpr r
+    bounded : Bounded d
+    value : Values op prefix ss sig d.xmm
+
+  sources_line : (i : ℕ) (op : Op) (prefix : ℕ) (ss : List Source) (c : Core) (sig : ℕ → Local) (totals : ℕ → ℕ) → AreFrom n base size P numbers op prefix ss → Fits op prefix → Each (IsMovedFrom count size) ss → Each IsIns (sources_code count size ss) → i + count ≤ n
+      → Points i c.gpr → c.gpr 4 ≡ rsp → Lanes n base size P i count c.memory sig → Framed numbers rsp c.memory totals → Bounded c → Stays c → (d : Core) × Line Q (sources_code count size ss) c d × Read op prefix ss sig c d
+  sources_line i op prefix [] c sig totals known fits wide ins w at stack h framed bound stays = absurd known
+  sources_line i op prefix (s ∷ []) c sig totals known fits wide ins w at stack h framed bound stays =
+      let x = load_source i s (size_of_source op 0) prefix 0 c sig totals known.0 wide.0 w at stack h framed stays in
+      let d = x.0 in
+      let b = line_bounded Q (source_code count size 0 s) c d ins x.1 bound in (
+        d,
+        x.1,
+        record {
+          memory = x.2.memory;
+          gpr = x.2.gpr;
+          bounded = b;
+          value = λ q l p lp.
+              ap (formula op (lane (size_of_source op 0) (q * prefix + p) (d.xmm 0))) (second_is op (q * prefix + p) d.xmm (one_shift op known.1) ∙ no_lane (d.xmm 1) (size_of_source op 1) (q * prefix + p) known.1)
+              ∙ first_value op prefix s sig (d.xmm 0) known.0 (x.2.lanes (b.xmm 0)) q l p lp (fits q l p lp) 0;
+        },
+      )
+  sources_line i op prefix (s ∷ t ∷ more) c sig totals known fits wide ins w at stack h framed bound stays =
+      let one = source_code count size 0 s in
+      let two = source_code count size 1 t in
+      let x = load_source i s (size_of_source op 0) prefix 0 c sig totals known.0 wide.0 w at stack h framed stays in
+      let b = x.0 in
+      let at' : Points i b.gpr = λ j hj s. x.2.gpr (pointer j) (not_0 j) ∙ at j hj s in
+      let h' : Lanes n base size P i count b.memory sig = λ j hj q l r lr. ap (λ f. f (base j + (i + q) * size j + r)) x.2.memory ∙ h j hj q l r lr in
+      let y = load_source i t (size_of_source op 1) prefix 1 b sig totals known.1 wide.1.0 w at' (x.2.gpr 4 (λ e. omega (arith, e)) ∙ stack) h' (subst (λ m. Framed numbers rsp m totals) (sym x.2.memory) framed) (λ u i m g. stays u i (m ∙ x.2.memory) (λ r ne. g r ne ∙ x.2.gpr r ne)) in
+      let d = y.0 in
+      let line : Line Q (one ++ two) c d = line_append Q one two c b d x.1 y.1 in
+      let bd = line_bounded Q (one ++ two) c d ins line bound in
+      let same : d.xmm 0 ≡ b.xmm 0 = y.2.others 0 (λ e. omega (arith, e)) in
+      let first : InRegister (size_of_source op 0) prefix sig s (d.xmm 0) = subst (InRegister (size_of_source op 0) prefix sig s) (sym same) (x.2.lanes (subst AreBytes same (bd.xmm 0))) in (
+        d,
+        line,
+        record {
+          memory = y.2.memory ∙ x.2.memory;
+          gpr = λ r ne. y.2.gpr r ne ∙ x.2.gpr r ne;
+          bounded = bd;
+          value = λ q l p lp.
+              second_value op prefix t sig d.xmm known.1 known.2 (y.2.lanes (bd.xmm 1)) q l p lp (fits q l p lp) (lane (size_of_source op 0) (q * prefix + p) (d.xmm 0))
+              ∙ first_value op prefix s sig (d.xmm 0) known.0 first q l p lp (fits q l p lp) (given_by numbers.number (size_of_source op 1) (sig q) t p);
+        },
+      )
+
+  -- what a store of packed numbers leaves
+  record Put (i k : ℕ) (v : ℕ → ℕ) (sig : ℕ → Local) (c d : Core) : Type 0 where
+    gpr : (r : ℕ) → r ≢ 0 → d.gpr r ≡ c.gpr r
+    xmm : d.xmm ≡ c.xmm
+    lanes : Lanes n base size P i count d.memory (λ q. set_local n base size P (sig q) k (v q))
+    others : Others n base size P i count c.memory d.memory
+
+  store_cells : (i k w prefix x : ℕ) (g : ℕ → ℕ → ℕ) (c : Core) (sig : ℕ → Local) → IsOf n base size P k (w * prefix) → IsWidth (count * size k) → i + count ≤ n → Points i c.gpr → Lanes n base size P i count c.memory sig → Stays c
+      → AreBytes (c.xmm x) → ((q : ℕ) → q < count → (p : ℕ) → p < prefix → lane w (q * prefix + p) (c.xmm x) ≡ g q p)
+      → (d : Core) × Line Q (store_code (count * size k) x (pointer k)) c d × Put i k (λ q. pack (8 * w) prefix (g q)) sig c d
+  store_cells i k w prefix x g c sig o wide fits at h stays bytes lanes =
+      let b = w * prefix in
+      let p = base k + i * size k in
+      let v : ℕ → ℕ = λ q. pack (8 * w) prefix (g q) in
+      let z : ℕ → ℕ = λ j. get_or (c.xmm x) j 0 in
+      let there : (j : ℕ) → j < count * size k → IsMapped c.memory (p + j) = λ j l. ap is_some (each_byte i k b c.memory sig o h j l).2 in
+      let s = store_line Q c stays (count * size k) x (pointer k) p wide (not_0 k) (at k o.array o.some) (near i k b o fits) there bytes in
+      let d = s.0 in
+      let numbers : (q r : ℕ) → q < count → r < size k → z (q * size k + r) ≡ digit (v q) r = λ q r l.
+      subst (λ t. r < t → z (q * t + r) ≡ digit (v q) r) (sym o.bytes_are) (packed_bytes (c.xmm x) bytes w prefix q (g q) (lanes q l) r) in (
+        d,
+        s.1,
+        record {
+          gpr = s.2.gpr;
+          xmm = s.2.xmm;
+          lanes = store_lanes n base size P separate low i count c.memory d.memory sig k z v o.array o.some fits h s.2.memory numbers;
+          others = store_others n base size P separate low i count c.memory d.memory k z o.array s.2.memory;
+        },
+      )
+
+  -- the registers hold these numbers
+  record Holds (op : Op) (prefix : ℕ) (g : ℕ → ℕ → ℕ × ℕ) (x : ℕ → List ℕ) : Type 0 where
+    bytes : (r : ℕ) → AreBytes (x r)
+    first : (q : ℕ) → q < count → (p : ℕ) → p < prefix → lane (size_of_result op 0) (q * prefix + p) (x 0) ≡ (g q p).0
+    second : (q : ℕ) → q < count → (p : ℕ) → p < prefix → lane (size_of_result op 1) (q * prefix + p) (x 1) ≡ (g q p).1
+
+  abbrev packed : Op → ℕ → (ℕ → ℕ × ℕ) → ℕ × ℕ
+  packed op prefix g = (pack (8 * size_of_result op 0) prefix (λ p. (g p).0), pack (8 * size_of_result op 1) prefix (λ p. (g p).1))
+
+  -- what the rule and the stores of an action leave
+  record Wrote (i : ℕ) (ts : List Target) (v : ℕ → ℕ × ℕ) (sig : ℕ → Local) (totals : ℕ → ℕ) (first : Memory) (c d : Core) : Type 0 where
+    gpr : (r : ℕ) → r ≢ 0 → d.gpr r ≡ c.gpr r
+    lanes : Lanes n base size P i count d.memory (λ q. set_results n base size P (sig q) ts (v q))
+    framed : Framed numbers rsp d.memory (λ g. totals g + sum_below count (λ q. results_add ts (v q) g))
+    others : Rest i first d.memory
+
+  -- what holds while memory stands
+  stay : (i : ℕ) (c : Core) (gpr : ℕ → ℕ) (first : Memory) → ((r : ℕ) → r ≢ 0 → c.gpr r ≡ gpr r) → Rest i first c.memory → Keeps i gpr first → Stays c
+  stay i c gpr first e o keeps u ins m g = keeps u ins (λ r ne. g r ne ∙ e r ne) (λ v out sums. ap (λ f. f v) m ∙ o v out sums)
+
+  rest_more : (i : ℕ) (first c d : Memory) → Rest i first c → Others n base size P i count c d → Rest i first d
+  rest_more i first c d o x a m s = x a m ∙ o a m s
+
+  -- stores to cells leave the frame
+  frame_kept : (i : ℕ) (c d : Memory) (totals : ℕ → ℕ) → i + count ≤ n → Others n base size P i count c d → Framed numbers rsp c totals → Framed numbers rsp d totals
+  frame_kept i c d totals w o = framed_same numbers rsp ground.frame c d totals (λ x l u. o x (λ at. ground.apart at.0 at.1 (i + at.2) (omega (arith, at.3, w)) at.4 at.5 (subst (λ a. rsp ≤ a) at.6 l) (subst (λ a. a < rsp + 1024) at.6 u)))
+
+  nothing_added : (totals : ℕ → ℕ) (mem : Memory) (g : ℕ → ℕ → ℕ) → ((q h : ℕ) → g q h ≡ 0) → Framed numbers rsp mem totals → Framed numbers rsp mem (λ h. totals h + sum_below count (λ q. g q h))
+  nothing_added totals mem g none = framed_totals numbers rsp mem totals (λ h. totals h + sum_below count (λ q. g q h)) (λ h. let e = sum_below-same count (λ q. g q h) (λ q. 0) (λ q l. none q h) ∙ no_sum count in omega (arith, e))
+
+  arrays_line : (i : ℕ) (op : Op) (prefix : ℕ) (g : ℕ → ℕ → ℕ × ℕ) (k : ℕ) (c : Core) (first : Memory) (sig : ℕ → Local) (totals : ℕ → ℕ) → IsOf n base size P k (size_of_result op 0 * prefix) → IsWidth (count * size k) → i + count ≤ n
+      → Points i c.gpr → Lanes n base size P i count c.memory sig → Framed numbers rsp c.memory totals → Holds op prefix g c.xmm → Rest i first c.memory → Keeps i c.gpr first
+      → (d : Core) × Line Q (store_code (count * size k) 0 (pointer k)) c d × Wrote i (ToArray k ∷ []) (λ q. packed op prefix (g q)) sig totals first c d
+  arrays_line i op prefix g k c first sig totals known wide w at h framed holds o keeps =
+      let x = store_cells i k (size_of_result op 0) prefix 0 (λ q p. (g q p).0) c sig known wide w at h (stay i c c.gpr first (λ r ne. refl) o keeps) (holds.bytes 0) holds.first in (
+        x.0,
+        x.1,
+        record {
+          gpr = x.2.gpr;
+          lanes = x.2.lanes;
+          framed = nothing_added totals x.0.memory (λ q h. 0) (λ q h. refl) (frame_kept i c.memory x.0.memory totals w x.2.others framed);
+          others = rest_more i first c.memory x.0.memory o x.2.others;
+        },
+      )
+
+  two_arrays_line : (i : ℕ) (op : Op) (prefix : ℕ) (g : ℕ → ℕ → ℕ × ℕ) (k m : ℕ) (c : Core) (first : Memory) (sig : ℕ → Local) (totals : ℕ → ℕ) → IsOf n base size P k (size_of_result op 0 * prefix) → IsOf n base size P m (size_of_result op 1 * prefix)
+      → IsWidth (count * size k) → IsWidth (count * size m) → i + count ≤ n
+      → Points i c.gpr → Lanes n base size P i count c.memory sig → Framed numbers rsp c.memory totals → Holds op prefix g c.xmm → Rest i first c.memory → Keeps i c.gpr first
+      → (d : Core) × Line Q (store_code (count * size k) 0 (pointer k) ++ store_code (count * size m) 1 (pointer m)) c d × Wrote i (ToArray k ∷ ToArray m ∷ []) (λ q. packed op prefix (g q)) sig totals first c d
+  two_arrays_line i op prefix g k m c first sig totals known known' wide wide' w at h framed holds o keeps =
+      let one = store_code (count * size k) 0 (pointer k) in
+      let two = store_code (count * size m) 1 (pointer m) in
+      let x = store_cells i k (size_of_result op 0) prefix 0 (λ q p. (g q p).0) c sig known wide w at h (stay i c c.gpr first (λ r ne. refl) o keeps) (holds.bytes 0) holds.first in
+      let b = x.0 in
+      let ob = rest_more i first c.memory b.memory o x.2.others in
+      let same : b.xmm 1 ≡ c.xmm 1 = ap (λ f. f 1) x.2.xmm in
+      let y = store_cells i m (size_of_result op 1) prefix 1 (λ q p. (g q p).1) b (λ q. set_local n base size P (sig q) k (packed op prefix (g q)).0) known' wide' w (λ j hj s. x.2.gpr (pointer j) (not_0 j) ∙ at j hj s) x.2.lanes (stay i b c.gpr first x.2.gpr ob keeps)
+      (subst AreBytes (sym same) (holds.bytes 1)) (λ q l p lp. ap (lane (size_of_result op 1) (q * prefix + p)) same ∙ holds.second q l p lp) in
+      let d = y.0 in (
+        d,
+        line_append Q one two c b d x.1 y.1,
         record {
           gpr = λ r ne. y.2.gpr r ne ∙ x.2.gpr r ne;
           lanes = y.2.lanes;
+          framed = nothing_added totals d.memory (λ q h. 0 + 0) (λ q h. omega arith) (frame_kept i b.memory d.memory totals w y.2.others (frame_kept i c.memory b.memory totals w x.2.others framed));
+          others = rest_more i first b.memory d.memory ob y.2.others;
+        },
+      )
+
+  -- a rule that computes leaves its results
+  computed_line : (op : Op) (prefix : ℕ) (ss : List Source) (rule : List Ins) (c : Core) (sig : ℕ → Local) → Meets op rule → Fits op prefix → Values op prefix ss sig c.xmm → Bounded c → Stays c
+      → Line Q rule c (with_lanes c (after rule c.xmm)) × Holds op prefix (λ q. made op (sig q) ss) (after rule c.xmm)
+  computed_line op prefix ss rule c sig meets fits value bound stays = (
+    rule_line Q rule meets.vectors c (λ t ins gs fs ms. stays t ins ms (λ r ne. ap (λ f. f r) gs)),
+    record {
+      bytes = registers_after rule c.xmm bound.xmm;
+      first = λ q l p lp. meets.first c.xmm bound.xmm (q * prefix + p) (fits q l p lp) ∙ ap (λ (z : ℕ × ℕ). z.0) (value q l p lp);
+      second = λ q l p lp. meets.second c.xmm bound.xmm (q * prefix + p) (fits q l p lp) ∙ ap (λ (z : ℕ × ℕ). z.1) (value q l p lp);
+    },
+  )
+
+  -- ---- one running sum
+
+  one_lane : (q k : ℕ) → k ≡ 1 → q * k + 0 ≡ q
+  one_lane q k e = ap (λ k. q * k + 0) e ∙ (let z : q * 1 + 0 ≡ q = omega arith in z)
+
+  one_pack : (w k : ℕ) (g : ℕ → ℕ) → k ≡ 1 → pack (8 * w) k g ≡ g 0
+  one_pack w k g e = ap (λ k. pack (8 * w) k g) e ∙ ap (λ x. 0 + g 0 * 2 ^ x) (let z : 8 * w * 0 ≡ 0 = omega arith in z) ∙ (let z : 0 + g 0 * 1 ≡ g 0 = omega arith in z)
+
+  same_results : (op : Op) (q : ℕ) (x y : ℕ → List ℕ) → x 0 ≡ y 0 → x 1 ≡ y 1 → results_at op q x ≡ results_at op q y
+  same_results op q x y e f = ap₂ (λ s t. formula op (lane (size_of_source op 0) q s) (if is_shift (row op).kind then lane 8 0 t else lane (size_of_source op 1) q t)) e f
+
+  -- what the elements add
+  abbrev amount : Op → ℕ → List Source → (ℕ → Local) → ℕ
+  amount op prefix ss sig = sum_below count (λ q. (packed op prefix (made op (sig q) ss)).0)
+
+  amount_is : (op : Op) (prefix : ℕ) (ss : List Source) (sig : ℕ → Local) (x y : ℕ → List ℕ) → prefix ≡ 1 → y 0 ≡ x 0 → y 1 ≡ x 1 → Values op prefix ss sig x → sum_below count (λ q. adds_number op q y) ≡ amount op prefix ss sig
+  amount_is op prefix ss sig x y one e f value = sum_below-same count (λ q. adds_number op q y) (λ q. (packed op prefix (made op (sig q) ss)).0) (λ q l.
+      ap (λ (z : ℕ × ℕ). z.0) (same_results op q y x e f ∙ ap (λ t. results_at op t x) (sym (one_lane q prefix one)) ∙ value q l 0 (omega (arith, one)))
+      ∙ sym (one_pack (size_of_result op 0) prefix (λ p. (made op (sig q) ss p).0) one))
+
+  abbrev load_sum : ℕ → Ins
+  load_sum g = VecLoad Movdqu 2 (away 4 (sum_slot g))
+
+  abbrev store_sum : ℕ → Ins
+  store_sum g = VecStore Movdqu 2 (away 4 (sum_slot g))
+
+  -- the sum after the rule
+  grows : (op : Op) (prefix : ℕ) (ss : List Source) (sig : ℕ → Local) (rule : List Ins) (g : ℕ) (running : List ℕ) (x y : ℕ → List ℕ) → numbers.width g ≡ size_of_result op 0 → prefix ≡ 1 → AddsUp op count rule → Values op prefix ss sig x
+      → y 0 ≡ x 0 → y 1 ≡ x 1 → ((b : ℕ) → b < 16 → get_or (y 2) b 0 ≡ get_or running b 0) → ((r : ℕ) → AreBytes (y r))
+      → cut (8 * numbers.width g) (sum_of (numbers.width g) (after rule y 2)) ≡ cut (8 * numbers.width g) (sum_of (numbers.width g) running + amount op prefix ss sig)
+  grows op prefix ss sig rule g running x y width one adds value e f bytes small =
+      let w = size_of_result op 0 in
+      subst (λ w. cut (8 * w) (sum_of w (after rule y 2)) ≡ cut (8 * w) (sum_of w running + amount op prefix ss sig)) (sym width)
+      (adds.grows y small ∙ ap₂ (λ s t. cut (8 * w) (s + t)) (same_sum w (y 2) running bytes) (amount_is op prefix ss sig x y one e f value))
+
+  sum_low : (g : ℕ) → g < numbers.sums → rsp + sum_slot g + 16 < 2 ^ 63
+  sum_low g l = omega (arith, ground.frame.low, ground.frame.few_sums, l)
+
+  -- what the store of a sum leaves
+  sum_stored : (i : ℕ) (g : ℕ) (mem end : Memory) (z : ℕ → ℕ) (first : Memory) (sig : ℕ → Local) → g < numbers.sums → i + count ≤ n → IsFill 16 mem (rsp + sum_slot g) z end → Lanes n base size P i count mem sig → Rest i first mem
+      → Lanes n base size P i count end sig × Rest i first end
+  sum_stored i g mem end z first sig lg w f h o = (
+    λ k hk q l r lr. f.outside (base k + (i + q) * size k + r) (λ j lj e. ground.apart k hk (i + q) (omega (arith, l, w)) r lr (omega (arith, e)) (omega (arith, e, lj, lg, ground.frame.few_sums))) ∙ h k hk q l r lr,
+    λ x m s. f.outside x (λ j lj e. s (omega (arith, e), omega (arith, e, lj, lg))) ∙ o x m s,
+  )
+
+  sum_line : (i : ℕ) (op : Op) (prefix : ℕ) (ss : List Source) (rule : List Ins) (g : ℕ) (c : Core) (first : Memory) (sig : ℕ → Local) (totals : ℕ → ℕ) → g < numbers.sums → numbers.width g ≡ size_of_result op 0 → prefix ≡ 1 → AddsUp op count rule → i + count ≤ n
+      → c.gpr 4 ≡ rsp → Lanes n base size P i count c.memory sig → Framed numbers rsp c.memory totals → Values op prefix ss sig c.xmm → Bounded c → Each IsIns (load_sum g ∷ []) → Rest i first c.memory → Keeps i c.gpr first
+      → (d : Core) × Line Q (load_sum g ∷ (rule ++ store_sum g ∷ [])) c d × Wrote i (ToSum g ∷ []) (λ q. packed op prefix (made op (sig q) ss)) sig totals first c d
+  sum_line i op prefix ss rule g c first sig totals lg width one adds w stack h framed value bound ins o keeps =
+      let stays = stay i c c.gpr first (λ r ne. refl) o keeps in
+      let l = load_slot c 2 rsp (sum_slot g) (λ b. get_or (framed.running g) b 0) stack (sum_low g lg) (framed.sums g lg) in
+      let b = l.0 in
+      let in_c : Q c (load_sum g) = stays c (load_sum g) refl (λ r ne. refl) in
+      let load : Line Q (load_sum g ∷ []) c b = (in_c, (b, l.1, refl)) in
+      let bounded = line_bounded Q (load_sum g ∷ []) c b ins load bound in
+      let gpr : (r : ℕ) → b.gpr r ≡ c.gpr r = λ r. ap (λ f. f r) l.2.gpr in
+      let u : Core = with_lanes b (after rule b.xmm) in
+      let line : Line Q rule b u = rule_line Q rule adds.vectors b (λ t ins gs fs ms. stays t ins (ms ∙ l.2.memory) (λ r ne. ap (λ f. f r) gs ∙ gpr r)) in
+      let there : (j : ℕ) → j < 16 → IsMapped u.memory (rsp + sum_slot g + j) = λ j lj. ap (λ m. is_some (m (rsp + sum_slot g + j))) l.2.memory ∙ ap is_some (framed.sums g lg j lj) in
+      let s = store_slot u 2 rsp (sum_slot g) (gpr 4 ∙ stack) (sum_low g lg) there in
+      let d = s.0 in
+      let f : IsFill 16 c.memory (rsp + sum_slot g) (λ j. get_or (after rule b.xmm 2) j 0) d.memory = subst (λ m. IsFill 16 m (rsp + sum_slot g) (λ j. get_or (after rule b.xmm 2) j 0) d.memory) l.2.memory s.4 in
+      let kept = sum_stored i g c.memory d.memory (λ j. get_or (after rule b.xmm 2) j 0) first sig lg w f h o in
+      let grown = framed_grown numbers rsp ground.frame c.memory d.memory totals framed g (amount op prefix ss sig) lg (after rule b.xmm 2) (registers_after rule b.xmm bounded.xmm 2) f
+      (grows op prefix ss sig rule g (framed.running g) c.xmm b.xmm width one adds value (l.2.others 0 (λ e. omega (arith, e))) (l.2.others 1 (λ e. omega (arith, e))) l.2.bytes bounded.xmm) in (
+        d,
+        (in_c, (b, l.1, line_append Q rule (store_sum g ∷ []) b u d line (stays u (store_sum g) l.2.memory (λ r ne. gpr r), (d, s.1, refl)))),
+        record {
+          gpr = λ r ne. ap (λ f. f r) s.2 ∙ gpr r;
+          lanes = kept.0;
+          framed = framed_totals numbers rsp d.memory _ _ (λ k. ap (λ t. totals k + t) (adds_all count g k (λ q. (packed op prefix (made op (sig q) ss)).0))) grown;
+          others = kept.1;
+        },
+      )
+
+  -- ---- an action
+
+  finish_line : (i : ℕ) (op : Op) (prefix : ℕ) (ss : List Source) (rule : List Ins) (ts : List Target) (c : Core) (first : Memory) (sig : ℕ → Local) (totals : ℕ → ℕ) → AreTo n base size P numbers op prefix ts → IsRule count op rule → Each (IsMovedTo count size) ts → Fits op prefix
+      → Each IsIns (sum_code ts) → i + count ≤ n → Points i c.gpr → c.gpr 4 ≡ rsp → Lanes n base size P i count c.memory sig → Framed numbers rsp c.memory totals → Values op prefix ss sig c.xmm → Bounded c → Rest i first c.memory → Keeps i c.gpr first
+      → (d : Core) × Line Q (sum_code ts ++ (rule ++ results_code count size ts)) c d × Wrote i ts (λ q. packed op prefix (made op (sig q) ss)) sig totals first c d
+  finish_line i op prefix ss rule [] c first sig totals known is wide fits ins w at stack h framed value bound o keeps = absurd known
+  finish_line i op prefix ss rule (ToArray k ∷ []) c first sig totals known is wide fits ins w at stack h framed value bound o keeps =
+      let x = computed_line op prefix ss rule c sig (is.meets known.1) fits value bound (stay i c c.gpr first (λ r ne. refl) o keeps) in
+      let u : Core = with_lanes c (after rule c.xmm) in
+      let s = arrays_line i op prefix (λ q. made op (sig q) ss) k u first sig totals known.0 wide.0 w at h framed x.1 o keeps in
+      (s.0, line_append Q rule (store_code (count * size k) 0 (pointer k)) c u s.0 x.0 s.1, record { gpr = s.2.gpr; lanes = s.2.lanes; framed = s.2.framed; others = s.2.others })
+  finish_line i op prefix ss rule (ToArray k ∷ ToArray m ∷ more) c first sig totals known is wide fits ins w at stack h framed value bound o keeps =
+      let x = computed_line op prefix ss rule c sig (is.meets known.1) fits value bound (stay i c c.gpr first (λ r ne. refl) o keeps) in
+      let u : Core = with_lanes c (after rule c.xmm) in
+      let s = two_arrays_line i op prefix (λ q. made op (sig q) ss) k m u first sig totals known.0 known.2 wide.0 wide.1.0 w at h framed x.1 o keeps in
+      (s.0, line_append Q rule (store_code (count * size k) 0 (pointer k) ++ store_code (count * size m) 1 (pointer m)) c u s.0 x.0 s.1, record { gpr = s.2.gpr; lanes = s.2.lanes; framed = s.2.framed; others = s.2.others })
+  finish_line i op prefix ss rule (ToArray k ∷ ToSum g ∷ more) c first sig totals known is wide fits ins w at stack h framed value bound o keeps = absurd known
+  finish_line i op prefix ss rule (ToSum g ∷ []) c first sig totals known is wide fits ins w at stack h framed value bound o keeps =
+      sum_line i op prefix ss rule g c first sig totals known.0 known.2 known.3 (is.adds known.1) w stack h framed value bound ins o keeps
+  finish_line i op prefix ss rule (ToSum g ∷ t ∷ more) c first sig totals known is wide fits ins w at stack h framed value bound o keeps = absurd known
+
+  -- what an action adds to the totals
+  abbrev Grown : List Action → (ℕ → Local) → (ℕ → ℕ) → ℕ → ℕ
+  Grown actions sig totals g = totals g + sum_below count (λ q. adds n base size P numbers actions (sig q) g)
+
+  abbrev GrownBy : Action → (ℕ → Local) → (ℕ → ℕ) → ℕ → ℕ
+  GrownBy a sig totals g = totals g + sum_below count (λ q. results_add a.to (value_of n base size P numbers a (sig q)) g)
+
+  action_line : (i : ℕ) (a : Action) (c : Core) (first : Memory) (sig : ℕ → Local) (totals : ℕ → ℕ) → IsKnown n base size P numbers a → IsFit count size a → i + count ≤ n → Points i c.gpr → c.gpr 4 ≡ rsp → Lanes n base size P i count c.memory sig → Framed numbers rsp c.memory totals
+      → Bounded c → Rest i first c.memory → Keeps i c.gpr first → (d : Core) × Line Q (action_code count size a) c d × After i c d first (λ q. local_act n base size P numbers a (sig q)) (GrownBy a sig totals)
+  action_line i a c first sig totals known fit w at stack h framed bound o keeps =
+      let loads = sources_code count size a.sources in
+      let rest = sum_code a.to ++ (a.rule ++ results_code count size a.to) in
+      let stays = stay i c c.gpr first (λ r ne. refl) o keeps in
+      let fits : Fits a.op a.prefix = λ q l p lp. lane_fits (q * a.prefix + p) (count * a.prefix) (widest a.op) (byte_within q count a.prefix p l lp) fit.lanes in
+      let x = sources_line i a.op a.prefix a.sources c sig totals known.sources fits fit.sources (each_front IsIns loads rest fit.known) w at stack h framed bound stays in
+      let e = x.0 in
+      let g = x.2 in
+      let s = finish_line i a.op a.prefix a.sources a.rule a.to e first sig totals known.to fit.rule fit.to fits
+      (each_front IsIns (sum_code a.to) (a.rule ++ results_code count size a.to) (each_back IsIns loads rest fit.known)) w (λ k hk t. g.gpr (pointer k) (not_0 k) ∙ at k hk t) (g.gpr 4 (λ z. omega (arith, z)) ∙ stack)
+      (λ k hk q l r lr. ap (λ f. f (base k + (i + q) * size k + r)) g.memory ∙ h k hk q l r lr) (subst (λ m. Framed numbers rsp m totals) (sym g.memory) framed) g.value g.bounded
+      (λ v out sums. ap (λ f. f v) g.memory ∙ o v out sums) (λ t ins gs m. keeps t ins (λ r ne. gs r ne ∙ g.gpr r ne) m) in
+      let d = s.0 in
+      let line : Line Q (action_code count size a) c d = line_append Q loads rest c e d x.1 s.1 in (
+        d,
+        line,
+        record {
+          gpr = λ r ne. s.2.gpr r ne ∙ g.gpr r ne;
+          lanes = s.2.lanes;
+          framed = s.2.framed;
+          others = s.2.others;
+          bounded = line_bounded Q (action_code count size a) c d fit.known line bound;
+        },
+      )
+
+  grown_on : (a : Action) (rest : List Action) (sig : ℕ → Local) (totals : ℕ → ℕ) (g : ℕ) → Grown rest (λ q. local_act n base size P numbers a (sig q)) (GrownBy a sig totals) g ≡ Grown (a ∷ rest) sig totals g
+  grown_on a rest sig totals g =
+      let x : ℕ → ℕ = λ q. results_add a.to (value_of n base size P numbers a (sig q)) g in
+      let y : ℕ → ℕ = λ q. adds n base size P numbers rest (local_act n base size P numbers a (sig q)) g in
+      (let z : totals g + sum_below count x + sum_below count y ≡ totals g + (sum_below count x + sum_below count y) = omega arith in z) ∙ ap (λ t. totals g + t) (sum_both count x y)
+
+  no_growth : (totals : ℕ → ℕ) (g : ℕ) → totals g ≡ totals g + sum_below count (λ q. 0)
+  no_growth totals g = let e = no_sum count in omega (arith, e)
+
+  -- a whole block
+  pub actions_line : (i : ℕ) (actions : List Action) (c : Core) (first : Memory) (sig : ℕ → Local) (totals : ℕ → ℕ) → AllKnown n base size P numbers actions → Each (IsFit count size) actions → i + count ≤ n → Points i c.gpr → c.gpr 4 ≡ rsp → Lanes n base size P i count c.memory sig
+      → Framed numbers rsp c.memory totals → Bounded c → Rest i first c.memory → Keeps i c.gpr first → (d : Core) × Line Q (actions_code count size actions) c d × After i c d first (λ q. local n base size P numbers actions (sig q)) (Grown actions sig totals)
+  actions_line i [] c first sig totals known fit w at stack h framed bound o keeps = (c, refl, record { gpr = λ r ne. refl; lanes = h; framed = framed_totals numbers rsp c.memory totals (λ g. totals g + sum_below count (λ q. 0)) (no_growth totals) framed; others = o; bounded = bound })
+  actions_line i (a ∷ rest) c first sig totals known fit w at stack h framed bound o keeps =
+      let x = action_line i a c first sig totals known.0 fit.0 w at stack h framed bound o keeps in
+      let y = actions_line i rest x.0 first (λ q. local_act n base size P numbers a (sig q)) (GrownBy a sig totals) known.1 fit.1 w (λ k hk s. x.2.gpr (pointer k) (not_0 k) ∙ at k hk s) (x.2.gpr 4 (λ z. omega (arith, z)) ∙ stack) x.2.lanes x.2.framed x.2.bounded x.2.others
+      (λ u ins g. keeps u ins (λ r ne. g r ne ∙ x.2.gpr r ne)) in (
+        y.0,
+        line_append Q (action_code count size a) (actions_code count size rest) c x.0 y.0 x.1 y.1,
+        record {
+          gpr = λ r ne. y.2.gpr r ne ∙ x.2.gpr r ne;
+          lanes = y.2.lanes;
+          framed = framed_totals numbers rsp y.0.memory _ (Grown (a ∷ rest) sig totals) (grown_on a rest sig totals) y.2.framed;
           others = y.2.others;
+          bounded = y.2.bounded;
         },
       )

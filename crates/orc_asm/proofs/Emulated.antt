@@ -1,177 +1,155 @@
--- What emulation does at an addition of bytes, and at several elements.
-use Rattle.std.proofs.Common.{◌≡◌, ℕ, zero, suc, ◌+◌, ◌*◌, ◌%◌, ◌^◌, ◌<◌, ◌≤◌, true, List, [], ◌∷◌, length, Some, is_some, Result, Ok, refl, sym, ap, ◌∙◌, subst, arith, ⊎_elim}
-use Rattle.std.proofs.lemmas.Bool.{cases_lt, true≢false}
-use Rattle.orc_bits.specs.Memory.{Memory, bind, read, value, number, fill, store, IsMapped}
-use Rattle.orc_bits.specs.Lanes.{byte_of}
+-- What emulation does at an instruction on arrays.
+use Rattle.std.proofs.Common.{◌≡◌, ℕ, ◌+◌, ◌*◌, ◌/◌, ◌%◌, ◌^◌, ◌<◌, true, if◌then◌else◌, [], ◌∷◌, length, nat_lt, Option, Some, None, Result, Ok, refl, sym, ap, ◌∙◌, subst, arith}
+use Rattle.std.proofs.lemmas.Bool.{true≢false}
+use Rattle.std.proofs.lemmas.Bool.Decides.{nat_tests}
+use Rattle.orc_bits.specs.Memory.{Memory, value, fill, store, IsMapped}
+use Rattle.orc_bits.specs.Lanes.{byte_of, change}
 use Rattle.orc_bits.proofs.Memories.{AreMapped, store_mapped}
-use Rattle.orc_ops.specs.declared.opcode.Op.{Op}
-use Rattle.orc_ops.specs.declared.opcode.Op.TheVariants.{Addb}
-use Rattle.orc_ops.specs.Formula.{formula}
+use Rattle.orc_ops.specs.Table.{size_of_source}
 use Rattle.orc_program.specs.declared.program.VarKind.{VarKind}
 use Rattle.orc_program.specs.declared.program.VarKind.TheVariants as kind
 use Rattle.orc_program.specs.declared.program.Operand.{Operand}
 use Rattle.orc_program.specs.declared.program.Operand.TheVariants as operand
 use Rattle.orc_program.specs.declared.program.Insn.{Insn}
 use Rattle.orc_program.specs.declared.call.Call.{Call}
-use Rattle.orc_program.specs.Program.{FunctionValue, var_at, is_array, is_array_kind}
-use Rattle.orc_program.specs.Slots.{slot_of}
-use Rattle.orc_program.specs.Meaning.{State, Gap, cell, sub_lane, lanewise, go_on, or_gap, gap_at, read_cell, read_var, read_source, read_sources, write_var, write_result, write_results, act, element, row_of, start}
+use Rattle.orc_program.specs.Program.{FunctionValue, var_at, is_array, is_array_kind, same_kind}
+use Rattle.orc_program.specs.Meaning.{State, Gap, param_at, cell, sub_lane, lanewise, go_on, or_gap, gap_at, read_cell, read_var, read_source, read_sources, write_var, write_result, write_results, act}
+use Rattle.orc_program.specs.Checks.{number_in}
 use Rattle.x86_flow.proofs.Moves.{IsFill, fill_is}
-use Rattle.orc_asm.specs.Code.{Addition}
-use Rattle.orc_asm.proofs.Cells.{Local, Lanes, Others, Separate, Low, local_add, local, store_lanes, store_others, others_more, cell_apart}
+use Rattle.orc_asm.proofs.Digits.{digit, value_digits}
+use Rattle.orc_asm.proofs.SubLanes.{cut_sub_lane, same_lanewise}
 
-pub value_one : (mem : Memory) (a z : ℕ) → a < 2 ^ 64 → mem a ≡ Some z → value 1 mem a ≡ Some z
-value_one mem a z low e =
-    ap (λ o. bind (bind o (λ b. bind (read 0 mem (a + 1)) (λ bs. Some (b ∷ bs)))) (λ bs. Some (number bs))) (ap mem (let q : a % 2 ^ 64 ≡ a = omega (arith, low) in q) ∙ e)
-    ∙ ap Some (let q : z + 256 * 0 ≡ z = omega arith in q)
-
--- the variable at a place is an array of bytes
-pub record IsBytes (f : FunctionValue) (p : ℕ) : Type 0 where
+-- the variable at a place is an array of elements of so many bytes
+pub record IsCells (f : FunctionValue) (p bytes : ℕ) : Type 0 where
   pub inside : p < length f.vars
   pub array : is_array (var_at f.vars p) ≡ true
-  pub size : (var_at f.vars p).size ≡ 1
+  pub size : (var_at f.vars p).size ≡ bytes
 
--- the instruction adds the bytes of two arrays
-pub record Adds (f : FunctionValue) (insn : Insn) (d p q : ℕ) : Type 0 where
-  pub op : insn.op ≡ Addb
-  pub prefix : insn.prefix ≡ 1
-  pub results : insn.results.items ≡ operand.Var d ∷ []
-  pub sources : insn.sources.items ≡ operand.Var p ∷ operand.Var q ∷ []
-  pub to : IsBytes f d
-  pub dest : (var_at f.vars d).kind ≡ kind.Dest
-  pub left : IsBytes f p
-  pub right : IsBytes f q
+abbrev pub IsDest : FunctionValue → ℕ → Type 0
+IsDest f d = (var_at f.vars d).kind ≡ kind.Dest
 
-abbrev Pair : Type 0
-Pair = (ℕ → ℕ) × (ℕ → ℕ)
+-- the variable at a place is an accumulator of so many bytes
+pub record IsSum (f : FunctionValue) (p bytes : ℕ) : Type 0 where
+  pub inside : p < length f.vars
+  pub sum : (var_at f.vars p).kind ≡ kind.Accumulator
+  pub size : (var_at f.vars p).size ≡ bytes
 
-abbrev both : (ℕ → ℕ) → (ℕ → ℕ) → Result Pair Gap
-both a b = Ok (a, b)
+-- without temps that are set
+abbrev pub state : Memory → (ℕ → ℕ) → State
+state mem sums = record { memory = mem; temps = λ p. 0; sums = sums }
 
-abbrev sum_of : ℕ → ℕ → ℕ
-sum_of x y = (lanewise Addb 1 (sub_lane 8 x) (sub_lane 8 y)).0
+-- the number that a pattern's operand stands for in a call
+abbrev pub meant : FunctionValue → Call → Operand → ℕ
+meant f call (operand.Number n) = n
+meant f call (operand.Var p) = param_at f call p
 
-sum_is : (x y : ℕ) → byte_of 1 (sum_of x y) 0 ≡ (x + y) % 256
-unfolding formula
-sum_is x y = omega arith
+byte_below : (n v j : ℕ) → j < n → byte_of n v j ≡ digit v j
+byte_below n v j l = let t : nat_lt j n ≡ true = grind (arith, nat_tests) in ap (λ b. if b then v / 256 ^ j % 256 else 0) t
+
+-- what a success has
+abbrev some_or : Option Operand → Operand
+some_or (Some o) = o
+some_or None = operand.Number 0
+
+abbrev IsThere : Option Operand → Type 0
+IsThere (Some o) = Unit {0}
+IsThere None = ⊥
+
+not_there : {m : Operand} → None ≡ Some m → ⊥
+not_there e = subst IsThere (sym e) tt
 
 module _ (f : FunctionValue) (call : Call) (r i : ℕ) where
-  cell_small : (p : ℕ) → cell f call p r i < 2 ^ 64
-  cell_small p = omega arith
+  -- the cell holds a number's bytes
+  abbrev pub Holds : ℕ → ℕ → Memory → ℕ → Type 0
+  Holds p n mem x = (j : ℕ) → j < n → mem (cell f call p r i + j) ≡ Some (digit x j)
 
-  reads_cell : (p x : ℕ) (mem : Memory) → IsBytes f p → mem (cell f call p r i) ≡ Some x → read_cell f call r i p (start mem) ≡ Ok x
-  reads_cell p x mem is h =
-      ap (λ n. or_gap (value n mem (cell f call p r i)) (gap_at f call r i p (start mem))) is.size
-      ∙ ap (λ o. or_gap o (gap_at f call r i p (start mem))) (value_one mem (cell f call p r i) x (cell_small p) h)
+  abbrev pub IsLow : ℕ → ℕ → Type 0
+  IsLow p n = cell f call p r i + n < 2 ^ 62
 
-  reads_var : (p x : ℕ) (mem : Memory) (k : VarKind) → is_array_kind k ≡ true → read_cell f call r i p (start mem) ≡ Ok x → read_var f call r i 8 (start mem) p k ≡ Ok (sub_lane 8 x)
-  reads_var p x mem kind.Source a e = ap (λ o. go_on o (λ v. Ok (sub_lane 8 v))) e
-  reads_var p x mem kind.Dest a e = ap (λ o. go_on o (λ v. Ok (sub_lane 8 v))) e
-  reads_var p x mem kind.Temp a e = absurd (true≢false (sym a))
-  reads_var p x mem kind.Param a e = absurd (true≢false (sym a))
-  reads_var p x mem kind.Const a e = absurd (true≢false (sym a))
-  reads_var p x mem kind.Accumulator a e = absurd (true≢false (sym a))
+  reads_cell : (p n x : ℕ) (s : State) → IsCells f p n → IsLow p n → Holds p n s.memory x → read_cell f call r i p s ≡ Ok (x % 256 ^ n)
+  reads_cell p n x s is low h =
+      ap (λ m. or_gap (value m s.memory (cell f call p r i)) (gap_at f call r i p s)) is.size
+      ∙ ap (λ o. or_gap o (gap_at f call r i p s)) (value_digits n s.memory (cell f call p r i) x (omega (arith, low)) h)
 
-  reads : (p x : ℕ) (mem : Memory) → IsBytes f p → mem (cell f call p r i) ≡ Some x → read_source f call r i 8 (start mem) (operand.Var p) ≡ Ok (sub_lane 8 x)
-  reads p x mem is h = reads_var p x mem (var_at f.vars p).kind is.array (reads_cell p x mem is h)
+  reads_var : (w p x : ℕ) (s : State) (k : VarKind) → is_array_kind k ≡ true → read_cell f call r i p s ≡ Ok x → read_var f call r i w s p k ≡ Ok (sub_lane w x)
+  reads_var w p x s kind.Source a e = ap (λ o. go_on o (λ v. Ok (sub_lane w v))) e
+  reads_var w p x s kind.Dest a e = ap (λ o. go_on o (λ v. Ok (sub_lane w v))) e
+  reads_var w p x s kind.Temp a e = absurd (true≢false (sym a))
+  reads_var w p x s kind.Param a e = absurd (true≢false (sym a))
+  reads_var w p x s kind.Const a e = absurd (true≢false (sym a))
+  reads_var w p x s kind.Accumulator a e = absurd (true≢false (sym a))
 
-  writes : (d v : ℕ) (mem : Memory) → IsBytes f d → (var_at f.vars d).kind ≡ kind.Dest → IsMapped mem (cell f call d r i) → write_result f call r i v (start mem) (operand.Var d) ≡ Ok (start (fill 1 mem (cell f call d r i) (byte_of 1 v)))
-  writes d v mem is dest there =
+  -- what a source of w bytes gives to k sub-lanes
+  abbrev pub Gives : ℕ → ℕ → State → Operand → (ℕ → ℕ) → Type 0
+  Gives w k s o g = (a : ℕ → ℕ) × (read_source f call r i (8 * w) s o ≡ Ok a) × ((q : ℕ) → q < k → a q ≡ g q)
+
+  pub array_gives : (p w k x : ℕ) (s : State) → IsCells f p (w * k) → IsLow p (w * k) → Holds p (w * k) s.memory x → Gives w k s (operand.Var p) (sub_lane (8 * w) x)
+  array_gives p w k x s is low h = (
+    sub_lane (8 * w) (x % 256 ^ (w * k)),
+    reads_var (8 * w) p (x % 256 ^ (w * k)) s (var_at f.vars p).kind is.array (reads_cell p (w * k) x s is low h),
+    λ q l. cut_sub_lane w k q x l,
+  )
+
+  -- the number of a parameter or of a constant
+  scalar_read : (w p : ℕ) (s : State) (m : Operand) (k : VarKind) → (if same_kind kind.Param k then Some (operand.Var p) else (if same_kind kind.Const k then Some (operand.Number (var_at f.vars p).number) else None)) ≡ Some m
+      → read_var f call r i w s p k ≡ Ok (λ q. meant f call m)
+  scalar_read w p s m kind.Param e = ap (λ o. Ok (λ q. meant f call (some_or o))) e
+  scalar_read w p s m kind.Const e = ap (λ o. Ok (λ q. meant f call (some_or o))) e
+  scalar_read w p s m kind.Source e = absurd (not_there e)
+  scalar_read w p s m kind.Dest e = absurd (not_there e)
+  scalar_read w p s m kind.Temp e = absurd (not_there e)
+  scalar_read w p s m kind.Accumulator e = absurd (not_there e)
+
+  number_read : (w : ℕ) (s : State) (o m : Operand) → number_in f.vars o ≡ Some m → read_source f call r i w s o ≡ Ok (λ q. meant f call m)
+  number_read w s (operand.Number n) m e = ap (λ o. Ok (λ q. meant f call (some_or o))) e
+  number_read w s (operand.Var p) m e = scalar_read w p s m (var_at f.vars p).kind e
+
+  pub number_gives : (w k : ℕ) (s : State) (o m : Operand) → number_in f.vars o ≡ Some m → Gives w k s o (λ q. meant f call m)
+  number_gives w k s o m e = ((λ q. meant f call m), number_read (8 * w) s o m e, λ q l. refl)
+
+  -- an array's number is written
+  pub array_takes : (d n v : ℕ) (mem : Memory) (sums : ℕ → ℕ) → IsCells f d n → IsDest f d → IsLow d n → ((j : ℕ) → j < n → IsMapped mem (cell f call d r i + j))
+      → (end : Memory) × (write_result f call r i v (state mem sums) (operand.Var d) ≡ Ok (state end sums)) × IsFill n mem (cell f call d r i) (digit v) end
+  array_takes d n v mem sums is dest low there =
       let a = cell f call d r i in
-      let mapped : AreMapped 1 mem a = λ j l. subst (λ x. IsMapped mem x) (let q : a ≡ (a + j) % 2 ^ 64 = omega (arith, l, cell_small d) in q) there in
-      ap (λ k. write_var f call r i v (start mem) d k) dest
-      ∙ ap (λ n. go_on (or_gap (store n mem a (byte_of n v)) (gap_at f call r i d (start mem))) (λ m. Ok (record (start mem) { memory = m }))) is.size
-      ∙ ap (λ o. go_on (or_gap o (gap_at f call r i d (start mem))) (λ m. Ok (record (start mem) { memory = m }))) (store_mapped 1 mem a (byte_of 1 v) mapped)
+      let s = state mem sums in
+      let mapped : AreMapped n mem a = λ j l. subst (λ x. IsMapped mem x) (let q : a + j ≡ (a + j) % 2 ^ 64 = omega (arith, l, low) in q) (there j l) in (
+        fill n mem a (byte_of n v),
+        ap (λ k. write_var f call r i v s d k) dest
+            ∙ ap (λ m. go_on (or_gap (store m mem a (byte_of m v)) (gap_at f call r i d s)) (λ m. Ok (record s { memory = m }))) is.size
+            ∙ ap (λ o. go_on (or_gap o (gap_at f call r i d s)) (λ m. Ok (record s { memory = m }))) (store_mapped n mem a (byte_of n v) mapped),
+        fill_is n mem a (byte_of n v) (digit v) (omega (arith, low)) (λ j l. byte_below n v j l),
+      )
 
-  -- one instruction
-  pub act_adds : (insn : Insn) (d p q x y : ℕ) (mem : Memory) → Adds f insn d p q → mem (cell f call p r i) ≡ Some x → mem (cell f call q r i) ≡ Some y → IsMapped mem (cell f call d r i) → cell f call d r i < 2 ^ 62
-      → (end : Memory) × (act f call r i insn (start mem) ≡ Ok (start end)) × IsFill 1 mem (cell f call d r i) (λ j. (x + y) % 256) end
+  -- and one is added to a sum
+  pub sum_takes : (p n v : ℕ) (mem : Memory) (sums : ℕ → ℕ) → IsSum f p n → write_result f call r i v (state mem sums) (operand.Var p) ≡ Ok (state mem (change sums p ((sums p + v) % 2 ^ (8 * n))))
+  sum_takes p n v mem sums is =
+      ap (λ k. write_var f call r i v (state mem sums) p k) is.sum
+      ∙ ap (λ m. Ok (state mem (change sums p ((sums p + v) % 2 ^ (8 * m))))) is.size
+
+  abbrev Pair : Type 0
+  Pair = (ℕ → ℕ) × (ℕ → ℕ)
+
+  -- what an instruction writes whose sources give these numbers to each sub-lane
+  abbrev pub Writes : Insn → State → (ℕ → ℕ) → (ℕ → ℕ) → Type 0
+  Writes insn s a b = act f call r i insn s ≡ write_results f call r i (lanewise insn.op insn.prefix a b) s insn.results.items
+
+  -- an instruction with one source
+  pub act_one : (insn : Insn) (s : State) (x : Operand) (g : ℕ → ℕ) → insn.sources.items ≡ x ∷ [] → Gives (size_of_source insn.op 0) insn.prefix s x g → Writes insn s g (λ q. 0)
   unfolding act
-  act_adds insn d p q x y mem adds hp hq there low =
-      let s = start mem in
-      let v = sum_of x y in
-      let a = cell f call d r i in
-      let goes : Op → ℕ → List Operand → List Operand → Result State Gap = λ op prefix results sources. go_on (read_sources f call r i op s sources) (λ z. write_results f call r i (lanewise op prefix z.0 z.1) s results) in
-      let shape : act f call r i insn s ≡ goes Addb 1 (operand.Var d ∷ []) (operand.Var p ∷ operand.Var q ∷ []) =
-      ap (λ op. goes op insn.prefix insn.results.items insn.sources.items) adds.op
-      ∙ ap (λ k. goes Addb k insn.results.items insn.sources.items) adds.prefix
-      ∙ ap (λ os. goes Addb 1 os insn.sources.items) adds.results
-      ∙ ap (λ os. goes Addb 1 (operand.Var d ∷ []) os) adds.sources in
-      let first : goes Addb 1 (operand.Var d ∷ []) (operand.Var p ∷ operand.Var q ∷ []) ≡ write_result f call r i v s (operand.Var d) =
-      ap (λ o. go_on {A = Pair} (go_on o (λ a. go_on (read_source f call r i 8 s (operand.Var q)) (λ b. both a b))) (λ z. write_result f call r i (lanewise Addb 1 z.0 z.1).0 s (operand.Var d))) (reads p x mem adds.left hp)
-      ∙ ap (λ o. go_on {A = Pair} (go_on o (λ b. both (sub_lane 8 x) b)) (λ z. write_result f call r i (lanewise Addb 1 z.0 z.1).0 s (operand.Var d))) (reads q y mem adds.right hq) in (
-        fill 1 mem a (byte_of 1 v),
-        shape ∙ first ∙ writes d v mem adds.to adds.dest there,
-        fill_is 1 mem a (byte_of 1 v) (λ j. (x + y) % 256) (omega (arith, low)) (λ j l. ap (byte_of 1 v) (let e : j ≡ 0 = omega (arith, l) in e) ∙ sum_is x y),
-      )
+  act_one insn s x g is a =
+      let write : Pair → Result State Gap = λ z. write_results f call r i (lanewise insn.op insn.prefix z.0 z.1) s insn.results.items in
+      let none : ℕ → ℕ = λ q. 0 in
+      ap (λ os. go_on (read_sources f call r i insn.op s os) write) is
+      ∙ ap (λ o. go_on {A = Pair} (go_on o (λ a. Ok (a, none))) write) a.1
+      ∙ ap (λ v. write_results f call r i v s insn.results.items) (same_lanewise insn.op insn.prefix a.0 none g none a.2 (λ q l. refl))
 
--- the instruction is this addition of slots
-pub record IsAddition (f : FunctionValue) (insn : Insn) (a : Addition) : Type 0 where
-  pub d : ℕ
-  pub p : ℕ
-  pub q : ℕ
-  pub adds : Adds f insn d p q
-  pub to : slot_of f.vars d ≡ a.to
-  pub left : slot_of f.vars p ≡ a.left
-  pub right : slot_of f.vars q ≡ a.right
-
-abbrev pub AreAdditions : FunctionValue → List Insn → List Addition → Type 0
-AreAdditions f [] [] = Unit {0}
-AreAdditions f (insn ∷ insns) (a ∷ rest) = IsAddition f insn a × AreAdditions f insns rest
-AreAdditions f [] (a ∷ rest) = ⊥
-AreAdditions f (insn ∷ insns) [] = ⊥
-
-module _ (f : FunctionValue) (call : Call) (base : ℕ → ℕ) (P : ℕ → Type 0) (separate : Separate call.n base P) (low : Low call.n base P)
-    (has : (p : ℕ) → IsBytes f p → P (slot_of f.vars p)) (cell_is : (p : ℕ) → IsBytes f p → (i : ℕ) → i < call.n → cell f call p 0 i ≡ base (slot_of f.vars p) + i) where
-  -- one instruction on one element
-  addition_lanes : (e : ℕ) (insn : Insn) (a : Addition) (mem : Memory) (l : Local) → IsAddition f insn a → e < call.n → Lanes call.n base P e 1 mem (λ q. l)
-      → (end : Memory) × (act f call 0 e insn (start mem) ≡ Ok (start end)) × Lanes call.n base P e 1 end (λ q. local_add call.n base P a l) × Others call.n base P e 1 mem end
-  addition_lanes e insn a mem l is le h =
-      let at : (p k : ℕ) → IsBytes f p → slot_of f.vars p ≡ k → cell f call p 0 e ≡ base k + e = λ p k b s. cell_is p b e le ∙ ap (λ t. base t + e) s in
-      let here : (p k : ℕ) → IsBytes f p → slot_of f.vars p ≡ k → mem (cell f call p 0 e) ≡ Some (l k) = λ p k b s.
-      ap mem (at p k b s ∙ (let t : base k + e ≡ base k + (e + 0) = omega arith in t)) ∙ h k (subst P s (has p b)) 0 (omega arith) in
-      let hd : P a.to = subst P is.to (has is.d is.adds.to) in
-      let there : IsMapped mem (cell f call is.d 0 e) = ap (λ o. is_some o) (here is.d a.to is.adds.to is.to) in
-      let x = act_adds f call 0 e insn is.d is.p is.q (l a.left) (l a.right) mem is.adds (here is.p a.left is.adds.left is.left) (here is.q a.right is.adds.right is.right) there
-      (omega (arith, at is.d a.to is.adds.to is.to, low a.to hd e le)) in
-      let filled : IsFill 1 mem (base a.to + e) (λ j. (l a.left + l a.right) % 256) x.0 = subst (λ t. IsFill 1 mem t (λ j. (l a.left + l a.right) % 256) x.0) (at is.d a.to is.adds.to is.to) x.2 in (
-        x.0,
-        x.1,
-        store_lanes call.n base P separate low e 1 mem x.0 (λ q. l) a.to (λ j. (l a.left + l a.right) % 256) hd (omega (arith, le)) h filled,
-        store_others call.n base P separate low e 1 mem x.0 a.to (λ j. (l a.left + l a.right) % 256) hd filled,
-      )
-
-  element_lanes : (e : ℕ) (insns : List Insn) (additions : List Addition) (mem : Memory) (l : Local) → AreAdditions f insns additions → e < call.n → Lanes call.n base P e 1 mem (λ q. l)
-      → (end : Memory) × (element f call 0 e insns (start mem) ≡ Ok (start end)) × Lanes call.n base P e 1 end (λ q. local call.n base P additions l) × Others call.n base P e 1 mem end
-  element_lanes e [] [] mem l is le h = (mem, refl, h, λ a m. refl)
-  element_lanes e [] (a ∷ rest) mem l is le h = absurd is
-  element_lanes e (insn ∷ insns) [] mem l is le h = absurd is
-  element_lanes e (insn ∷ insns) (a ∷ rest) mem l is le h =
-      let x = addition_lanes e insn a mem l is.0 le h in
-      let y = element_lanes e insns rest x.0 (local_add call.n base P a l) is.1 le x.2 in
-      (y.0, ap (λ o. go_on o (element f call 0 e insns)) x.1 ∙ y.1, y.2, others_more call.n base P separate low e 1 mem x.0 y.0 x.3 y.3)
-
-  -- several elements, one after another
-  pub row_lanes : (additions : List Addition) → AreAdditions f f.insns additions → (first : Memory) (i : ℕ) (mem : Memory) (sig : ℕ → Local) → row_of f call 0 i (start first) ≡ Ok (start mem) → (c : ℕ) → i + c ≤ call.n → Lanes call.n base P i c mem sig
-      → (end : Memory) × (row_of f call 0 (c + i) (start first) ≡ Ok (start end)) × Lanes call.n base P i c end (λ q. local call.n base P additions (sig q)) × Others call.n base P i c mem end
-  row_lanes additions is first i mem sig em zero w h = (mem, ap (λ n. row_of f call 0 n (start first)) (let e : 0 + i ≡ i = omega arith in e) ∙ em, λ k hk q l. absurd (omega (arith, l)), λ a m. refl)
-  row_lanes additions is first i mem sig em (suc c) w h =
-      let before = row_lanes additions is first i mem sig em c (omega (arith, w)) (λ k hk q l. h k hk q (omega (arith, l))) in
-      let e = i + c in
-      let le : e < call.n = omega (arith, w) in
-      let here : Lanes call.n base P e 1 before.0 (λ q. sig c) = λ k hk q l.
-      ap before.0 (let p : base k + (e + q) ≡ base k + (i + c) = omega (arith, l) in p)
-      ∙ before.3 (base k + (i + c)) (λ at. cell_apart call.n base P separate low k at.0 (i + c) (i + at.2) hk at.1 le (omega (arith, at.3, w)) (λ s. omega (arith, s, at.3)) at.4)
-      ∙ h k hk c (omega arith) in
-      let one = element_lanes e f.insns additions before.0 (sig c) is le here in
-      let step : row_of f call 0 (suc c + i) (start first) ≡ Ok (start one.0) =
-      ap (λ n. row_of f call 0 n (start first)) (let p : suc c + i ≡ suc (c + i) = omega arith in p)
-      ∙ ap (λ o. go_on o (element f call 0 (c + i) f.insns)) before.1 ∙ ap (λ n. element f call 0 n f.insns (start before.0)) (let p : c + i ≡ i + c = omega arith in p) ∙ one.1 in
-      let lanes : Lanes call.n base P i (suc c) one.0 (λ q. local call.n base P additions (sig q)) = λ k hk q l.
-      ⊎_elim (λ s. one.3 (base k + (i + q)) (λ at. cell_apart call.n base P separate low k at.0 (i + q) (e + at.2) hk at.1 (omega (arith, l, w)) (omega (arith, at.3, le)) (λ r. omega (arith, r, s)) at.4) ∙ before.2 k hk q s)
-      (λ g. let p : q ≡ c = omega (arith, g, l) in ap one.0 (let r : base k + (i + q) ≡ base k + (e + 0) = omega (arith, p) in r) ∙ one.2 k hk 0 (omega arith) ∙ ap (λ x. Some (local call.n base P additions (sig x) k)) (sym p))
-      (cases_lt q c) in
-      let others : Others call.n base P i (suc c) mem one.0 = λ a m.
-      one.3 a (λ at. m (at.0, at.1, c, omega arith, at.4 ∙ omega (arith, at.3)))
-      ∙ before.3 a (λ at. m (at.0, at.1, at.2, omega (arith, at.3), at.4)) in
-      (one.0, step, lanes, others)
+  -- and one with two
+  pub act_two : (insn : Insn) (s : State) (x y : Operand) (g h : ℕ → ℕ) → insn.sources.items ≡ x ∷ y ∷ [] → Gives (size_of_source insn.op 0) insn.prefix s x g → Gives (size_of_source insn.op 1) insn.prefix s y h → Writes insn s g h
+  unfolding act
+  act_two insn s x y g h is a b =
+      let write : Pair → Result State Gap = λ z. write_results f call r i (lanewise insn.op insn.prefix z.0 z.1) s insn.results.items in
+      ap (λ os. go_on (read_sources f call r i insn.op s os) write) is
+      ∙ ap (λ o. go_on {A = Pair} (go_on o (λ a. go_on (read_source f call r i (8 * size_of_source insn.op 1) s y) (λ b. Ok (a, b)))) write) a.1
+      ∙ ap (λ o. go_on {A = Pair} (go_on o (λ b. Ok (a.0, b))) write) b.1
+      ∙ ap (λ v. write_results f call r i v s insn.results.items) (same_lanewise insn.op insn.prefix a.0 b.0 g h a.2 b.2)

@@ -1,24 +1,26 @@
 -- Plans of functions are small.
-use Rattle.std.proofs.Common.{◌≡◌, ℕ, suc, ◌+◌, ◌<◌, ◌≤◌, ◌&&◌, nat_le, nat_lt, true, false, if◌then◌else◌, List, [], ◌∷◌, ◌++◌, length, None, slice_index, refl, ap, subst, arith, inl, inr, ⊎_elim, length-append, ◌-◌}
+use Rattle.std.proofs.Common.{◌≡◌, ℕ, suc, ◌+◌, ◌*◌, ◌-◌, ◌<◌, ◌≤◌, ◌&&◌, nat_le, nat_lt, true, if◌then◌else◌, List, [], ◌∷◌, ◌++◌, length, slice_index, refl, sym, ap, subst, arith, inl, inr, ⊎_elim, length-append}
 use Rattle.std.proofs.lemmas.Bool.{cases_lt, leb-false, or_parts}
 use Rattle.std.proofs.lemmas.List.{get_or_past}
 use Rattle.orc_program.specs.declared.program.Var.{Var}
 use Rattle.orc_program.specs.declared.program.VarKind.TheVariants as kind
 use Rattle.orc_program.specs.declared.program.Insn.{Insn}
-use Rattle.orc_program.specs.declared.fault.Fault.TheVariants as fault
 use Rattle.orc_program.specs.Program.{FunctionValue, var_at, no_var, count_of, places_of}
-use Rattle.orc_program.specs.Slots.{slot_of}
-use Rattle.orc_program.specs.Checks.{check, first_of, is_bad_prefix, results_fault, sources_fault, is_too_many, insn_fault, patterns_of, most_insns, most_patterns}
+use Rattle.orc_program.specs.Slots.{slot_of, size_of_slot}
+use Rattle.orc_program.specs.Checks.{insn_fault, patterns_of, most_insns, most_patterns}
 use Rattle.orc_program.specs.Kept.{is_function, all_pass, is_shaped, has_no_fault}
 use Rattle.orc_program.proofs.Apart.{IsSize}
 use Rattle.orc_program.proofs.Sizes.{both, kept_of, size_kept}
 use Rattle.x86_ins.specs.Way.{Each}
+use Rattle.x86_flow.specs.Moves.{IsWidth}
 use Rattle.orc_asm.specs.Subject.{Call}
-use Rattle.orc_asm.specs.Code.{Addition, IsSmall, plan_of}
-use Rattle.orc_asm.proofs.Emulated.{IsBytes, AreAdditions}
-use Rattle.orc_asm.proofs.Slots.{Limits, slot_is}
+use Rattle.orc_asm.specs.Code.{Action, Source, FromArray, FromPattern, Target, ToArray, ToSum, AreActions, patterns_in, plan_with}
+use Rattle.orc_asm.proofs.Emulated.{IsCells}
+use Rattle.orc_asm.proofs.Slots.{Limits, limits, SlotIs, slot_is}
+use Rattle.orc_asm.proofs.Block.{IsMovedFrom, IsMovedTo}
 use Rattle.orc_asm.proofs.Turn.{IsSlot}
-use Rattle.orc_asm.proofs.Additions.{none_left, unchecked}
+use Rattle.orc_asm.proofs.Passing.{checked}
+use Rattle.orc_asm.proofs.Counts.{IsFromSlot, IsToSlot, IsMovable}
 use Rattle.orc_asm.proofs.Sizes.{Small}
 
 -- ---- sizes
@@ -38,18 +40,8 @@ any_size f h q = ⊎_elim
 -- ---- the number of instructions
 
 not_many : (vars : List Var) (earlier : List Insn) (insn : Insn) → has_no_fault (insn_fault vars earlier insn) ≡ true → length earlier < 100
-unfolding insn_fault
 not_many vars earlier insn h =
-    let prefix = check (is_bad_prefix insn.op insn.prefix) fault.BadPrefix in
-    let results = results_fault vars insn.op insn.prefix 0 insn.results.items in
-    let sources = sources_fault vars earlier insn.op insn.prefix 0 insn.sources.items in
-    let many = check (is_too_many vars earlier insn) fault.TooMany in
-    let a = none_left prefix (first_of (results ∷ sources ∷ many ∷ [])) h in
-    let b = none_left results (first_of (sources ∷ many ∷ [])) a.1 in
-    let c = none_left sources (first_of (many ∷ [])) b.1 in
-    let d = none_left many None c.1 in
-    let e : is_too_many vars earlier insn ≡ false = unchecked (is_too_many vars earlier insn) fault.TooMany d.0 in
-    leb-false most_insns (length earlier) (or_parts (nat_le most_insns (length earlier)) (nat_lt most_patterns (length (patterns_of vars (earlier ++ insn ∷ [])))) e).0
+    leb-false most_insns (length earlier) (or_parts (nat_le most_insns (length earlier)) (nat_lt most_patterns (length (patterns_of vars (earlier ++ insn ∷ [])))) (checked vars earlier insn h).few).0
 
 few_pass : (vars : List Var) (earlier insns : List Insn) → all_pass vars earlier insns ≡ true → length earlier ≤ 100 → length earlier + length insns ≤ 100
 few_pass vars earlier [] h l = omega (arith, l)
@@ -69,31 +61,58 @@ few_slots dests sources k d s (inr l) = omega (arith, l.1, s)
 no_call : Call
 no_call = record { n = 0; m = 0; base = λ k. 0; stride = λ k. 0; param = λ k. 0 }
 
-module _ (f : FunctionValue) (few : Limits f) where
-  slot_small : (p k : ℕ) → IsBytes f p → slot_of f.vars p ≡ k → k < 12
-  slot_small p k h e = subst (λ t. t < 12) e (few_slots (count_of kind.Dest f.vars) (count_of kind.Source f.vars) (slot_of f.vars p) few.dests few.sources (slot_is f no_call few p h.inside h.array).slot)
+-- ---- actions
 
-  small_slots : (insns : List Insn) (additions : List Addition) → AreAdditions f insns additions → Each IsSmall additions
-  small_slots [] [] h = tt
-  small_slots [] (a ∷ rest) h = absurd h
-  small_slots (insn ∷ insns) [] h = absurd h
-  small_slots (insn ∷ insns) (a ∷ rest) h = (
-    (slot_small h.0.d a.to h.0.adds.to h.0.to, slot_small h.0.p a.left h.0.adds.left h.0.left, slot_small h.0.q a.right h.0.adds.right h.0.right),
-    small_slots insns rest h.1,
-  )
+pub lanes_fit : (k w : ℕ) → w * k ≤ 8 → 1 * k * w ≤ 16
+lanes_fit k w h = omega (arith, h)
 
-  same_length : (insns : List Insn) (additions : List Addition) → AreAdditions f insns additions → length additions ≡ length insns
-  same_length [] [] h = refl
-  same_length [] (a ∷ rest) h = absurd h
-  same_length (insn ∷ insns) [] h = absurd h
-  same_length (insn ∷ insns) (a ∷ rest) h = ap suc (same_length insns rest h.1)
+one_width : (n : ℕ) → IsSize n → IsWidth (1 * n)
+one_width n (inl e) = inl (omega (arith, e))
+one_width n (inr (inl e)) = inr (inl (omega (arith, e)))
+one_width n (inr (inr (inl e))) = inr (inr (inl (omega (arith, e))))
+one_width n (inr (inr (inr e))) = inr (inr (inr (inl (omega (arith, e)))))
 
-  pub small_plan : is_function f ≡ true → (additions : List Addition) → AreAdditions f f.insns additions → Small (record (plan_of f) { additions = additions })
-  small_plan h additions are = record {
-    dests = few.dests;
-    sources = few.sources;
-    accs = few.accs;
-    size = λ k. any_size f h (if nat_lt k 4 then slice_index (places_of kind.Dest f.vars) k else slice_index (places_of kind.Source f.vars) (k - 4));
-    slots = small_slots f.insns additions are;
-    few = omega (arith, same_length f.insns additions are, few_pass f.vars [] f.insns (kept_of f h).insns (omega arith));
-  }
+module _ (f : FunctionValue) (h : is_function f ≡ true) where
+  few : Limits f
+  few = limits f h
+
+  slot_there : (p b : ℕ) → IsCells f p b → SlotIs f no_call p
+  slot_there p b is = slot_is f no_call few p is.inside is.array
+
+  pub slot_small : (p b : ℕ) → IsCells f p b → slot_of f.vars p < 12
+  slot_small p b is = few_slots (count_of kind.Dest f.vars) (count_of kind.Source f.vars) (slot_of f.vars p) few.dests few.sources (slot_there p b is).slot
+
+  pub slot_width : (p b : ℕ) → IsCells f p b → IsWidth (1 * size_of_slot f.vars (slot_of f.vars p))
+  slot_width p b is = subst (λ n. IsWidth (1 * n)) (sym (slot_there p b is).size) (one_width (var_at f.vars p).size (size_kept f h p is.inside))
+
+  pub moved_from : (ss : List Source) → Each (IsFromSlot (size_of_slot f.vars)) ss → Each (IsMovedFrom 1 (size_of_slot f.vars)) ss
+  moved_from [] h = tt
+  moved_from (FromArray k ∷ ss) h = (h.0.0, moved_from ss h.1)
+  moved_from (FromPattern j ∷ ss) h = (tt, moved_from ss h.1)
+
+  pub moved_to : (ts : List Target) → Each (IsToSlot (size_of_slot f.vars)) ts → Each (IsMovedTo 1 (size_of_slot f.vars)) ts
+  moved_to [] h = tt
+  moved_to (ToArray k ∷ ts) h = (h.0.0, moved_to ts h.1)
+  moved_to (ToSum g ∷ ts) h = (tt, moved_to ts h.1)
+
+  same_length : (insns : List Insn) (actions : List Action) → AreActions (patterns_in f) f.vars 1 insns actions → length actions ≡ length insns
+  same_length [] [] is = refl
+  same_length [] (a ∷ rest) is = absurd is
+  same_length (insn ∷ insns) [] is = absurd is
+  same_length (insn ∷ insns) (a ∷ rest) is = ap suc (same_length insns rest is.1)
+
+  pub some_size : (p : ℕ) → p < length f.vars → 0 < (var_at f.vars p).size
+  some_size p l = some_bytes (var_at f.vars p).size (size_kept f h p l)
+    where
+      some_bytes : (n : ℕ) → IsSize n → 0 < n
+      some_bytes n (inl e) = omega (arith, e)
+      some_bytes n (inr (inl e)) = omega (arith, e)
+      some_bytes n (inr (inr (inl e))) = omega (arith, e)
+      some_bytes n (inr (inr (inr e))) = omega (arith, e)
+
+  pub slot_size : (k : ℕ) → size_of_slot f.vars k ≤ 8
+  slot_size k = any_size f h (if nat_lt k 4 then slice_index (places_of kind.Dest f.vars) k else slice_index (places_of kind.Source f.vars) (k - 4))
+
+  -- plans of functions that are built are small
+  pub small_with : (actions : List Action) → Each (IsMovable (size_of_slot f.vars)) actions → AreActions (patterns_in f) f.vars 1 f.insns actions → Small (plan_with f actions)
+  small_with actions m is = record { dests = few.dests; sources = few.sources; size = slot_size; actions = m; few = omega (arith, same_length f.insns actions is, few_pass f.vars [] f.insns (kept_of f h).insns (omega arith)) }

@@ -5,12 +5,14 @@ use Rattle.orc_bits.specs.Lanes.{from_bytes}
 use Rattle.orc_bits.proofs.LaneLaws.{AreBytes-from_bytes, length-from_bytes}
 use Rattle.orc_bits.specs.Memory.{Memory, IsMapped, word}
 use Rattle.x86_ins.specs.Machine.{Core, Point}
-use Rattle.orc_asm.specs.Subject.{Call, Subject, IsArray, InArray, InCells}
+use Rattle.orc_asm.specs.Subject.{Call, Subject, IsArray, InArray}
 use Rattle.orc_ops.specs.declared.opcode.Op.TheVariants.{Addb}
 use Rattle.orc_program.specs.declared.program.VarKind.TheVariants as kind
 use Rattle.orc_program.specs.declared.program.Operand.TheVariants as operand
 use Rattle.orc_program.specs.Program.{FunctionValue}
 use Rattle.orc_asm.specs.RunsAs.{GoodCall}
+use Rattle.orc_asm.proofs.Slots.{Limits}
+use Rattle.orc_asm.proofs.Agree.{InCells, good_by_variables, cells_by_slots, cells_by_variables}
 use Rattle.orc_asm.specs.Function.{subject_of}
 
 abbrev pub inside : ℕ → ℕ → ℕ → Bool
@@ -78,11 +80,17 @@ only k (inr h) = absurd (omega (arith, h.0, h.1))
 cell_is : (a : ℕ) → InArray subject call 0 a → a ≡ 65536
 cell_is a w = w.6 ∙ (let z : w.0 * 0 ≡ 0 = omega arith in let q : (65536 + w.0 * 0 + w.2 * 1 + w.4) % 2 ^ 64 ≡ 65536 = omega (arith, z, w.3, w.5) in q)
 
-in_cell : (a : ℕ) → InCells subject call a → a ≡ 65536
-in_cell a w = cell_is a (subst (λ k. InArray subject call k a) (only w.0 w.1) w.2)
+in_slots : (a : ℕ) → InCells subject call a → a ≡ 65536
+in_slots a w = cell_is a (subst (λ k. InArray subject call k a) (only w.0 w.1) w.2)
 
-the_cell : (a : ℕ) → a ≡ 65536 → InCells subject call a
-the_cell a e = (0, inl (omega arith), (0, omega arith, 0, omega arith, 0, omega arith, e))
+few : Limits doubles
+few = record { dests = omega arith; sources = omega arith; accs = omega arith }
+
+in_cell : (a : ℕ) → subject.cells call a → a ≡ 65536
+in_cell a w = in_slots a (cells_by_variables doubles few call (λ k h. lit< tt) a w)
+
+the_cell : (a : ℕ) → a ≡ 65536 → subject.cells call a
+the_cell a e = cells_by_slots doubles few call (λ k h. lit< tt) a (0, inl (omega arith), (0, omega arith, 0, omega arith, 0, omega arith, e))
 
 pub there_is : (bytes : List ℕ) → length bytes < 1000000 → GoodCall subject (record { bytes = bytes; start = 1073741824 }) point call 0
 there_is bytes short = record {
@@ -95,13 +103,13 @@ there_is bytes short = record {
     params = λ j h. absurd (omega (arith, h));
   };
   returns = refl;
-  arrays = record {
+  arrays = good_by_variables doubles few call (λ k h. lit< tt) memory (record {
     few = omega arith;
     few_rows = λ h. absurd (let e : ⊥ = cc in e);
-    low = λ a w. omega (arith, in_cell a w);
+    low = λ a w. omega (arith, in_slots a w);
     separate = λ k l h g. inr (record { size = ap subject.size (only k h ∙ sym (only l g)); base = refl; stride = λ e. refl });
-    mapped = λ a w. mapped a (inl (in_cell a w));
-  };
+    mapped = λ a w. mapped a (inl (in_slots a w));
+  });
   facts = refl;
   block = λ a w. mapped a (inr (inl (omega (arith, w.0), omega (arith, w.1))));
   return = λ a w. mapped a (inr (inr (omega (arith, w.0), omega (arith, w.1))));

@@ -1,14 +1,19 @@
--- Lists that grow by one instruction, or by one addition.
-use Rattle.std.proofs.Common.{◌≡◌, ℕ, suc, ◌+◌, ◌*◌, ◌<◌, ℤ, pos, List, [], ◌∷◌, ◌++◌, length, take, get_or, map, refl, sym, ap, ap₂, ◌∙◌, arith, append-nil, append_assoc}
-use Rattle.std.proofs.lemmas.List.{take_more, map-append}
+-- Lists that grow by one instruction, by a rule or by an action.
+use Rattle.std.proofs.Common.{◌≡◌, ℕ, suc, ◌+◌, ◌*◌, ◌<◌, pos, List, [], ◌∷◌, ◌++◌, length, take, get_or, Result, Ok, Err, OnOk, refl, sym, ap, ◌∙◌, subst, arith, append-nil, append_assoc}
+use Rattle.std.proofs.lemmas.List.{take_more}
 use Rattle.x86_ins.specs.declared.ins.AluOp.TheVariants.{Add}
-use Rattle.x86_ins.specs.declared.ins.Addr.{Addr}
 use Rattle.x86_ins.specs.declared.ins.Ins.{Ins}
-use Rattle.x86_ins.specs.declared.ins.Ins.TheVariants.{AluImm, Load, Store}
-use Rattle.x86_flow.specs.Moves.{away}
+use Rattle.x86_ins.specs.declared.ins.Ins.TheVariants.{AluImm}
 use Rattle.orc_program.specs.declared.program.Var.{Var}
 use Rattle.orc_program.specs.declared.program.Insn.{Insn}
-use Rattle.orc_asm.specs.Code.{Addition, pointer, saved, addition_of, addition_code, additions_code, advance_code, saves_code, restores_code, bases_code, words_code}
+use Rattle.orc_program.specs.declared.program.Pattern.{Pattern}
+use Rattle.orc_program.specs.Slots.{size_of_slot}
+use Rattle.orc_asm.specs.Code.{Action, AreActions, AddsRule, AddsAction, AddsActions, pointer, sources_of, targets_of, sources_code, sum_code, results_code, action_code, actions_code, advance_code}
+
+-- what follows from a fact of a success
+pub on_ok : {A E : Type 0} (r : Result A E) (P Q : Type 0) → (P → Q) → OnOk r P → OnOk r Q
+on_ok (Ok x) P Q f h = f h
+on_ok (Err e) P Q f h = h
 
 next : (n : ℕ) → suc n ≡ n + 1
 next n = omega arith
@@ -17,40 +22,46 @@ next n = omega arith
 grown : (base c d x : List Ins) (i : Ins) → c ≡ base ++ x → d ≡ c ++ i ∷ [] → d ≡ base ++ (x ++ i ∷ [])
 grown base c d x i p q = q ∙ ap (λ l. l ++ i ∷ []) p ∙ append_assoc base x (i ∷ [])
 
-pub advances_more : (base c d : List Ins) (size : ℕ → ℕ) (count first n r : ℕ) (v : ℤ) → c ≡ base ++ advance_code size count first n → d ≡ c ++ AluImm Add r v ∷ [] → r ≡ pointer (first + n) → v ≡ pos (count * size (first + n)) → d ≡ base ++ advance_code size count first (n + 1)
-advances_more base c d size count first n r v p q e g =
-    grown base c d (advance_code size count first n) (AluImm Add (pointer (first + n)) (pos (count * size (first + n)))) p (q ∙ ap₂ (λ x y. c ++ AluImm Add x y ∷ []) e g)
+pub advances_more : (base c d : List Ins) (size : ℕ → ℕ) (count first n : ℕ) (i : Ins) → c ≡ base ++ advance_code size count first n → d ≡ c ++ i ∷ [] → i ≡ AluImm Add (pointer (first + n)) (pos (count * size (first + n))) → d ≡ base ++ advance_code size count first (n + 1)
+advances_more base c d size count first n i p q e =
+    grown base c d (advance_code size count first n) (AluImm Add (pointer (first + n)) (pos (count * size (first + n)))) p (q ∙ ap (λ x. c ++ x ∷ []) e)
     ∙ ap (λ k. base ++ advance_code size count first k) (next n)
 
-pub saves_more : (base c d : List Ins) (n r : ℕ) (a : Addr) → c ≡ base ++ saves_code n → d ≡ c ++ Store r a ∷ [] → r ≡ saved n → a ≡ away 4 (8 * n) → d ≡ base ++ saves_code (n + 1)
-saves_more base c d n r a p q e g =
-    grown base c d (saves_code n) (Store (saved n) (away 4 (0 + 8 * n))) p (q ∙ ap₂ (λ x y. c ++ Store x y ∷ []) e (g ∙ ap (away 4) (let z : 8 * n ≡ 0 + 8 * n = omega arith in z)))
-    ∙ ap (λ k. base ++ saves_code k) (next n)
+-- ---- rules and actions
 
-pub restores_more : (base c d : List Ins) (n r : ℕ) (a : Addr) → c ≡ base ++ restores_code n → d ≡ c ++ Load r a ∷ [] → r ≡ saved n → a ≡ away 4 (8 * n) → d ≡ base ++ restores_code (n + 1)
-restores_more base c d n r a p q e g =
-    grown base c d (restores_code n) (Load (saved n) (away 4 (8 * n))) p (q ∙ ap₂ (λ x y. c ++ Load x y ∷ []) e g)
-    ∙ ap (λ k. base ++ restores_code k) (next n)
+actions_append : (count : ℕ) (size : ℕ → ℕ) (a b : List Action) → actions_code count size (a ++ b) ≡ actions_code count size a ++ actions_code count size b
+actions_append count size [] b = refl
+actions_append count size (x ∷ a) b = ap (λ l. action_code count size x ++ l) (actions_append count size a b) ∙ sym (append_assoc (action_code count size x) (actions_code count size a) (actions_code count size b))
 
-pub bases_more : (base c d : List Ins) (first n r : ℕ) (a : Addr) → c ≡ base ++ bases_code first n → d ≡ c ++ Load r a ∷ [] → r ≡ pointer (first + n) → a ≡ away 7 (16 + 16 * (first + n)) → d ≡ base ++ bases_code first (n + 1)
-bases_more base c d first n r a p q e g =
-    grown base c d (bases_code first n) (Load (pointer (first + n)) (away 7 (16 + 16 * (first + n)))) p (q ∙ ap₂ (λ x y. c ++ Load x y ∷ []) e g)
-    ∙ ap (λ k. base ++ bases_code first k) (next n)
+are_both : (patterns : List Pattern) (vars : List Var) (count : ℕ) (xs ys : List Insn) (ps qs : List Action) → AreActions patterns vars count xs ps → AreActions patterns vars count ys qs → AreActions patterns vars count (xs ++ ys) (ps ++ qs)
+are_both patterns vars count [] ys [] qs h g = g
+are_both patterns vars count [] ys (a ∷ ps) qs h g = absurd h
+are_both patterns vars count (x ∷ xs) ys [] qs h g = absurd h
+are_both patterns vars count (x ∷ xs) ys (a ∷ ps) qs h g = (h.0, are_both patterns vars count xs ys ps qs h.1 g)
 
-pub words_more : (base c d : List Ins) (n : ℕ) (a : Addr) → c ≡ base ++ words_code n → d ≡ c ++ Store 0 a ∷ [] → a ≡ away 7 (272 + 8 * n) → d ≡ base ++ words_code (n + 1)
-words_more base c d n a p q g =
-    grown base c d (words_code n) (Store 0 (away 7 (272 + 8 * n))) p (q ∙ ap (λ y. c ++ Store 0 y ∷ []) g)
-    ∙ ap (λ k. base ++ words_code k) (next n)
+pub actions_more : (patterns : List Pattern) (vars : List Var) (count : ℕ) (insns : List Insn) (k : ℕ) (insn : Insn) (base c d : List Ins) → k < length insns → insn ≡ get_or insns k insn → AddsActions patterns vars count (take k insns) base c → AddsAction patterns vars count insn c d → AddsActions patterns vars count (take (k + 1) insns) base d
+actions_more patterns vars count insns k insn base c d l is x y =
+    let size = size_of_slot vars in
+    let one = action_code count size y.0 in
+    let before = actions_code count size x.0 in (
+      x.0 ++ y.0 ∷ [],
+      subst (λ xs. AreActions patterns vars count xs (x.0 ++ y.0 ∷ [])) (ap (λ i. take k insns ++ i ∷ []) is ∙ sym (take_more insns k insn l)) (are_both patterns vars count (take k insns) (insn ∷ []) x.0 (y.0 ∷ []) x.1 (y.1, tt)),
+      y.2 ∙ ap (λ b. b ++ one) x.2 ∙ append_assoc base before one
+          ∙ ap (λ b. base ++ b) (ap (λ b. before ++ b) (sym (append-nil one)) ∙ sym (actions_append count size x.0 (y.0 ∷ []))),
+    )
 
-additions_append : (count : ℕ) (a b : List Addition) → additions_code count (a ++ b) ≡ additions_code count a ++ additions_code count b
-additions_append count [] b = refl
-additions_append count (x ∷ a) b = ap (λ l. addition_code count x ++ l) (additions_append count a b) ∙ sym (append_assoc (addition_code count x) (additions_code count a) (additions_code count b))
+-- four lists at the end of one
+four : (base a b c d c1 c2 c3 c4 : List Ins) → c1 ≡ base ++ a → c2 ≡ c1 ++ b → c3 ≡ c2 ++ c → c4 ≡ c3 ++ d → c4 ≡ base ++ (a ++ (b ++ (c ++ d)))
+four base a b c d c1 c2 c3 c4 h1 h2 h3 h4 =
+    h4 ∙ ap (λ l. l ++ d) (h3 ∙ ap (λ l. l ++ c) (h2 ∙ ap (λ l. l ++ b) h1)) ∙ append_assoc ((base ++ a) ++ b) c d ∙ append_assoc (base ++ a) b (c ++ d) ∙ append_assoc base a (b ++ (c ++ d))
 
-pub additions_more : (base c d : List Ins) (vars : List Var) (insns : List Insn) (count k : ℕ) (insn : Insn) → k < length insns → insn ≡ get_or insns k insn → c ≡ base ++ additions_code count (map (addition_of vars) (take k insns)) → d ≡ c ++ addition_code count (addition_of vars insn) → d ≡ base ++ additions_code count (map (addition_of vars) (take (k + 1) insns))
-additions_more base c d vars insns count k insn l is p q =
-    let before = map (addition_of vars) (take k insns) in
-    let one = addition_of vars insn in
-    q ∙ ap (λ b. b ++ addition_code count one) p ∙ append_assoc base (additions_code count before) (addition_code count one)
-    ∙ ap (λ b. base ++ b)
-    (ap (λ b. additions_code count before ++ b) (sym (append-nil (addition_code count one))) ∙ sym (additions_append count before (one ∷ []))
-    ∙ ap (additions_code count) (sym (map-append (addition_of vars) (take k insns) (insn ∷ [])) ∙ ap (map (addition_of vars)) (ap (λ x. take k insns ++ x ∷ []) is ∙ sym (take_more insns k insn l))))
+-- sources, a rule and results make an action
+pub action_added : (patterns : List Pattern) (vars : List Var) (count : ℕ) (insn : Insn) (base c1 c2 c3 c4 : List Ins) → c1 ≡ base ++ sources_code count (size_of_slot vars) (sources_of patterns vars insn.op insn.sources.items) → c2 ≡ c1 ++ sum_code (targets_of vars insn.results.items) → AddsRule count insn.op c2 c3
+    → c4 ≡ c3 ++ results_code count (size_of_slot vars) (targets_of vars insn.results.items) → AddsAction patterns vars count insn base c4
+action_added patterns vars count insn base c1 c2 c3 c4 p q x r =
+    let size = size_of_slot vars in
+    let a : Action = record { op = insn.op; prefix = insn.prefix; to = targets_of vars insn.results.items; sources = sources_of patterns vars insn.op insn.sources.items; rule = x.0 } in (
+      a,
+      record { op = refl; prefix = refl; to = refl; sources = refl; rule = x.1 },
+      four base (sources_code count size a.sources) (sum_code a.to) x.0 (results_code count size a.to) c1 c2 c3 c4 p q x.2 r,
+    )

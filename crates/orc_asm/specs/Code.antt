@@ -1,38 +1,67 @@
 -- The code of a function: the compiler's plan.
-use Rattle.std.specs.Prelude.{ℕ, zero, suc, ◌+◌, ◌*◌, ◌<◌, pos, List, [], ◌∷◌, ◌++◌, get_or, map}
-use Rattle.x86_ins.specs.declared.ins.VecOp.TheVariants.{Paddb}
+use Rattle.std.specs.Prelude.{◌≡◌, ℕ, zero, suc, ◌+◌, ◌*◌, ◌/◌, ◌<◌, ◌≤◌, ◌==◌, true, false, if◌then◌else◌, pos, List, [], ◌∷◌, ◌++◌, length, get_or, Option, Some, None}
 use Rattle.x86_ins.specs.declared.ins.AluOp.TheVariants.{Add, Sub}
-use Rattle.x86_ins.specs.declared.ins.Cond.TheVariants.{Ne}
 use Rattle.x86_ins.specs.declared.ins.Ins.{Ins}
-use Rattle.x86_ins.specs.declared.ins.Ins.TheVariants.{Vec, Load, MovImm, AluImm, Test}
+use Rattle.x86_ins.specs.declared.ins.Ins.TheVariants.{AluImm, VecLoad, VecStore}
+use Rattle.x86_ins.specs.declared.ins.MoveOp.TheVariants.{Movdqu}
+use Rattle.x86_ins.specs.Spelling.{IsIns}
+use Rattle.x86_ins.specs.Way.{Each}
+use Rattle.orc_ops.specs.declared.opcode.Op.{Op}
+use Rattle.orc_ops.specs.Table.{row, size_of_result}
 use Rattle.orc_program.specs.declared.program.Var.{Var}
 use Rattle.orc_program.specs.declared.program.VarKind.TheVariants as kind
 use Rattle.orc_program.specs.declared.program.Operand.{Operand}
 use Rattle.orc_program.specs.declared.program.Operand.TheVariants as operand
 use Rattle.orc_program.specs.declared.program.Insn.{Insn}
-use Rattle.orc_program.specs.Program.{FunctionValue, count_of}
+use Rattle.orc_program.specs.declared.program.Pattern.{Pattern}
+use Rattle.orc_program.specs.Program.{FunctionValue, var_at, is_of, count_of, count_before}
+use Rattle.orc_program.specs.Checks.{same_pattern, number_in, way_of, pattern_with, patterns_of}
 use Rattle.orc_program.specs.Slots.{slot_of, size_of_slot}
-use Rattle.x86_flow.specs.Flow.{Flow, Plain, Chain, Repeat}
-use Rattle.x86_flow.specs.Moves.{away, load_code, store_code, stores_code, loads_code}
+use Rattle.x86_flow.specs.Moves.{IsWidth, away, load_code, store_code}
+use Rattle.sse_laws.specs.Meets.{Meets, is_sum}
+use Rattle.sse_acc.specs.Sums.{AddsUp}
 
--- an addition of bytes, by array slots
-pub record Addition : Type 0 where
-  pub to : ℕ
-  pub left : ℕ
-  pub right : ℕ
+-- where a source comes from: the elements of an array's slot, or a pattern
+pub data Source : Type 0 where
+  FromArray : ℕ → Source
+  FromPattern : ℕ → Source
 
--- its slots are slots
-abbrev pub IsSmall : Addition → Type 0
-IsSmall a = (a.to < 12) × (a.left < 12) × (a.right < 12)
+-- where a result goes: the elements of an array's slot, or a running sum
+pub data Target : Type 0 where
+  ToArray : ℕ → Target
+  ToSum : ℕ → Target
+
+-- what an instruction's code does
+pub record Action : Type 0 where
+  pub op : Op
+  -- how many adjacent sub-lanes of an element it works on
+  pub prefix : ℕ
+  -- one or two arrays, or one sum
+  pub to : List Target
+  -- one or two
+  pub sources : List Source
+  -- computes the opcode in the vector registers
+  pub rule : List Ins
+
+-- the opcode has a rule for so many elements: those that a running sum takes at once, where it adds to one
+abbrev pub HasRule : ℕ → Op → Type 0
+HasRule count op = is_sum (row op).kind ≡ true → (1 ≤ count) × (count ≤ 16) × (count ≤ 16 / size_of_result op 0)
+
+-- the list computes the opcode, or adds its numbers of so many elements to a running sum, in at most as many instructions as its class says
+pub record IsRule (count : ℕ) (op : Op) (rule : List Ins) : Type 0 where
+  pub meets : is_sum (row op).kind ≡ false → Meets op rule
+  pub adds : is_sum (row op).kind ≡ true → AddsUp op count rule
+  pub few : length rule ≤ (row op).class
+  pub short : length rule ≤ 100
+  pub known : Each IsIns rule
 
 -- what the code of a function depends on
 pub record Plan : Type 0 where
   pub dests : ℕ
   pub sources : ℕ
-  pub accs : ℕ
   -- the bytes of an element of an array slot
   pub size : ℕ → ℕ
-  pub additions : List Addition
+  pub actions : List Action
 
 -- ---- registers: RAX is scratch, RCX counts the elements that are left, RDI points at the block
 
@@ -46,12 +75,46 @@ pointer (suc (suc (suc (suc k)))) = 8 + k
 
 -- ---- so many elements at once
 
-abbrev pub addition_code : ℕ → Addition → List Ins
-addition_code count a = load_code count 0 (pointer a.left) ++ (load_code count 1 (pointer a.right) ++ (Vec Paddb 0 1 ∷ store_code count 0 (pointer a.to)))
+-- the 16 bytes of a pattern and of a running sum, so far from RSP
+abbrev pub pattern_slot : ℕ → ℕ
+pattern_slot j = 16 * j
 
-abbrev pub additions_code : ℕ → List Addition → List Ins
-additions_code count [] = []
-additions_code count (a ∷ rest) = addition_code count a ++ additions_code count rest
+abbrev pub sum_slot : ℕ → ℕ
+sum_slot g = 768 + 16 * g
+
+-- a source goes to a vector register
+abbrev pub source_code : ℕ → (ℕ → ℕ) → ℕ → Source → List Ins
+source_code count size x (FromArray k) = load_code (count * size k) x (pointer k)
+source_code count size x (FromPattern j) = VecLoad Movdqu x (away 4 (pattern_slot j)) ∷ []
+
+-- the first source goes to XMM0, and the second to XMM1
+abbrev pub sources_code : ℕ → (ℕ → ℕ) → List Source → List Ins
+sources_code count size [] = []
+sources_code count size (s ∷ []) = source_code count size 0 s
+sources_code count size (s ∷ t ∷ more) = source_code count size 0 s ++ source_code count size 1 t
+
+-- a running sum goes to XMM2
+abbrev pub sum_code : List Target → List Ins
+sum_code (ToSum g ∷ more) = VecLoad Movdqu 2 (away 4 (sum_slot g)) ∷ []
+sum_code other = []
+
+-- a result comes from a vector register, and a running sum from XMM2
+abbrev pub result_code : ℕ → (ℕ → ℕ) → ℕ → Target → List Ins
+result_code count size x (ToArray k) = store_code (count * size k) x (pointer k)
+result_code count size x (ToSum g) = VecStore Movdqu 2 (away 4 (sum_slot g)) ∷ []
+
+-- the first result comes from XMM0, and after it a second one from XMM1
+abbrev pub results_code : ℕ → (ℕ → ℕ) → List Target → List Ins
+results_code count size [] = []
+results_code count size (t ∷ []) = result_code count size 0 t
+results_code count size (t ∷ u ∷ more) = result_code count size 0 t ++ result_code count size 1 u
+
+abbrev pub action_code : ℕ → (ℕ → ℕ) → Action → List Ins
+action_code count size a = sources_code count size a.sources ++ (sum_code a.to ++ (a.rule ++ results_code count size a.to))
+
+abbrev pub actions_code : ℕ → (ℕ → ℕ) → List Action → List Ins
+actions_code count size [] = []
+actions_code count size (a ∷ rest) = action_code count size a ++ actions_code count size rest
 
 -- ---- a turn
 
@@ -61,55 +124,7 @@ advance_code size count first zero = []
 advance_code size count first (suc n) = advance_code size count first n ++ AluImm Add (pointer (first + n)) (pos (count * size (first + n))) ∷ []
 
 abbrev pub turn_code : Plan → ℕ → List Ins
-turn_code p count = additions_code count p.additions ++ (advance_code p.size count 0 p.dests ++ (advance_code p.size count 4 p.sources ++ AluImm Sub 1 (pos count) ∷ []))
-
--- ---- entry and exit
-
--- RBX, RBP and R12 to R15 have words in the frame, in this order
-abbrev pub saved : ℕ → ℕ
-saved zero = 3
-saved (suc zero) = 5
-saved (suc (suc k)) = 12 + k
-
--- the first n of them are stored, and loaded again
-abbrev pub saves_code : ℕ → List Ins
-saves_code n = stores_code 4 0 saved n
-
-abbrev pub restores_code : ℕ → List Ins
-restores_code n = loads_code 4 (λ j. 8 * j) saved n
-
-abbrev pub save_code : List Ins
-save_code = saves_code 6
-
-abbrev pub restore_code : List Ins
-restore_code = restores_code 6
-
--- the pointers of so many slots from a first one are loaded
-abbrev pub bases_code : ℕ → ℕ → List Ins
-bases_code first n = loads_code 7 (λ j. 16 + 16 * (first + j)) (λ j. pointer (first + j)) n
-
-abbrev pub entry_code : Plan → List Ins
-entry_code p = AluImm Sub 4 (pos 1024) ∷ (save_code ++ (Load 1 (away 7 0) ∷ (bases_code 0 p.dests ++ (bases_code 4 p.sources ++ Test 1 1 ∷ []))))
-
--- the words of so many accumulators become RAX
-abbrev pub words_code : ℕ → List Ins
-words_code accs = stores_code 7 272 (λ g. 0) accs
-
--- each accumulator's word is 0
-abbrev pub sums_code : ℕ → List Ins
-sums_code accs = MovImm 0 0 ∷ words_code accs
-
-abbrev pub exit_code : Plan → List Ins
-exit_code p = sums_code p.accs ++ (restore_code ++ AluImm Add 4 (pos 1024) ∷ [])
-
--- ---- the whole
-
-abbrev pub loop_flow : Plan → Flow
-loop_flow p = Chain (Plain (entry_code p)) (Chain (Repeat Ne (Plain (turn_code p 1))) (Plain (exit_code p)))
-
--- without additions nothing is done but the accumulators' words
-abbrev pub idle_flow : Plan → Flow
-idle_flow p = Plain (sums_code p.accs)
+turn_code p count = actions_code count p.size p.actions ++ (advance_code p.size count 0 p.dests ++ (advance_code p.size count 4 p.sources ++ AluImm Sub 1 (pos count) ∷ []))
 
 -- ---- from a function to its plan
 
@@ -117,17 +132,106 @@ abbrev pub operand_slot : List Var → Operand → ℕ
 operand_slot vars (operand.Var p) = slot_of vars p
 operand_slot vars (operand.Number n) = 0
 
-abbrev pub slot_at : List Var → List Operand → ℕ → ℕ
-slot_at vars os k = operand_slot vars (get_or os k (operand.Number 0))
+-- the place of a pattern in a list, and the list's length where it isn't there
+abbrev pub index_of : List Pattern → Pattern → ℕ
+index_of [] p = 0
+index_of (q ∷ qs) p = if same_pattern p q then 0 else 1 + index_of qs p
 
-abbrev pub addition_of : List Var → Insn → Addition
-addition_of vars insn = record { to = slot_at vars insn.results.items 0; left = slot_at vars insn.sources.items 0; right = slot_at vars insn.sources.items 1 }
+abbrev pub place_in : List Pattern → Option Pattern → Option ℕ
+place_in patterns None = None
+place_in patterns (Some p) = Some (index_of patterns p)
 
-abbrev pub plan_of : FunctionValue → Plan
-plan_of f = record {
+-- the pattern that a source at a position uses, by its place among the patterns, if it is a number
+abbrev pub pattern_place : List Pattern → List Var → Op → ℕ → Operand → Option ℕ
+pattern_place patterns vars op position o = place_in patterns (pattern_with (way_of op position) (number_in vars o))
+
+-- the number of an accumulator
+abbrev pub sum_place : List Var → Operand → Option ℕ
+sum_place vars (operand.Var p) = if is_of kind.Accumulator (var_at vars p) then Some (count_before kind.Accumulator vars p) else None
+sum_place vars (operand.Number n) = None
+
+-- an array's slot, or else a pattern or a sum
+abbrev pub source_from : ℕ → Option ℕ → Source
+source_from slot None = FromArray slot
+source_from slot (Some j) = FromPattern j
+
+abbrev pub target_to : ℕ → Option ℕ → Target
+target_to slot None = ToArray slot
+target_to slot (Some g) = ToSum g
+
+abbrev pub operand_at : List Operand → ℕ → Operand
+operand_at os k = get_or os k (operand.Number 0)
+
+abbrev pub source_at : List Pattern → List Var → Op → List Operand → ℕ → Source
+source_at patterns vars op os k = source_from (operand_slot vars (operand_at os k)) (pattern_place patterns vars op k (operand_at os k))
+
+abbrev pub target_at : List Var → List Operand → ℕ → Target
+target_at vars os k = target_to (operand_slot vars (operand_at os k)) (sum_place vars (operand_at os k))
+
+-- a second one where there are two
+abbrev pub sources_of : List Pattern → List Var → Op → List Operand → List Source
+sources_of patterns vars op os = if length os == 2 then source_at patterns vars op os 0 ∷ source_at patterns vars op os 1 ∷ [] else source_at patterns vars op os 0 ∷ []
+
+abbrev pub targets_of : List Var → List Operand → List Target
+targets_of vars os = if length os == 2 then target_at vars os 0 ∷ target_at vars os 1 ∷ [] else target_at vars os 0 ∷ []
+
+-- the action is the instruction's, by some list that computes its opcode
+pub record IsAction (patterns : List Pattern) (vars : List Var) (count : ℕ) (insn : Insn) (a : Action) : Type 0 where
+  pub op : a.op ≡ insn.op
+  pub prefix : a.prefix ≡ insn.prefix
+  pub to : a.to ≡ targets_of vars insn.results.items
+  pub sources : a.sources ≡ sources_of patterns vars insn.op insn.sources.items
+  pub rule : IsRule count a.op a.rule
+
+abbrev pub AreActions : List Pattern → List Var → ℕ → List Insn → List Action → Type 0
+AreActions patterns vars count [] [] = Unit {0}
+AreActions patterns vars count (insn ∷ insns) (a ∷ rest) = IsAction patterns vars count insn a × AreActions patterns vars count insns rest
+AreActions patterns vars count [] (a ∷ rest) = ⊥
+AreActions patterns vars count (insn ∷ insns) [] = ⊥
+
+-- a function's patterns
+abbrev pub patterns_in : FunctionValue → List Pattern
+patterns_in f = patterns_of f.vars f.insns
+
+abbrev pub plan_with : FunctionValue → List Action → Plan
+plan_with f actions = record {
   dests = count_of kind.Dest f.vars;
   sources = count_of kind.Source f.vars;
-  accs = count_of kind.Accumulator f.vars;
   size = size_of_slot f.vars;
-  additions = map (addition_of f.vars) f.insns;
+  actions = actions;
 }
+
+-- ---- code by some lists that compute the opcodes
+
+abbrev pub AddsRule : ℕ → Op → List Ins → List Ins → Type 0
+AddsRule count op old new = (rule : List Ins) × IsRule count op rule × (new ≡ old ++ rule)
+
+abbrev pub AddsAction : List Pattern → List Var → ℕ → Insn → List Ins → List Ins → Type 0
+AddsAction patterns vars count insn old new = (a : Action) × IsAction patterns vars count insn a × (new ≡ old ++ action_code count (size_of_slot vars) a)
+
+abbrev pub AddsActions : List Pattern → List Var → ℕ → List Insn → List Ins → List Ins → Type 0
+AddsActions patterns vars count insns old new = (actions : List Action) × AreActions patterns vars count insns actions × (new ≡ old ++ actions_code count (size_of_slot vars) actions)
+
+abbrev pub IsTurn : FunctionValue → ℕ → List Ins → Type 0
+IsTurn f count list = (actions : List Action) × AreActions (patterns_in f) f.vars count f.insns actions × (list ≡ turn_code (plan_with f actions) count)
+
+-- ---- instructions whose code can be given for so many elements
+
+-- a slot's elements can be moved
+abbrev pub IsMoved : List Var → ℕ → ℕ → Type 0
+IsMoved vars count k = (k < 12) × IsWidth (count * size_of_slot vars k)
+
+abbrev pub IsLoaded : List Var → ℕ → Source → Type 0
+IsLoaded vars count (FromArray k) = IsMoved vars count k
+IsLoaded vars count (FromPattern j) = j < 48
+
+abbrev pub IsStored : List Var → ℕ → Target → Type 0
+IsStored vars count (ToArray k) = IsMoved vars count k
+IsStored vars count (ToSum g) = g < 4
+
+pub record IsReady (patterns : List Pattern) (vars : List Var) (count : ℕ) (insn : Insn) : Type 0 where
+  pub has_rule : HasRule count insn.op
+  pub source : IsLoaded vars count (source_at patterns vars insn.op insn.sources.items 0)
+  pub second_source : length insn.sources.items ≡ 2 → IsLoaded vars count (source_at patterns vars insn.op insn.sources.items 1)
+  pub result : IsStored vars count (target_at vars insn.results.items 0)
+  pub second_result : length insn.results.items ≡ 2 → IsStored vars count (target_at vars insn.results.items 1)

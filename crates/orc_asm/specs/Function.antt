@@ -1,15 +1,15 @@
 -- Functions of the language as calls see them, and which of them are built.
-use Rattle.std.specs.Prelude.{◌≡◌, ℕ, ◌+◌, Bool, true, false, not, ◌&&◌, ◌||◌, ◌==◌, if◌then◌else◌, List, [], ◌∷◌, Option, Some, None, Result, Ok, Err, slice_index}
+use Rattle.std.specs.Prelude.{◌≡◌, ℕ, ◌+◌, Bool, true, not, ◌&&◌, ◌||◌, if◌then◌else◌, List, [], ◌∷◌, Option, Some, None, Result, Ok, Err, slice_index}
 use Rattle.std.specs.List.{list_all, count_by, sum_by}
 use Rattle.orc_bits.specs.Memory.{Memory}
-use Rattle.orc_ops.specs.declared.opcode.Op.{Op}
-use Rattle.orc_ops.specs.declared.opcode.Op.TheVariants as op
 use Rattle.orc_program.specs.declared.program.Var.{Var}
 use Rattle.orc_program.specs.declared.program.VarKind.TheVariants as kind
 use Rattle.orc_program.specs.declared.program.Operand.{Operand}
 use Rattle.orc_program.specs.declared.program.Insn.{Insn}
+use Rattle.orc_program.specs.declared.call.Call.{Call}
 use Rattle.orc_program.specs.Program.{FunctionValue, count_of, operand_is}
 use Rattle.orc_program.specs.Meaning.{Gap, emulate}
+use Rattle.orc_program.specs.Good.{IsByte, GoodArrays, byte_at}
 use Rattle.orc_program.specs.Need.{steps, lanes, turns}
 use Rattle.orc_program.specs.Slots.{call_of, size_of_slot}
 use Rattle.orc_asm.specs.declared.refusal.AsmError.{AsmError}
@@ -31,6 +31,15 @@ is_array_operand vars o = operand_is kind.Dest vars o || operand_is kind.Source 
 abbrev pub array_operands : List Var → Insn → ℕ
 array_operands vars insn = count_by (is_array_operand vars) insn.results.items + count_by (is_array_operand vars) insn.sources.items
 
+-- the address is that of a byte of a cell
+pub record IsCellByte (f : FunctionValue) (call : Call) (a : ℕ) : Type 0 where
+  pub place : ℕ
+  pub row : ℕ
+  pub element : ℕ
+  pub byte : ℕ
+  pub cell : IsByte f call place row element byte
+  pub here : a ≡ byte_at f call place row element byte
+
 -- the bytes of the frame below RSP
 abbrev pub frame_size : ℕ
 frame_size = 1024
@@ -44,6 +53,8 @@ subject_of f = record {
   two_d = f.two_d;
   size = size_of_slot f.vars;
   facts = λ call. true;
+  cells = λ call a. IsCellByte f (call_of f call.n call.m call.base call.stride call.param) a;
+  good = λ call mem. GoodArrays f (call_of f call.n call.m call.base call.stride call.param) mem;
   emulate = λ call mem. end_of (emulate f (call_of f call.n call.m call.base call.stride call.param) mem);
   frame = frame_size;
   steps = steps f;
@@ -58,22 +69,21 @@ RunsAs f bytes = runs.RunsAs (subject_of f) bytes
 
 -- ---- what is built
 
-abbrev pub is_addb : Op → Bool
-is_addb op.Addb = true
-is_addb other = false
+-- an operand that is no temp
+abbrev pub is_direct : List Var → Operand → Bool
+is_direct vars o = not (operand_is kind.Temp vars o)
 
--- an addb without a prefix, all of whose operands are arrays
+-- an instruction without temps
 abbrev pub is_built : List Var → Insn → Bool
-is_built vars insn = is_addb insn.op && (insn.prefix == 1 && (list_all (is_array_operand vars) insn.results.items && list_all (is_array_operand vars) insn.sources.items))
+is_built vars insn = list_all (is_direct vars) insn.results.items && list_all (is_direct vars) insn.sources.items
 
 -- the line of the first instruction that isn't built
 abbrev pub first_line : (Insn → Bool) → List Insn → Option ℕ
 first_line built [] = None
 first_line built (insn ∷ insns) = if built insn then first_line built insns else Some insn.line
 
--- of a function with rows no instruction is built
 abbrev pub first_unbuilt : FunctionValue → Option ℕ
-first_unbuilt f = first_line (λ insn. not f.two_d && is_built f.vars insn) f.insns
+first_unbuilt f = first_line (is_built f.vars) f.insns
 
 -- why a function has no code: its first instruction that isn't built, or, where there is none, want of memory
 abbrev pub IsRefusal : FunctionValue → AsmError → Type 0

@@ -2,3 +2,4 @@ pub mod Subject
 pub mod RunsAs
 pub mod Function
 pub mod Code
+pub mod Rows

@@ -6,7 +6,7 @@ use Rattle.x86_ins.specs.declared.ins.MoveOp.TheVariants as move
 use Rattle.orc_bits.specs.Memory.{Memory, IsMapped, word}
 use Rattle.x86_ins.specs.Machine.{Core, Point, Bounded, Touches}
 use Rattle.x86_ins.specs.Way.{Placed, Way, Moment, Each, Stop, IsOver}
-use Rattle.orc_asm.specs.Subject.{Call, End, Subject, IsArray, rows, cell, InArray, InCells, InDests, VerySame, GoodArrays}
+use Rattle.orc_asm.specs.Subject.{Call, End, Subject, IsArray, rows, cell, InArray, InDests, VerySame}
 
 -- ---- the parts of a good call: RDI, the register of a first argument, points at the block, and RSP at the return word (System V ABI, AMD64 supplement, 3.2.2 and 3.2.3)
 
@@ -42,7 +42,7 @@ pub record ReadsCall (f : Subject) (c : Core) (call : Call) : Type 0 where
 
 -- no byte is in two of the parts
 pub record Disjoint (f : Subject) (code : Placed) (c : Core) (call : Call) : Type 0 where
-  pub cells : (a : ℕ) → InCells f call a → (InBlock c a → ⊥) × (InReturn c a → ⊥) × (InFrame f c a → ⊥) × (InCode code a → ⊥)
+  pub cells : (a : ℕ) → f.cells call a → (InBlock c a → ⊥) × (InReturn c a → ⊥) × (InFrame f c a → ⊥) × (InCode code a → ⊥)
   pub block : (a : ℕ) → InBlock c a → (InReturn c a → ⊥) × (InFrame f c a → ⊥) × (InCode code a → ⊥)
   pub return : (a : ℕ) → InReturn c a → InCode code a → ⊥
   pub frame : (a : ℕ) → InFrame f c a → InCode code a → ⊥
@@ -51,12 +51,12 @@ pub record GoodCall (f : Subject) (code : Placed) (s : Point) (call : Call) (bac
   pub first : s.rip ≡ code.start
   pub reads : ReadsCall f s.core call
   pub returns : word s.core.memory (s.core.gpr 4) ≡ Some back
-  pub arrays : GoodArrays f call s.core.memory
+  pub arrays : f.good call s.core.memory
   pub facts : f.facts call ≡ true
   pub block : (a : ℕ) → InBlock s.core a → IsMapped s.core.memory a
   pub return : (a : ℕ) → InReturn s.core a → IsMapped s.core.memory a
   pub frame : (a : ℕ) → InFrame f s.core a → IsMapped s.core.memory a
-  pub no_more : (a : ℕ) → IsMapped s.core.memory a → InCells f call a ⊎ (InBlock s.core a ⊎ (InReturn s.core a ⊎ InFrame f s.core a))
+  pub no_more : (a : ℕ) → IsMapped s.core.memory a → f.cells call a ⊎ (InBlock s.core a ⊎ (InReturn s.core a ⊎ InFrame f s.core a))
   pub disjoint : Disjoint f code s.core call
   pub block_low : s.core.gpr 7 + 304 ≤ 2 ^ 47
   pub return_low : s.core.gpr 4 + 8 ≤ 2 ^ 47
@@ -141,7 +141,7 @@ AtMost k P [] = Unit {0}
 AtMost k P (x ∷ xs) = ((P x → ⊥) × AtMost k P xs) ⊎ ((j : ℕ) × (k ≡ suc j) × AtMost j P xs)
 
 abbrev pub TouchesCell : Subject → Call → Moment → Type 0
-TouchesCell f call m = (a : ℕ) × InCells f call a × Touches m.ins m.point.core a
+TouchesCell f call m = (a : ℕ) × f.cells call a × Touches m.ins m.point.core a
 
 abbrev pub IsMovdquStore : Ins → Type 0
 IsMovdquStore (VecStore move.Movdqu src at) = Unit {0}

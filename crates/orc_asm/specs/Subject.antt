@@ -1,6 +1,6 @@
 -- What the definitions of calls ask of a function of the language, and how a call is laid out in memory.
 use Rattle.std.specs.Prelude.{◌≡◌, ℕ, ◌+◌, ◌*◌, ◌%◌, ◌^◌, ◌<◌, ◌≤◌, ◌⊎◌, Bool, true, if◌then◌else◌, Option}
-use Rattle.orc_bits.specs.Memory.{Memory, IsMapped}
+use Rattle.orc_bits.specs.Memory.{Memory}
 
 -- a call: counts, and for each array slot its base and stride as words; dests have the slots from 0 on, sources those from 4 on
 pub record Call : Type 0 where
@@ -16,7 +16,7 @@ pub record End : Type 0 where
   pub sums : ℕ → ℕ
 
 -- a function as calls see it
-pub record Subject : Type 0 where
+pub record Subject : Type 1 where
   pub dests : ℕ
   pub sources : ℕ
   pub params : ℕ
@@ -26,6 +26,10 @@ pub record Subject : Type 0 where
   pub size : ℕ → ℕ
   -- whether a call has what the facts state; true where none are stated
   pub facts : Call → Bool
+  -- the addresses of the bytes of a call's cells
+  pub cells : Call → ℕ → Type 0
+  -- what is asked of the arrays of a call, in the memory at its start
+  pub good : Call → Memory → Type 0
   -- none where a cell isn't mapped
   pub emulate : Call → Memory → Option End
   -- the bytes of the frame
@@ -51,9 +55,6 @@ cell f call k r i b = (call.base k + r * call.stride k + i * f.size k + b) % 2 ^
 abbrev pub InArray : Subject → Call → ℕ → ℕ → Type 0
 InArray f call k a = (r : ℕ) × (r < rows f call) × (i : ℕ) × (i < call.n) × (b : ℕ) × (b < f.size k) × (a ≡ cell f call k r i b)
 
-abbrev pub InCells : Subject → Call → ℕ → Type 0
-InCells f call a = (k : ℕ) × IsArray f k × InArray f call k a
-
 abbrev pub InDests : Subject → Call → ℕ → Type 0
 InDests f call a = (k : ℕ) × (k < f.dests) × InArray f call k a
 
@@ -62,13 +63,3 @@ pub record VerySame (f : Subject) (call : Call) (k l : ℕ) : Type 0 where
   pub size : f.size k ≡ f.size l
   pub base : call.base k ≡ call.base l
   pub stride : f.two_d ≡ true → call.stride k ≡ call.stride l
-
-abbrev pub Apart : Subject → Call → ℕ → ℕ → Type 0
-Apart f call k l = (a : ℕ) → InArray f call k a → InArray f call l a → ⊥
-
-pub record GoodArrays (f : Subject) (call : Call) (mem : Memory) : Type 0 where
-  pub few : call.n < 2 ^ 31
-  pub few_rows : f.two_d ≡ true → call.m < 2 ^ 31
-  pub low : (a : ℕ) → InCells f call a → a < 2 ^ 47
-  pub separate : (k l : ℕ) → IsArray f k → IsArray f l → Apart f call k l ⊎ VerySame f call k l
-  pub mapped : (a : ℕ) → InCells f call a → IsMapped mem a

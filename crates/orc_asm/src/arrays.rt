@@ -3,10 +3,8 @@
 ghost use Rattle.std.specs.Prelude.{◌≡◌, ◌<◌, ◌≤◌, length, slice_index};
 ghost use Rattle.orc_program.specs.Program.{same_kind, count_of, count_before, places_of, var_at};
 ghost use Rattle.orc_program.specs.Slots.{slot_of, size_of_slot};
-ghost use Rattle.orc_asm.specs.Function.{is_array_operand};
-ghost use Rattle.orc_asm.specs.Code.{operand_slot, slot_at};
 
-use orc_program::{Operand, Var, VarKind};
+use orc_program::{Var, VarKind};
 
 /// Whether two kinds are one.
 fn same_kind(a: VarKind, b: VarKind) -> bool
@@ -75,7 +73,7 @@ pub fn size_of_slot(vars: &[Var], slot: usize) -> u8
 }
 
 /// The kind of the variable at a place, a constant's where there is none.
-fn kind_at(vars: &[Var], place: usize) -> VarKind
+pub fn kind_at(vars: &[Var], place: usize) -> VarKind
     ensures { result ≡ (var_at vars.now place).kind }
 {
     match vars.get(place) {
@@ -85,7 +83,7 @@ fn kind_at(vars: &[Var], place: usize) -> VarKind
 }
 
 /// How many variables of a kind stand before a place.
-fn count_before(vars: &[Var], kind: VarKind, place: usize) -> usize
+pub fn count_before(vars: &[Var], kind: VarKind, place: usize) -> usize
     ensures value { result ≡ count_before kind vars.now place }
     ensures bound { result ≤ length vars.now }
 {
@@ -97,45 +95,12 @@ fn count_before(vars: &[Var], kind: VarKind, place: usize) -> usize
 }
 
 /// The slot of the array at a place.
-fn slot_of(vars: &[Var], place: usize) -> usize
+pub fn slot_of(vars: &[Var], place: usize) -> usize
     ensures { result ≡ slot_of vars.now place }
 {
     if same_kind(VarKind::Dest, kind_at(vars, place)) {
         count_before(vars, VarKind::Dest, place)
     } else {
         4 + count_before(vars, VarKind::Source, place)
-    }
-}
-
-/// Whether an operand is an array.
-pub fn is_array_operand(vars: &[Var], operand: Operand) -> bool
-    ensures { result ≡ is_array_operand vars.now operand }
-{
-    match operand {
-        Operand::Var(place) => {
-            let kind = kind_at(vars, place as usize);
-            same_kind(VarKind::Dest, kind) || same_kind(VarKind::Source, kind)
-        }
-        Operand::Number(_) => false,
-    }
-}
-
-/// The slot of an operand, 0 of a number.
-fn operand_slot(vars: &[Var], operand: Operand) -> usize
-    ensures { result ≡ operand_slot vars.now operand }
-{
-    match operand {
-        Operand::Var(place) => slot_of(vars, place as usize),
-        Operand::Number(_) => 0,
-    }
-}
-
-/// The slot of operand number `k`, 0 where there are fewer.
-pub fn slot_at(vars: &[Var], operands: &[Operand], k: usize) -> usize
-    ensures { result ≡ slot_at vars.now operands.now k }
-{
-    match operands.get(k) {
-        Some(operand) => operand_slot(vars, *operand),
-        None => 0,
     }
 }

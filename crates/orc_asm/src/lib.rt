@@ -4,7 +4,10 @@
 mod arrays;
 mod assembly;
 mod lists;
+mod operands;
 mod refusal;
+mod rows;
+mod rules;
 
 pub use assembly::assemble;
 pub use refusal::AsmError;

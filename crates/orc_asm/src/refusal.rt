@@ -3,7 +3,7 @@
 /// Why a function has no code.
 #[derive(Clone, Copy, Debug, PartialEq, Eq)]
 pub enum AsmError {
-    /// The first instruction that isn't built, by its line: one that isn't an addb without a prefix on arrays, or any in a function with rows.
+    /// The first instruction that isn't built, by its line: one with a temp among its operands.
     NotBuilt { line: u32 },
     /// There was no memory left for the code.
     Memory,

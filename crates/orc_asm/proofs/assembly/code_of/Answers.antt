@@ -1,17 +1,52 @@
-use Rattle.std.proofs.Common.{rules}
-use Rattle.std.proofs.lemmas.List.{nil_from_length}
-use Rattle.orc_asm.proofs.Assembled.{ok_map, not_nil}
-use Rattle.orc_asm.proofs.Runs.{loop_runs, idle_runs}
+use Rattle.std.proofs.Common.{ap, subst, sym}
+use Rattle.orc_program.specs.Program.{FunctionValue}
+use Rattle.orc_asm.specs.Code.{IsTurn}
+use Rattle.orc_asm.proofs.Whole.{ok_map, ready, spelled_turn, turn_fits, list_slices, whole_runs}
 use Rattle.orc_asm.proofs.assembly.code_of.Goals as goal
 
-pub returns-then-insn_count-eq0-clause-runs : goal.returns-then-insn_count-eq0-clause-runs
-returns-then-insn_count-eq0-clause-runs c = ok_map c.idle_code.result _ _ (λ code e. (idle_runs c.args.f.now c.insn_count.ensures.kept c.requires code (nil_from_length c.args.f.now.insns (search rules)) e).0) c.idle_code.ensures
+pub turn_list-requires-clause-ready : goal.turn_list-requires-clause-ready
+turn_list-requires-clause-ready c = ready c.args.f.now c.counts_of-counts.ensures.kept c.requires
 
-pub returns-then-insn_count-eq0-clause-bytes : goal.returns-then-insn_count-eq0-clause-bytes
-returns-then-insn_count-eq0-clause-bytes c = ok_map c.idle_code.result _ _ (λ code e. (idle_runs c.args.f.now c.insn_count.ensures.kept c.requires code (nil_from_length c.args.f.now.insns (search rules)) e).1) c.idle_code.ensures
+pub whole_code-requires-clause-turn_spelled : goal.whole_code-requires-clause-turn_spelled
+whole_code-requires-clause-turn_spelled c = spelled_turn c.args.f.now c.counts_of-counts.ensures.kept c.requires c.as_slice-2.result.now (subst (IsTurn c.args.f.now 1) (sym c.as_slice-2.ensures) c.in_ok-turn.ensures)
 
-pub returns-else-insn_count-eq0-clause-runs : goal.returns-else-insn_count-eq0-clause-runs
-returns-else-insn_count-eq0-clause-runs c = ok_map c.looped_code.result _ _ (λ code e. (loop_runs c.args.f.now c.insn_count.ensures.kept c.requires code (not_nil c.args.f.now.insns (search rules)) e).0) c.looped_code.ensures
+pub whole_code-requires-clause-few : goal.whole_code-requires-clause-few
+whole_code-requires-clause-few c = turn_fits c.args.f.now c.counts_of-counts.ensures.kept c.requires c.as_slice-2.result.now (subst (IsTurn c.args.f.now 1) (sym c.as_slice-2.ensures) c.in_ok-turn.ensures)
 
-pub returns-else-insn_count-eq0-clause-bytes : goal.returns-else-insn_count-eq0-clause-bytes
-returns-else-insn_count-eq0-clause-bytes c = ok_map c.looped_code.result _ _ (λ code e. (loop_runs c.args.f.now c.insn_count.ensures.kept c.requires code (not_nil c.args.f.now.insns (search rules)) e).1) c.looped_code.ensures
+pub returns-clause-runs : goal.returns-clause-runs
+returns-clause-runs c = ok_map c.whole_code.result _ _
+    (λ code e. (whole_runs c.args.f.now c.counts_of-counts.ensures.kept c.requires c.layout-layout.result c.as_slice.result.now c.as_slice-2.result.now c.as_slice-3.result.now
+    (list_slices c.args.f.now c.layout-layout.result _ _ _ c.as_slice.result.now c.as_slice-2.result.now c.as_slice-3.result.now c.as_slice.ensures c.as_slice-2.ensures c.as_slice-3.ensures
+    (record {
+      layout = c.layout-layout.ensures.value;
+      prepares = c.in_ok-first.ensures.prepares;
+      first_allowed = c.in_ok-first.ensures.allowed;
+      first_bytes = c.in_ok-first.ensures.bytes;
+      first_short = c.in_ok-first.ensures.short;
+      turn_is = c.in_ok-turn.ensures;
+      finishes = c.in_ok-last.ensures.finishes;
+      last_allowed = c.in_ok-last.ensures.allowed;
+      last_bytes = c.in_ok-last.ensures.bytes;
+      last_short = c.in_ok-last.ensures.short;
+    }))
+    code c.f.inside.two_d c.counts_of-counts.result.dests c.counts_of-counts.result.sources (ap (λ (x : FunctionValue). x.two_d) c.f.view_is) c.counts_of-counts.ensures.dests c.counts_of-counts.ensures.sources e).0)
+    c.whole_code.ensures
+
+pub returns-clause-bytes : goal.returns-clause-bytes
+returns-clause-bytes c = ok_map c.whole_code.result _ _
+    (λ code e. (whole_runs c.args.f.now c.counts_of-counts.ensures.kept c.requires c.layout-layout.result c.as_slice.result.now c.as_slice-2.result.now c.as_slice-3.result.now
+    (list_slices c.args.f.now c.layout-layout.result _ _ _ c.as_slice.result.now c.as_slice-2.result.now c.as_slice-3.result.now c.as_slice.ensures c.as_slice-2.ensures c.as_slice-3.ensures
+    (record {
+      layout = c.layout-layout.ensures.value;
+      prepares = c.in_ok-first.ensures.prepares;
+      first_allowed = c.in_ok-first.ensures.allowed;
+      first_bytes = c.in_ok-first.ensures.bytes;
+      first_short = c.in_ok-first.ensures.short;
+      turn_is = c.in_ok-turn.ensures;
+      finishes = c.in_ok-last.ensures.finishes;
+      last_allowed = c.in_ok-last.ensures.allowed;
+      last_bytes = c.in_ok-last.ensures.bytes;
+      last_short = c.in_ok-last.ensures.short;
+    }))
+    code c.f.inside.two_d c.counts_of-counts.result.dests c.counts_of-counts.result.sources (ap (λ (x : FunctionValue). x.two_d) c.f.view_is) c.counts_of-counts.ensures.dests c.counts_of-counts.ensures.sources e).1)
+    c.whole_code.ensures

@@ -1,0 +1,39 @@
+-- Lines keep registers and bytes within their bounds.
+use Rattle.std.proofs.Common.{◌≡◌, ℕ, ◌==◌, Bool, true, false, if◌then◌else◌, List, [], ◌∷◌, ◌++◌, ap, subst}
+use Rattle.x86_ins.specs.declared.ins.Ins.{Ins}
+use Rattle.x86_ins.specs.Machine.{Core, Bounded}
+use Rattle.x86_ins.specs.Spelling.{IsIns}
+use Rattle.x86_ins.specs.Way.{Each}
+use Rattle.x86_ins.proofs.Bounds.{work_bounded}
+use Rattle.x86_flow.proofs.Flow.{Line}
+use Rattle.x86_flow.proofs.Spelled.{IsFine}
+
+pub line_bounded : (Q : Core → Ins → Type 0) (is : List Ins) (c d : Core) → Each IsIns is → Line Q is c d → Bounded c → Bounded d
+line_bounded Q [] c d k l h = subst Bounded l h
+line_bounded Q (i ∷ is) c d k l h = line_bounded Q is l.1.0 d k.1 l.1.2 (work_bounded i c l.1.0 k.0 h l.1.1)
+
+pub each_front : {A : Type 0} (P : A → Type 0) (a b : List A) → Each P (a ++ b) → Each P a
+each_front P [] b h = tt
+each_front P (x ∷ a) b h = (h.0, each_front P a b h.1)
+
+pub each_back : {A : Type 0} (P : A → Type 0) (a b : List A) → Each P (a ++ b) → Each P b
+each_back P [] b h = h
+each_back P (x ∷ a) b h = each_back P a b h.1
+
+pub ins_of : (is : List Ins) → Each IsFine is → Each IsIns is
+ins_of [] h = tt
+ins_of (i ∷ is) h = (h.0.allowed.0, ins_of is h.1)
+
+-- of a list of one or two, the first, and the second where there are two
+pub one_of : {A : Type 0} (P : A → Type 0) (n : ℕ) (x y : A) → Each P (if n == 2 then x ∷ y ∷ [] else x ∷ []) → P x
+one_of {A} P n x y g = go (n == 2) g
+  where
+    go : (b : Bool) → Each P (if b then x ∷ y ∷ [] else x ∷ []) → P x
+    go true g = g.0
+    go false g = g.0
+
+pub two_of : {A : Type 0} (P : A → Type 0) (n : ℕ) (x y : A) → n ≡ 2 → Each P (if n == 2 then x ∷ y ∷ [] else x ∷ []) → P y
+two_of P n x y l g = (subst (λ b. Each P (if b then x ∷ y ∷ [] else x ∷ [])) (eq_two n l) g).1.0
+  where
+    eq_two : (n : ℕ) → n ≡ 2 → (n == 2) ≡ true
+    eq_two n e = ap (λ n. n == 2) e

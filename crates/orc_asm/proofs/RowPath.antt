@@ -1,0 +1,109 @@
+-- The way of code with rows through a good call.
+use Rattle.std.proofs.Common.{◌≡◌, ℕ, ◌+◌, ◌*◌, ◌<◌, ◌≤◌, List, ◌++◌, length, Some, Ok, refl, ◌∙◌, arith, ◌⊎◌, inl, inr, length-append}
+use Rattle.orc_bits.specs.Memory.{word}
+use Rattle.orc_program.specs.declared.program.VarKind.TheVariants as kind
+use Rattle.orc_program.specs.Program.{FunctionValue, count_of}
+use Rattle.orc_program.specs.Meaning.{State, rows_of, start}
+use Rattle.x86_ins.specs.declared.ins.Ins.{Ins}
+use Rattle.x86_ins.specs.Machine.{Core, Point, Touches}
+use Rattle.x86_ins.specs.Way.{Placed}
+use Rattle.x86_flow.specs.Flow.{Flow}
+use Rattle.x86_flow.proofs.Flow.{Line, Does}
+use Rattle.orc_asm.specs.Subject.{Call as Arguments, rows}
+use Rattle.orc_asm.specs.RunsAs.{GoodCall, InBlock}
+use Rattle.orc_asm.specs.Function.{subject_of}
+use Rattle.orc_frame.specs.Frame.{saved}
+use Rattle.orc_asm.specs.Rows.{rows_code, whole_flow}
+use Rattle.orc_asm.proofs.RowsEmulated.{end_with}
+use Rattle.orc_asm.proofs.RowCells.{Arrays, call}
+use Rattle.orc_asm.proofs.RowCounts.{rows_count}
+use Rattle.orc_asm.proofs.RowLines.{InRows}
+use Rattle.orc_asm.proofs.RowLoop.{rsp, Frame, Cell, stack_low, Steady, Ready, Ended, begin, rows_done}
+
+module _ (f : FunctionValue) (known : Arrays f) (code : Placed) (s : Point) (args : Arguments) (back : ℕ) (good : GoodCall (subject_of f) code s args back) where
+  abbrev pub lowered : ℕ
+  lowered = rsp f known code s args back good
+
+  abbrev pub InFrame : ℕ → Type 0
+  InFrame = Frame f known code s args back good
+
+  abbrev pub InCells : ℕ → Type 0
+  InCells = Cell f known code s args back good
+
+  abbrev pub accs : ℕ
+  accs = count_of kind.Accumulator f.vars
+
+  -- the words of accumulators
+  abbrev pub Sums : ℕ → Type 0
+  Sums = λ x. (s.core.gpr 7 + 272 ≤ x) × (x < s.core.gpr 7 + 272 + 8 * accs)
+
+  -- what holds at each step
+  pub record Still (u : Core) : Type 0 where
+    pub stack : (u.gpr 4 ≡ s.core.gpr 4) ⊎ (u.gpr 4 ≡ lowered)
+    pub quiet : (a : ℕ) → (InCells a → ⊥) → (InFrame a → ⊥) → (Sums a → ⊥) → u.memory a ≡ s.core.memory a
+
+  abbrev pub Q : Core → Ins → Type 0
+  Q u i = Still u
+
+  -- what the last list leaves, where emulation ended with the state t
+  pub record Gone (t : State) (c d : Core) : Type 0 where
+    pub stack : d.gpr 4 ≡ s.core.gpr 4
+    pub registers : (j : ℕ) → j < 6 → d.gpr (saved j) ≡ s.core.gpr (saved j)
+    pub words : (g : ℕ) → g < accs → word d.memory (s.core.gpr 7 + 272 + 8 * g) ≡ Some ((end_with f t).sums g)
+    pub outside : (x : ℕ) → (Sums x → ⊥) → d.memory x ≡ c.memory x
+
+  -- what the lists around the rows and the code of a row's elements do in this call; each bounds the instructions of a row's elements
+  pub record Parts (first : List Ins) (elements : Flow) (last : List Ins) (each : ℕ) : Type 1 where
+    -- what holds between rows of the frame, but for the words of slots
+    pub Kept : State → Core → Type 0
+    pub kept_on : (e : State) (c d : Core) → Kept e c → ((x : ℕ) → (InRows lowered (s.core.gpr 7) (stack_low f known code s args back good) good.block_low x → ⊥) → d.memory x ≡ c.memory x) → Kept e d
+    pub begins : (d : Core) × Line Q first s.core d × Steady f known code s args back good Kept (start s.core.memory) d
+    pub does : (r : ℕ) (e : State) (c : Core) → r < rows (subject_of f) args → Ready f known code s args back good Kept r e c
+        → (t : State) × (done : List Ins) × (d : Core) × Does Q elements c done d × Ended f known code s args back good Kept r e t c d × (length done ≤ each)
+    pub ends : (t : State) (c : Core) → Steady f known code s args back good Kept t c → (d : Core) × Line Q last c d × Gone t c d
+
+  module _ (first : List Ins) (elements : Flow) (last : List Ins) (each : ℕ) (parts : Parts first elements last each) where
+    -- what the code leaves
+    pub record Passed (done : List Ins) (d : Core) : Type 0 where
+      pub end : State
+      pub emulated : rows_of f (call f known code s args back good) (rows (subject_of f) args) (start s.core.memory) ≡ Ok end
+      pub stack : d.gpr 4 ≡ s.core.gpr 4
+      pub registers : (j : ℕ) → j < 6 → d.gpr (saved j) ≡ s.core.gpr (saved j)
+      pub words : (g : ℕ) → g < accs → word d.memory (s.core.gpr 7 + 272 + 8 * g) ≡ Some ((end_with f end).sums g)
+      pub agree : (a : ℕ) → (InFrame a → ⊥) → (Sums a → ⊥) → d.memory a ≡ end.memory a
+      pub still : Still d
+      pub short : length done ≤ length first + length last + (2 * (count_of kind.Dest f.vars + count_of kind.Source f.vars) + 3) + (1 + rows (subject_of f) args * (2 + (each + 5 * (count_of kind.Dest f.vars + count_of kind.Source f.vars) + 5)))
+
+    calmly : (u : Core) (i : Ins) → u.gpr 4 ≡ lowered → ((a : ℕ) → (InCells a → ⊥) → (InFrame a → ⊥) → u.memory a ≡ s.core.memory a) → ((a : ℕ) → Touches i u a → InFrame a ⊎ InBlock s.core a) → Q u i
+    calmly u i e m t = record { stack = inr e; quiet = λ a nc nf ns. m a nc nf }
+
+    pub path : (done : List Ins) × (d : Core) × Does Q (whole_flow first elements last f.two_d (count_of kind.Dest f.vars) (count_of kind.Source f.vars)) s.core done d × Passed done d
+    path =
+        let a = parts.begins in
+        let b = begin f known code s args back good parts.Kept Q calmly parts.kept_on a.0 a.2 in
+        let x = rows_done f known code s args back good parts.Kept Q calmly parts.kept_on elements each parts.does (start s.core.memory) b.0 b.2 in
+        let z = parts.ends x.0 x.2 x.4.steady in
+        let starts = rows_code f.two_d (count_of kind.Dest f.vars) (count_of kind.Source f.vars) in
+        let rest = (starts ++ x.1) ++ last in
+        let d = z.0 in (
+          first ++ rest,
+          d,
+          (first, rest, a.0, (a.1, refl), (starts ++ x.1, last, x.2, (starts, x.1, b.0, (b.1, refl), x.3, refl), (z.1, refl), refl), refl),
+          record {
+            end = x.0;
+            emulated = x.4.emulated;
+            stack = z.2.stack;
+            registers = z.2.registers;
+            words = z.2.words;
+            agree = λ t nf ns. z.2.outside t ns ∙ x.4.steady.agree t nf;
+            still = record { stack = inl z.2.stack; quiet = λ t nc nf ns. z.2.outside t ns ∙ x.4.steady.quiet t nc nf };
+            short = omega (
+              arith,
+              length-append first rest,
+              length-append (starts ++ x.1) last,
+              length-append starts x.1,
+              rows_count (count_of kind.Dest f.vars) (count_of kind.Source f.vars) f.two_d,
+              x.5,
+            );
+          },
+        )

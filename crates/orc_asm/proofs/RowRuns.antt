@@ -1,0 +1,129 @@
+-- Code with rows runs as its function means.
+use Rattle.std.proofs.Common.{◌≡◌, ◌≢◌, ℕ, zero, suc, ◌+◌, ◌-◌, ◌*◌, ◌/◌, ◌^◌, ◌<◌, ◌≤◌, ◌⊎◌, min, pos, Bool, true, false, true≢false, if◌then◌else◌, List, length, is_some, Some, None, refl, sym, ap, ◌∙◌, subst, arith, mul-le-mul_left, inl, inr, ⊎_elim, div-one, le_refl}
+use Rattle.std.proofs.Math.Nat.{min-eq_left}
+use Rattle.orc_bits.specs.Memory.{Memory, word, IsMapped}
+use Rattle.orc_bits.proofs.LaneLaws.{change_other}
+use Rattle.orc_program.specs.declared.program.VarKind.TheVariants as kind
+use Rattle.orc_program.specs.Program.{FunctionValue, count_of}
+use Rattle.orc_program.specs.Checks.{patterns_of}
+use Rattle.orc_program.specs.Need.{turns, steps, cost}
+use Rattle.x86_ins.specs.declared.ins.Ins.{Ins}
+use Rattle.x86_ins.specs.Machine.{Core, Point, moved}
+use Rattle.x86_ins.specs.Spelling.{IsAllowed}
+use Rattle.x86_ins.specs.Way.{Placed, Way, Each}
+use Rattle.x86_flow.specs.Flow.{Flow, spell_all, with_return}
+use Rattle.x86_flow.proofs.Returning.{returned, returns, each_map}
+use Rattle.orc_asm.specs.Subject.{Call as Arguments}
+use Rattle.orc_asm.specs.RunsAs.{GoodCall, Saved}
+use Rattle.orc_asm.specs.Function.{subject_of, RunsAs}
+use Rattle.orc_frame.specs.Frame.{saved}
+use Rattle.orc_asm.specs.Rows.{whole_flow}
+use Rattle.orc_asm.proofs.RowsEmulated.{end_with, all_rows}
+use Rattle.orc_asm.proofs.RowCells.{Arrays, call, mapped}
+use Rattle.orc_asm.proofs.RowPath.{Parts, Still, path}
+use Rattle.x86_flow.proofs.Frame.{word_same}
+
+-- ---- what a return leaves
+
+moved_up : (r : ℕ) → r + 8 ≤ 2 ^ 47 → moved r (pos 8) ≡ r + 8
+moved_up r h = omega (arith, h)
+
+-- the return word is as it was
+word_kept : (s d : Core) (back : ℕ) → s.gpr 4 + 8 ≤ 2 ^ 47 → ((x : ℕ) → s.gpr 4 ≤ x → x < s.gpr 4 + 8 → d.memory x ≡ s.memory x) → d.gpr 4 ≡ s.gpr 4 → word s.memory (s.gpr 4) ≡ Some back → word d.memory (d.gpr 4) ≡ Some back
+word_kept s d back low same stack e = ap (λ a. word d.memory a) stack ∙ word_same d.memory s.memory (s.gpr 4) (omega (arith, low)) same ∙ e
+
+not_mapped : (mem : Memory) (a : ℕ) → mem a ≡ None → IsMapped mem a → ⊥
+not_mapped mem a e h = true≢false (sym h ∙ ap is_some e)
+
+-- an address of the sums is one of some sum
+sum_word : (b x n : ℕ) → b + 272 ≤ x → x < b + 272 + 8 * n → (g : ℕ) × (g < n) × ((b + 272 + 8 * g ≤ x) × (x < b + 272 + 8 * g + 8))
+sum_word b x n l u =
+    let g = (x - (b + 272)) / 8 in
+    (g, omega (arith, l, u), (omega (arith, l), omega (arith, l)))
+
+saved_again : (s t : Core) → ((j : ℕ) → j < 6 → t.gpr (saved j) ≡ s.gpr (saved j)) → Saved s t
+saved_again s t h = record { rbx = h 0 (omega arith); rbp = h 1 (omega arith); r12 = h 2 (omega arith); r13 = h 3 (omega arith); r14 = h 4 (omega arith); r15 = h 5 (omega arith) }
+
+saved_not : (j r : ℕ) → (r < 3) ⊎ ((r ≡ 4) ⊎ ((5 < r) × (r < 12))) → saved j ≢ r
+saved_not zero r h e = grind (arith)
+saved_not (suc zero) r h e = grind (arith)
+saved_not (suc (suc j)) r h e = grind (arith)
+
+-- ---- steps
+
+one_or : (t : Bool) (m : ℕ) → (if t then (if t then m else 1) else 1) ≡ (if t then m else 1)
+one_or true m = refl
+one_or false m = refl
+
+turns_one : (n : ℕ) → turns 1 n ≡ n
+turns_one n = ap (λ q. min n (q + 2 * 1 - 2)) (div-one n) ∙ ap (λ q. min n q) (let z : n + 2 * 1 - 2 ≡ n = omega arith in z) ∙ min-eq_left (le_refl n)
+
+-- what the lists, and a turn, may have
+pub record AreShort (f : FunctionValue) (first last : List Ins) (turn : ℕ) : Type 0 where
+  pub lists : length first + length last ≤ 15 + 8 * length (patterns_of f.vars f.insns) + 16 * count_of kind.Accumulator f.vars
+  pub turn_few : turn ≤ cost f + (count_of kind.Dest f.vars + count_of kind.Source f.vars) + 1
+
+-- the instructions of a row's elements, by those of a turn
+abbrev pub elements_of : ℕ → ℕ → ℕ
+elements_of turn n = 1 + n * (2 + turn)
+
+pub steps_rows : (f : FunctionValue) (known : Arrays f) (first last : List Ins) (turn n m : ℕ) → AreShort f first last turn
+    → length first + length last + (2 * (count_of kind.Dest f.vars + count_of kind.Source f.vars) + 3) + (1 + (if f.two_d then m else 1) * (2 + (elements_of turn n + 5 * (count_of kind.Dest f.vars + count_of kind.Source f.vars) + 5))) + 1
+    ≤ steps f n (if f.two_d then m else 1)
+steps_rows f known first last turn n m short =
+    let arrays = count_of kind.Dest f.vars + count_of kind.Source f.vars in
+    let g = count_of kind.Accumulator f.vars in
+    let c = length (patterns_of f.vars f.insns) in
+    let rows = if f.two_d then m else 1 in
+    let within : n * (2 + turn) ≤ n * (cost f + arrays + 6) = mul-le-mul_left n (omega (arith, short.turn_few)) in
+    let row : rows * (2 + (elements_of turn n + 5 * arrays + 5)) ≤ rows * (24 + 8 * arrays + n * (cost f + arrays + 6)) = mul-le-mul_left rows (omega (arith, within)) in
+    let same : steps f n rows ≡ 64 + 8 * c + 16 * g + rows * (24 + 8 * arrays + n * (cost f + arrays + 6)) =
+    ap (λ k. 64 + 8 * c + 16 * g + k * (24 + 8 * arrays + turns 1 n * (cost f + arrays + 6))) (one_or f.two_d m)
+    ∙ ap (λ k. 64 + 8 * c + 16 * g + rows * (24 + 8 * arrays + k * (cost f + arrays + 6))) (turns_one n) in
+    omega (arith, same, row, short.lists, known.few.dests, known.few.sources)
+
+-- ---- the whole
+
+module _ (f : FunctionValue) (known : Arrays f) (first : List Ins) (elements : Flow) (last : List Ins) (turn : ℕ) (short : AreShort f first last turn)
+    (parts : (code : Placed) (s : Point) (args : Arguments) (back : ℕ) (good : GoodCall (subject_of f) code s args back) → Parts f known code s args back good first elements last (elements_of turn args.n)) where
+  abbrev pub flow : Flow
+  flow = whole_flow first elements last f.two_d (count_of kind.Dest f.vars) (count_of kind.Source f.vars)
+
+  -- each good call of the code returns
+  pub runs : Each IsAllowed (with_return flow) → RunsAs f (spell_all (with_return flow))
+  runs allowed start s args back good =
+      let code : Placed = record { bytes = spell_all (with_return flow); start = start } in
+      let x = path f known code s args back good first elements last (elements_of turn args.n) (parts code s args back good) in
+      let done = x.0 in
+      let d = x.1 in
+      let h = x.3 in
+      let low = good.return_low in
+      let Q : Core → Ins → Type 0 = λ u i. Still f known code s args back good u in
+      let return_same : (t : ℕ) → s.core.gpr 4 ≤ t → t < s.core.gpr 4 + 8 → d.memory t ≡ s.core.memory t = λ t l u.
+      h.still.quiet t
+      (λ w. (good.disjoint.cells t w).1 (l, u))
+      (λ w. omega (arith, w.0, l))
+      (λ w. (good.disjoint.block t (omega (arith, w.0), omega (arith, w.1, known.few.accs))).0 (l, u)) in
+      let word_back = word_kept s.core d back low return_same h.stack good.returns in
+      let b = returns Q flow start allowed good.code_low s.core d done x.2 h.still back word_back in
+      let at_start : record { core = s.core; rip = start } ≡ s = ap (λ r. record { core = s.core; rip = r }) (sym good.first) in
+      let raised : moved (d.gpr 4) (pos 8) ≡ s.core.gpr 4 + 8 = ap (λ r. moved r (pos 8)) h.stack ∙ moved_up (s.core.gpr 4) low in
+      let bound = steps_rows f known first last turn args.n args.m short in
+      record {
+        end = end_with f h.end;
+        means = all_rows f (call f known code s args back good) s.core.memory h.end h.emulated;
+        way = b.way;
+        t = returned d back;
+        runs = subst (λ u. Way code u b.way (returned d back)) at_start b.runs;
+        short = omega (arith, b.count, h.short, bound);
+        over = (refl, raised);
+        not_before = each_map _ _ (λ m q o. ⊎_elim (λ e. omega (arith, e, o.1)) (λ e. omega (arith, e, o.1)) q.stack) b.way b.each;
+        same = λ t m nf ns. h.agree t nf (λ w. ns (sum_word (s.core.gpr 7) t (count_of kind.Accumulator f.vars) w.0 w.1));
+        sums = h.words;
+        rest = λ t e. h.still.quiet t
+            (λ w. not_mapped s.core.memory t e (mapped f known code s args back good t w))
+            (λ w. not_mapped s.core.memory t e (good.frame t w))
+            (λ w. not_mapped s.core.memory t e (good.block t (omega (arith, w.0), omega (arith, w.1, known.few.accs))));
+        saved = saved_again s.core (returned d back).core (λ j l. change_other d.gpr 4 (moved (d.gpr 4) (pos 8)) (saved j) (saved_not j 4 (inr (inl refl))) ∙ h.registers j l);
+        more = tt;
+      }

@@ -1,6 +1,0 @@
-use Rattle.std.proofs.Common.{◌≡◌, ◌++◌}
-use Rattle.orc_asm.specs.Code.{restores_code}
-use Rattle.orc_asm.proofs.lists.push_restores.Given as goal
-
-abbrev pub invariant-loop-place : goal.invariant-loop-place
-invariant-loop-place l = l.list ≡ l.initial.list ++ restores_code l.place

@@ -1,0 +1,101 @@
+-- The code of a function's rows: the compiler's plan.
+use Rattle.std.specs.Prelude.{ℕ, zero, suc, ◌+◌, ◌*◌, Bool, if◌then◌else◌, pos, List, [], ◌∷◌, ◌++◌}
+use Rattle.x86_ins.specs.declared.ins.AluOp.TheVariants.{Add, Sub}
+use Rattle.x86_ins.specs.declared.ins.Cond.TheVariants.{Ne}
+use Rattle.x86_ins.specs.declared.ins.Ins.{Ins}
+use Rattle.x86_ins.specs.declared.ins.Ins.TheVariants.{Load, Store, MovImm, Alu, AluImm, Test}
+use Rattle.x86_flow.specs.Flow.{Flow, Plain, Chain, Repeat}
+use Rattle.x86_flow.specs.Moves.{away}
+use Rattle.orc_asm.specs.declared.rows.SlotCode.{SlotCode}
+use Rattle.orc_asm.specs.declared.rows.SlotCode.TheVariants as for_slot
+use Rattle.orc_asm.specs.Code.{pointer}
+
+-- ---- words of the frame: of each array slot the base of its row, and the number of rows that are left
+
+-- how far above RSP the word of an array slot stands
+abbrev pub base_word : ℕ → ℕ
+base_word k = 880 + 8 * k
+
+abbrev pub rows_word : ℕ
+rows_word = 984
+
+-- ---- words of the block: of each array slot the base and the stride
+
+abbrev pub first_word : ℕ → ℕ
+first_word k = 16 + 16 * k
+
+abbrev pub stride_word : ℕ → ℕ
+stride_word k = 24 + 16 * k
+
+-- ---- lists
+
+-- the lists of so many slots from a first one, one behind another
+abbrev pub slots_code : (ℕ → List Ins) → ℕ → ℕ → List Ins
+slots_code code first zero = []
+slots_code code first (suc n) = slots_code code first n ++ code (first + n)
+
+-- those of dests, and then those of sources
+abbrev pub arrays_code : (ℕ → List Ins) → ℕ → ℕ → List Ins
+arrays_code code dests sources = slots_code code 0 dests ++ slots_code code 4 sources
+
+-- ---- before the first row
+
+-- the base of an array becomes that of its row
+abbrev pub base_code : ℕ → List Ins
+base_code k = Load 0 (away 7 (first_word k)) ∷ Store 0 (away 4 (base_word k)) ∷ []
+
+-- the number of rows: the block's where the function has rows, and else 1
+abbrev pub number_code : Bool → Ins
+number_code two_d = if two_d then Load 0 (away 7 8) else MovImm 0 1
+
+abbrev pub count_code : Bool → List Ins
+count_code two_d = number_code two_d ∷ Store 0 (away 4 rows_word) ∷ Test 0 0 ∷ []
+
+abbrev pub rows_code : Bool → ℕ → ℕ → List Ins
+rows_code two_d dests sources = arrays_code base_code dests sources ++ count_code two_d
+
+-- ---- a row
+
+-- the pointer of an array is loaded
+abbrev pub pointer_code : ℕ → List Ins
+pointer_code k = Load (pointer k) (away 4 (base_word k)) ∷ []
+
+-- the counter is loaded, and whether there are elements
+abbrev pub counter_code : List Ins
+counter_code = Load 1 (away 7 0) ∷ Test 1 1 ∷ []
+
+abbrev pub row_entry_code : ℕ → ℕ → List Ins
+row_entry_code dests sources = arrays_code pointer_code dests sources ++ counter_code
+
+-- an array's row goes on by its stride
+abbrev pub stride_code : ℕ → List Ins
+stride_code k = Load 0 (away 4 (base_word k)) ∷ Load 1 (away 7 (stride_word k)) ∷ Alu Add 0 1 ∷ Store 0 (away 4 (base_word k)) ∷ []
+
+-- one row less is left, and whether it was the last
+abbrev pub one_less_code : List Ins
+one_less_code = Load 0 (away 4 rows_word) ∷ AluImm Sub 0 (pos 1) ∷ Store 0 (away 4 rows_word) ∷ []
+
+abbrev pub row_step_code : ℕ → ℕ → List Ins
+row_step_code dests sources = arrays_code stride_code dests sources ++ one_less_code
+
+-- what is done for an array's slot
+abbrev pub slot_code : SlotCode → ℕ → List Ins
+slot_code for_slot.Base = base_code
+slot_code for_slot.Pointer = pointer_code
+slot_code for_slot.Stride = stride_code
+
+-- a row does its elements by turns
+abbrev pub turns_flow : List Ins → Flow
+turns_flow turn = Repeat Ne (Plain turn)
+
+-- a row does its elements by this code
+abbrev pub row_flow : Flow → ℕ → ℕ → Flow
+row_flow elements dests sources = Chain (Plain (row_entry_code dests sources)) (Chain elements (Plain (row_step_code dests sources)))
+
+-- all rows
+abbrev pub rows_flow : Flow → Bool → ℕ → ℕ → Flow
+rows_flow elements two_d dests sources = Chain (Plain (rows_code two_d dests sources)) (Repeat Ne (row_flow elements dests sources))
+
+-- rows between two lists
+abbrev pub whole_flow : List Ins → Flow → List Ins → Bool → ℕ → ℕ → Flow
+whole_flow first elements last two_d dests sources = Chain (Plain first) (Chain (rows_flow elements two_d dests sources) (Plain last))

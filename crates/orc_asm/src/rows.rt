@@ -1,0 +1,259 @@
+//! The lists of instructions around rows.
+
+ghost use Rattle.std.specs.Prelude.{◌≡◌, ◌<◌, ◌≤◌, ◌+◌, ◌++◌, All, IfOk, IsTrue, OnOk};
+ghost use Rattle.x86_ins.specs.Spelling.{has_spelling};
+ghost use Rattle.x86_flow.specs.Flow.{flat, size, spell_all, with_return};
+ghost use Rattle.x86_flow.specs.Moves.{away};
+ghost use Rattle.orc_asm.specs.Rows.{base_word, slot_code, slots_code, arrays_code, base_code, stride_code, number_code, rows_code, row_entry_code, row_step_code, turns_flow, row_flow, whole_flow};
+
+use crate::lists::{BLOCK, COUNTER, STACK, pointer};
+use orc_bits::Code;
+use sqlite_items::Items;
+use std::alloc::{AllocError, Global};
+use x86_flow::{SCRATCH, away, put, put_list, put_loop};
+use x86_ins::{Addr, AluOp, Cond, Ins, InsList};
+
+/// Where the number of rows that are left stands, in bytes above RSP.
+const ROWS: usize = 984;
+
+/// What is done for each array.
+#[derive(Clone, Copy)]
+pub enum SlotCode {
+    /// Its base becomes that of the first row.
+    Base,
+    /// Its pointer becomes the base of the row.
+    Pointer,
+    /// Its row goes on by its stride.
+    Stride,
+}
+
+/// The word of an array slot in the frame, which holds the base of its row.
+fn base_at(slot: usize) -> Addr
+    requires { slot < 12 }
+    ensures { result ≡ away 4 (base_word slot) }
+{
+    away(STACK, 880 + 8 * slot)
+}
+
+/// Adds what makes an array's base that of the first row.
+fn push_base(list: &mut InsList, slot: usize) -> Result<(), AllocError>
+    requires { slot < 12 }
+    ensures { OnOk result (list.new ≡ list.old ++ base_code slot) }
+{
+    list.push(Ins::Load {
+        dst: SCRATCH,
+        at: away(BLOCK, 16 + 16 * slot),
+    })?;
+    list.push(Ins::Store {
+        src: SCRATCH,
+        at: base_at(slot),
+    })
+}
+
+/// Adds what moves an array's row on by its stride.
+fn push_stride(list: &mut InsList, slot: usize) -> Result<(), AllocError>
+    requires { slot < 12 }
+    ensures { OnOk result (list.new ≡ list.old ++ stride_code slot) }
+{
+    list.push(Ins::Load {
+        dst: SCRATCH,
+        at: base_at(slot),
+    })?;
+    list.push(Ins::Load {
+        dst: COUNTER,
+        at: away(BLOCK, 24 + 16 * slot),
+    })?;
+    list.push(Ins::Alu {
+        op: AluOp::Add,
+        dst: SCRATCH,
+        src: COUNTER,
+    })?;
+    list.push(Ins::Store {
+        src: SCRATCH,
+        at: base_at(slot),
+    })
+}
+
+/// Adds what is done for one array.
+fn push_slot(list: &mut InsList, what: SlotCode, slot: usize) -> Result<(), AllocError>
+    requires { slot < 12 }
+    ensures { OnOk result (list.new ≡ list.old ++ slot_code what slot) }
+{
+    match what {
+        SlotCode::Base => push_base(list, slot),
+        SlotCode::Pointer => list.push(Ins::Load {
+            dst: pointer(slot),
+            at: base_at(slot),
+        }),
+        SlotCode::Stride => push_stride(list, slot),
+    }
+}
+
+/// Adds what is done for `n` slots from `first` on.
+#[tactic(auto, using(crate::proofs::RowPushes::slots_none, crate::proofs::RowPushes::slots_more))]
+fn push_slots(list: &mut InsList, what: SlotCode, first: usize, n: usize) -> Result<(), AllocError>
+    requires { first + n ≤ 12 }
+    ensures { OnOk result (list.new ≡ list.old ++ slots_code (slot_code what) first n) }
+{
+    for k in 0..n {
+        push_slot(list, what, first + k)?;
+    }
+    Ok(())
+}
+
+/// Adds what is done for all arrays.
+#[tactic(auto, using(crate::proofs::RowPushes::arrays_both))]
+fn push_arrays(
+    list: &mut InsList,
+    what: SlotCode,
+    dests: usize,
+    sources: usize,
+) -> Result<(), AllocError>
+    requires dests { dests ≤ 4 }
+    requires sources { sources ≤ 8 }
+    ensures { OnOk result (list.new ≡ list.old ++ arrays_code (slot_code what) dests sources) }
+{
+    push_slots(list, what, 0, dests)?;
+    push_slots(list, what, 4, sources)
+}
+
+/// Moves the number of rows to RAX: the block's where the function has rows, and else 1.
+fn number(two_d: bool) -> Ins
+    ensures { result ≡ number_code two_d }
+{
+    if two_d {
+        Ins::Load {
+            dst: SCRATCH,
+            at: away(BLOCK, 8),
+        }
+    } else {
+        Ins::MovImm {
+            dst: SCRATCH,
+            value: 1,
+        }
+    }
+}
+
+/// What comes before the first row of a function with so many dests and sources.
+#[tactic(auto, using(crate::proofs::RowPushes::rows_whole))]
+pub fn rows_list(
+    alloc: Global,
+    two_d: bool,
+    dests: usize,
+    sources: usize,
+) -> Result<InsList, AllocError>
+    requires dests { dests ≤ 4 }
+    requires sources { sources ≤ 8 }
+    ensures { IfOk result (λ list. list ≡ rows_code two_d dests sources) }
+{
+    let mut list = InsList::new(alloc);
+    push_arrays(&mut list, SlotCode::Base, dests, sources)?;
+    list.push(number(two_d))?;
+    list.push(Ins::Store {
+        src: SCRATCH,
+        at: away(STACK, ROWS),
+    })?;
+    list.push(Ins::Test {
+        a: SCRATCH,
+        b: SCRATCH,
+    })?;
+    Ok(list)
+}
+
+/// What comes before the elements of a row.
+#[tactic(auto, using(crate::proofs::RowPushes::entry_whole))]
+pub fn row_entry_list(alloc: Global, dests: usize, sources: usize) -> Result<InsList, AllocError>
+    requires dests { dests ≤ 4 }
+    requires sources { sources ≤ 8 }
+    ensures { IfOk result (λ list. list ≡ row_entry_code dests sources) }
+{
+    let mut list = InsList::new(alloc);
+    push_arrays(&mut list, SlotCode::Pointer, dests, sources)?;
+    list.push(Ins::Load {
+        dst: COUNTER,
+        at: away(BLOCK, 0),
+    })?;
+    list.push(Ins::Test {
+        a: COUNTER,
+        b: COUNTER,
+    })?;
+    Ok(list)
+}
+
+/// What comes after the elements of a row.
+#[tactic(auto, using(crate::proofs::RowPushes::step_whole))]
+pub fn row_step_list(alloc: Global, dests: usize, sources: usize) -> Result<InsList, AllocError>
+    requires dests { dests ≤ 4 }
+    requires sources { sources ≤ 8 }
+    ensures { IfOk result (λ list. list ≡ row_step_code dests sources) }
+{
+    let mut list = InsList::new(alloc);
+    push_arrays(&mut list, SlotCode::Stride, dests, sources)?;
+    list.push(Ins::Load {
+        dst: SCRATCH,
+        at: away(STACK, ROWS),
+    })?;
+    list.push(Ins::AluImm {
+        op: AluOp::Sub,
+        dst: SCRATCH,
+        value: 1,
+    })?;
+    list.push(Ins::Store {
+        src: SCRATCH,
+        at: away(STACK, ROWS),
+    })?;
+    Ok(list)
+}
+
+/// The bytes of a row: its start, turns over its elements, and its end.
+fn row_bytes(
+    alloc: Global,
+    turn: &[Ins],
+    dests: usize,
+    sources: usize,
+) -> Result<Vec<u8>, AllocError>
+    requires spelled { All (λ i. IsTrue (has_spelling i)) turn.now }
+    requires few { size turn.now ≤ 900000 }
+    requires dests { dests ≤ 4 }
+    requires sources { sources ≤ 8 }
+    ensures { IfOk result (λ bytes. bytes.items ≡ spell_all (flat (row_flow (turns_flow turn.now) dests sources))) }
+{
+    let enter = row_entry_list(alloc, dests, sources)?;
+    let leave = row_step_list(alloc, dests, sources)?;
+    let mut body = Vec::new(alloc);
+    put_list(&mut body, turn)?;
+    let mut row = Vec::new(alloc);
+    put_list(&mut row, enter.as_slice())?;
+    put_loop(&mut row, Cond::Ne, &body)?;
+    put_list(&mut row, leave.as_slice())?;
+    Ok(row)
+}
+
+/// Code of rows between two lists, in which turns do the elements of a row.
+pub fn whole_code(
+    alloc: Global,
+    first: &[Ins],
+    turn: &[Ins],
+    last: &[Ins],
+    two_d: bool,
+    dests: usize,
+    sources: usize,
+) -> Result<Code, AllocError>
+    requires first_spelled { All (λ i. IsTrue (has_spelling i)) first.now }
+    requires turn_spelled { All (λ i. IsTrue (has_spelling i)) turn.now }
+    requires last_spelled { All (λ i. IsTrue (has_spelling i)) last.now }
+    requires few { size turn.now ≤ 900000 }
+    requires dests { dests ≤ 4 }
+    requires sources { sources ≤ 8 }
+    ensures { IfOk result (λ code. code ≡ spell_all (with_return (whole_flow first.now (turns_flow turn.now) last.now two_d dests sources))) }
+{
+    let starts = rows_list(alloc, two_d, dests, sources)?;
+    let row = row_bytes(alloc, turn, dests, sources)?;
+    let mut code = Vec::new(alloc);
+    put_list(&mut code, first)?;
+    put_list(&mut code, starts.as_slice())?;
+    put_loop(&mut code, Cond::Ne, &row)?;
+    put_list(&mut code, last)?;
+    put(&mut code, &Ins::Ret)?;
+    Ok(Items::from_vec(code))
+}
