@@ -11,7 +11,7 @@ mod store;
 
 pub use run::{Accs, emulate};
 pub use state::Unmapped;
-pub use store::{Store, are_low};
+pub use store::{Store, are_low, overlaps};
 
 #[cfg(test)]
 mod tests;

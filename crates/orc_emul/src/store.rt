@@ -94,7 +94,7 @@ fn meets(a: &Part, b: &Part) -> bool
 }
 
 /// Whether two of the parts share an address.
-fn overlaps(parts: &[Part]) -> bool
+pub fn overlaps(parts: &[Part]) -> bool
     ensures { IsTrue result ↔ Overlaps (layout parts.now) }
 {
     for j in 0..parts.len() {

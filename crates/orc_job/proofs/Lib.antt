@@ -1,0 +1,4 @@
+pub mod Each
+pub mod Unless
+pub mod Faults
+pub mod Keeping

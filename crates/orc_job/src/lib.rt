@@ -1,0 +1,19 @@
+//! Jobs: calls of a function on a memory, read from JSON, and the printed results of what they do.
+#![tactic(auto)]
+
+mod error;
+mod forms;
+mod job;
+mod lists;
+mod outcome;
+mod printing;
+mod reading;
+
+pub use error::{Field, JobError};
+pub use job::{Job, fit};
+pub use outcome::{EndLine, Outcome};
+pub use printing::print_result;
+pub use reading::{one_reading, read_job};
+
+#[cfg(test)]
+mod tests;
