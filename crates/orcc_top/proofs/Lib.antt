@@ -1,3 +1,11 @@
 pub mod Images
 pub mod Limits
 pub mod Entries
+pub mod Reading
+pub mod Overlapping
+pub mod Separated
+pub mod Segmented
+pub mod Emulated
+pub mod Accepting
+pub mod Calls
+pub mod Widest

@@ -4,10 +4,12 @@ use Rattle.std.specs.Option.{option_or}
 use Rattle.orc_image.specs.Spelling.{ImageValue, ImageOf}
 use Rattle.orc_image.specs.Listing.{IsListing}
 use Rattle.orcc_top.specs.declared.command.Command.{Command}
-use Rattle.orcc_top.specs.declared.command.Command.TheVariants.{Asm, Fmt, Dis}
+use Rattle.orcc_top.specs.declared.command.Command.TheVariants.{Asm, Check, Fmt, Dis, Emulate}
 use Rattle.orcc_top.specs.declared.refusal.Refusal.{Refusal}
 use Rattle.orcc_top.specs.declared.refusal.Refusal.TheVariants.{TooLong, Image}
 use Rattle.orcc_top.specs.Assembly.{IsAssembled, unbuilt_refusal}
+use Rattle.orcc_top.specs.Emulation.{IsEmulated, emulate_refusal}
+use Rattle.orcc_top.specs.Figures.{IsChecked}
 use Rattle.orcc_top.specs.Texts.{IsFormatted, fault_refusal}
 use Rattle.orcc_top.specs.Commands.{Word, words_of}
 use Rattle.orcc_top.specs.Images.{image_refusal}
@@ -16,14 +18,18 @@ use Rattle.orcc_top.specs.Refusals.{line_of}
 -- the most bytes that a command's input has
 abbrev pub limit_of : Command → ℕ
 limit_of Asm = 1048576
+limit_of Check = 1048576
 limit_of Fmt = 1048576
 limit_of Dis = 67108864
+limit_of Emulate = 67108864
 
 -- why a command refuses an input within its limit, if it does
 abbrev pub refusal_within : Command → List ℕ → Option Refusal
 refusal_within Asm input = option_or (fault_refusal input) (unbuilt_refusal input)
+refusal_within Check input = fault_refusal input
 refusal_within Fmt input = fault_refusal input
 refusal_within Dis input = option_map (λ e. Image e) (image_refusal input)
+refusal_within Emulate input = emulate_refusal input
 
 -- why a command refuses an input, if it does: for its length, or else for what it says
 abbrev pub refusal_of : Command → List ℕ → Option Refusal
@@ -32,8 +38,10 @@ refusal_of command input = if nat_lt (limit_of command) (length input) then Some
 -- the bytes are a command's output for an input that it accepts
 abbrev pub IsOutput : Command → List ℕ → List ℕ → Type 0
 IsOutput Asm input bytes = IsAssembled input bytes
+IsOutput Check input bytes = IsChecked input bytes
 IsOutput Fmt input bytes = IsFormatted input bytes
 IsOutput Dis input bytes = (image : ImageValue) × ImageOf input image × IsListing image bytes
+IsOutput Emulate input bytes = IsEmulated input bytes
 
 -- the words ask for a command that accepts the input, and the bytes are its output
 pub record Answer (words : List Word) (input bytes : List ℕ) : Type 0 where

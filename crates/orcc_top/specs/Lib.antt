@@ -1,7 +1,11 @@
 pub mod Answer
 pub mod Assembly
 pub mod Commands
+pub mod Emulation
+pub mod Figures
 pub mod Images
+pub mod Inputs
+pub mod Jobs
 pub mod Refusals
 pub mod Replies
 pub mod Runs

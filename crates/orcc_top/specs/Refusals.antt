@@ -4,8 +4,11 @@ use Rattle.orc_program.specs.declared.fault.Fault.{Fault}
 use Rattle.orc_program.specs.declared.fault.Fault.TheVariants as fault
 use Rattle.orc_image.specs.declared.error.ImageError.{ImageError}
 use Rattle.orc_image.specs.declared.error.ImageError.TheVariants.{BadMagic, BadVersion, Short, BadField, Memory}
+use Rattle.orc_job.specs.declared.error.JobError.{JobError}
+use Rattle.orc_job.specs.declared.error.JobError.TheVariants as job
+use Rattle.orc_job.specs.Fields.{name_of}
 use Rattle.orcc_top.specs.declared.refusal.Refusal.{Refusal}
-use Rattle.orcc_top.specs.declared.refusal.Refusal.TheVariants.{TooLong, Text, NotBuilt, Image}
+use Rattle.orcc_top.specs.declared.refusal.Refusal.TheVariants.{TooLong, Text, NotBuilt, Image, Job}
 
 -- a fault's name
 abbrev pub fault_text : Fault → List ℕ
@@ -38,11 +41,21 @@ image_text (Short need) = codes "Short " ++ decimal need
 image_text (BadField at) = codes "BadField " ++ decimal at
 image_text Memory = codes "Memory"
 
+-- what a job is refused for; want of memory is no such cause
+abbrev pub job_text : JobError → List ℕ
+job_text job.NotJson = codes "NotJson"
+job_text (job.Missing field) = codes "Missing " ++ name_of field
+job_text (job.BadField field) = codes "BadField " ++ name_of field
+job_text (job.TooLarge field) = codes "TooLarge " ++ name_of field
+job_text job.Overlap = codes "Overlap"
+job_text job.Memory = codes "Memory"
+
 abbrev pub text_of : Refusal → List ℕ
 text_of TooLong = codes "TooLong"
 text_of (Text line f) = codes "line " ++ decimal line ++ codes ": " ++ fault_text f
 text_of (NotBuilt line) = codes "line " ++ decimal line ++ codes ": NotBuilt"
 text_of (Image e) = codes "image: " ++ image_text e
+text_of (Job e) = codes "job: " ++ job_text e
 
 -- the line, with its end
 abbrev pub line_of : Refusal → List ℕ

@@ -1,7 +1,7 @@
 -- The canonical text of a text, and the refusal of a text for its first fault.
-use Rattle.std.specs.Prelude.{◌≡◌, ℕ, List, Option, option_map}
+use Rattle.std.specs.Prelude.{◌≡◌, ℕ, List, Option, None, option_map}
 use Rattle.orc_program.specs.Program.{ProgramValue}
-use Rattle.orc_text.specs.Reads.{Reads, text_fault}
+use Rattle.orc_text.specs.Reads.{Reads, text_fault, text_program}
 use Rattle.orc_text.specs.Shown.{program_text}
 use Rattle.orcc_top.specs.declared.refusal.Refusal.{Refusal}
 use Rattle.orcc_top.specs.declared.refusal.Refusal.TheVariants.{Text}
@@ -15,3 +15,6 @@ pub record IsFormatted (text bytes : List ℕ) : Type 0 where
   pub program : ProgramValue
   pub reads : Reads text program
   pub shown : bytes ≡ program_text program
+  -- they are a text without a fault, and their own canonical text
+  pub faultless : text_fault bytes ≡ None
+  pub fixed : program_text (text_program bytes) ≡ bytes

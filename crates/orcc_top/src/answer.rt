@@ -6,7 +6,9 @@ ghost use Rattle.orcc_top.specs.Runs.{Takes};
 ghost use Rattle.orcc_top.specs.Replies.{Replies};
 
 use crate::assembly::assemble_text;
+use crate::checking::check_text;
 use crate::command::Command;
+use crate::emulation::emulate_job;
 use crate::formatting::format_text;
 use crate::listing::disassemble;
 use crate::refusal::{Refusal, line_of};
@@ -40,8 +42,10 @@ fn reply_within(alloc: Global, command: Command, input: &[u8]) -> Result<Reply, 
 {
     match command {
         Command::Asm => assemble_text(alloc, input),
+        Command::Check => check_text(alloc, input),
         Command::Fmt => format_text(alloc, input),
         Command::Dis => disassemble(alloc, input),
+        Command::Emulate => emulate_job(alloc, input),
     }
 }
 

@@ -17,7 +17,7 @@ use std::alloc::{AllocError, Global};
 
 /// How many variables of a kind a function has.
 #[tactic(auto, using(crate::proofs::Entries::few, crate::proofs::Entries::most_fits))]
-fn count(f: &Function, kind: VarKind) -> u8
+pub fn count(f: &Function, kind: VarKind) -> u8
     requires { is_function f.now ≡ true }
     ensures count { result ≡ count_of kind f.now.vars }
     ensures few { result ≤ most_of kind }

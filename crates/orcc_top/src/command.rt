@@ -7,16 +7,26 @@ ghost use Rattle.orcc_top.specs.Commands.{spelled, words_of, IsWrongUsage};
 pub enum Command {
     /// `asm`: reads a text and writes an image.
     Asm,
+    /// `check`: reads a text and writes the figures of its functions.
+    Check,
     /// `fmt`: reads a text and writes its canonical text.
     Fmt,
     /// `dis`: reads an image and writes its listing.
     Dis,
+    /// `emulate`: reads a text and a job, and writes the result of the job's emulation.
+    Emulate,
 }
 
 fn is_asm(word: &str) -> bool
     ensures { IsTrue result ↔ (word.now ≡ codes "asm") }
 {
     word == "asm"
+}
+
+fn is_check(word: &str) -> bool
+    ensures { IsTrue result ↔ (word.now ≡ codes "check") }
+{
+    word == "check"
 }
 
 fn is_fmt(word: &str) -> bool
@@ -31,6 +41,12 @@ fn is_dis(word: &str) -> bool
     word == "dis"
 }
 
+fn is_emulate(word: &str) -> bool
+    ensures { IsTrue result ↔ (word.now ≡ codes "emulate") }
+{
+    word == "emulate"
+}
+
 /// The command that the words ask for, if they are one of the listed forms.
 pub fn command_of(words: &[String]) -> Option<Command>
     ensures asked { IfSome result (λ command. spelled words.now ≡ words_of command) }
@@ -38,8 +54,10 @@ pub fn command_of(words: &[String]) -> Option<Command>
 {
     match words {
         [word] if is_asm(word.as_str()) => Some(Command::Asm),
+        [word] if is_check(word.as_str()) => Some(Command::Check),
         [word] if is_fmt(word.as_str()) => Some(Command::Fmt),
         [word] if is_dis(word.as_str()) => Some(Command::Dis),
+        [word] if is_emulate(word.as_str()) => Some(Command::Emulate),
         _ => None,
     }
 }
@@ -53,8 +71,8 @@ impl Command {
         ensures readable { result ≤ 67108864 }
     {
         match self {
-            Command::Asm | Command::Fmt => 1_048_576,
-            Command::Dis => 67_108_864,
+            Command::Asm | Command::Check | Command::Fmt => 1_048_576,
+            Command::Dis | Command::Emulate => 67_108_864,
         }
     }
 }

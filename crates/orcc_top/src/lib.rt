@@ -4,11 +4,15 @@
 
 mod answer;
 mod assembly;
+mod calling;
+mod checking;
 mod command;
+mod emulation;
 mod formatting;
 mod listing;
 mod refusal;
 mod reply;
+mod separating;
 mod status;
 mod top;
 mod writing;

@@ -3,6 +3,7 @@ ghost use Rattle.std.specs.Prelude.{◌≡◌, IfOk, Some, string_bytes};
 ghost use Rattle.orcc_top.specs.Refusals.{fault_text, text_of, line_of};
 
 use orc_image::ImageError;
+use orc_job::JobError;
 use orc_program::Fault;
 use std::alloc::{AllocError, Global};
 use std::fmt;
@@ -18,6 +19,8 @@ pub enum Refusal {
     NotBuilt { line: u32 },
     /// The input is not one image: its first field that is not all there or not allowed.
     Image(ImageError),
+    /// The job is refused, or the function that it calls isn't there or has other counts.
+    Job(JobError),
 }
 
 /// The name of a fault.
@@ -61,6 +64,16 @@ impl fmt::Display for Refusal {
             Refusal::Image(ImageError::Short { need }) => write!(f, "image: Short {need}"),
             Refusal::Image(ImageError::BadField { at }) => write!(f, "image: BadField {at}"),
             Refusal::Image(ImageError::Memory) => write!(f, "image: Memory"),
+            Refusal::Job(JobError::NotJson) => write!(f, "job: NotJson"),
+            Refusal::Job(JobError::Missing { field }) => write!(f, "job: Missing {}", field.name()),
+            Refusal::Job(JobError::BadField { field }) => {
+                write!(f, "job: BadField {}", field.name())
+            }
+            Refusal::Job(JobError::TooLarge { field }) => {
+                write!(f, "job: TooLarge {}", field.name())
+            }
+            Refusal::Job(JobError::Overlap) => write!(f, "job: Overlap"),
+            Refusal::Job(JobError::Memory) => write!(f, "job: Memory"),
         }
     }
 }

@@ -46,7 +46,7 @@ fn buffer(alloc: Global, most: usize, fault: Option<u64>) -> Result<Buffer, Allo
     if let Some(call) = fault {
         fail.push(call)?;
     }
-    Buffer::with_room(alloc, 200, most, fail)
+    Buffer::with_room(alloc, 2000, most, fail)
 }
 
 fn run(
@@ -179,22 +179,22 @@ fn a_text_is_refused_for_its_first_fault(rt: HostRuntime) -> Result<(), AllocErr
             b"line 4: SizeMismatch\n",
         ),
         (
-            b".function f\n.dest 1 d1\n.source 1 s1\nsubb d1, s1, s1\n",
+            b".function f\n.temp 1 t1\n.source 1 s1\ncopyb t1, s1\n",
             b"line 4: NotBuilt\n",
         ),
         // A line that is not built is told only where no line has a fault.
         (
-            b".function f\n.dest 1 d1\nsubb d1, d1, d1\n.function g\n.dest 1 d1\naddb d1, s1, d1\n",
-            b"line 6: UnknownName\n",
+            b".function f\n.dest 1 d1\n.temp 1 t1\ncopyb t1, d1\n.function g\n.dest 1 d1\naddb d1, s1, d1\n",
+            b"line 7: UnknownName\n",
         ),
         (
-            b".function f\n.dest 1 d1\n.function g\n.dest 1 d1\naddb d1, d1, d1\nsubb d1, d1, d1\n.function h\n.dest 1 d1\nsubb d1, d1, d1\n",
+            b".function f\n.dest 1 d1\n.function g\n.temp 1 t1\n.dest 1 d1\ncopyb t1, d1\naddb d1, d1, t1\n.function h\n.temp 1 t1\n.dest 1 d1\ncopyb t1, d1\n",
             b"line 6: NotBuilt\n",
         ),
-        // Of a function with rows no instruction is built.
+        // Numbers, accumulators and rows are built, and temps are not.
         (
-            b".function f\n.flags 2d\n.dest 1 d1\naddb d1, d1, d1\n",
-            b"line 4: NotBuilt\n",
+            b".function f\n.flags 2d\n.dest 1 d1\n.source 2 s1\n.param 1 p1\n.accumulator 2 a1\n.temp 1 t1\naddb d1, d1, p1\naccw a1, s1\nandb t1, d1, 1\n",
+            b"line 10: NotBuilt\n",
         ),
     ];
     for (text, notes) in rows {
@@ -388,6 +388,90 @@ fn an_image_is_whole(rt: HostRuntime) -> Result<(), AllocError> {
         assert!(rt; ran.notes.held.as_slice() == notes, "{notes:?}");
         assert!(rt; ran.output.held.is_empty());
         assert_eq!(rt; ran.input.at, image.len());
+    }
+    Ok(())
+}
+
+/// A function that adds bytes, and the line behind it.
+const ADDS: &[u8] =
+    b".function add8\n.dest 1 d1\n.source 1 s1\n.source 1 s2\naddb d1, s1, s2\n%%\n";
+
+#[test]
+fn a_job_is_emulated(rt: HostRuntime) -> Result<(), AllocError> {
+    let alloc = rt.alloc();
+    let rows: [(&str, Status, &[u8]); 6] = [
+        (
+            r#"{"function":"add8","n":3,"m":1,"arrays":[{"base":4096,"stride":0},{"base":8192,"stride":0},{"base":12288,"stride":0}],"params":[],"memory":[{"at":4096,"bytes":"000000"},{"at":8192,"bytes":"01ff80"},{"at":12288,"bytes":"010180"}],"budget":1000}"#,
+            Status::Done,
+            b"end emulated\nmem 4096 020000\nmem 8192 01ff80\nmem 12288 010180\n",
+        ),
+        (
+            r#"{"function":"add8","n":4,"m":1,"arrays":[{"base":4096,"stride":0},{"base":8192,"stride":0},{"base":12288,"stride":0}],"params":[],"memory":[{"at":4096,"bytes":"000000"},{"at":8192,"bytes":"01ff80"},{"at":12288,"bytes":"010180"}],"budget":1000}"#,
+            Status::Done,
+            b"end unmapped 0 3 8195\n",
+        ),
+        ("[]", Status::Refused, b"job: Missing function\n"),
+        ("{", Status::Refused, b"job: NotJson\n"),
+        (
+            r#"{"function":"add9","n":0,"m":1,"arrays":[],"params":[],"memory":[],"budget":1}"#,
+            Status::Refused,
+            b"job: BadField function\n",
+        ),
+        (
+            r#"{"function":"add8","n":0,"m":1,"arrays":[],"params":[],"memory":[],"budget":1}"#,
+            Status::Refused,
+            b"job: BadField arrays\n",
+        ),
+    ];
+    for (job, status, said) in rows {
+        let mut input = Vec::from_slice(alloc, ADDS)?;
+        input.extend_from_slice(job.as_bytes())?;
+        let ran = run(alloc, &["emulate"], input.as_slice(), 7, NONE)?;
+        assert_eq!(rt; ran.status, status, "{job}");
+        if status == Status::Done {
+            assert!(rt; ran.output.held.as_slice() == said, "{job}");
+        } else {
+            assert!(rt; ran.notes.held.as_slice() == said, "{job}");
+        }
+    }
+    // A text's fault stands before the job's, and without the line between them there is no job.
+    let rows: [(&[u8], &[u8]); 3] = [
+        (b".function f\nx\n%%\n{", b"line 2: UnknownOpcode\n"),
+        (b"# no job", b"job: NotJson\n"),
+        (b"%%\r\n%%", b"line 1: NoFunction\n"),
+    ];
+    for (input, notes) in rows {
+        let ran = run(alloc, &["emulate"], input, 7, NONE)?;
+        assert_eq!(rt; ran.status, Status::Refused, "{notes:?}");
+        assert!(rt; ran.notes.held.as_slice() == notes, "{notes:?}");
+        assert!(rt; ran.output.held.is_empty());
+    }
+    Ok(())
+}
+
+#[test]
+fn a_text_has_figures(rt: HostRuntime) -> Result<(), AllocError> {
+    let rows: [(&[u8], Status, &[u8]); 3] = [
+        (
+            b".function volume\n.dest 2 d1 gint16\n.param 2 p1\n.temp 4 t1\nmulswl t1, d1, p1\nshrsl t1, t1, 11\nconvlw d1, t1\n.function none\n",
+            Status::Done,
+            b"volume need 2 lanes 1 cost 38\nnone need 0 lanes 1 cost 0\n",
+        ),
+        (b"# nothing\n", Status::Done, b""),
+        (
+            b".function f\nx\n",
+            Status::Refused,
+            b"line 2: UnknownOpcode\n",
+        ),
+    ];
+    for (text, status, said) in rows {
+        let ran = run(rt.alloc(), &["check"], text, 7, NONE)?;
+        assert_eq!(rt; ran.status, status, "{said:?}");
+        if status == Status::Done {
+            assert!(rt; ran.output.held.as_slice() == said, "{said:?}");
+        } else {
+            assert!(rt; ran.notes.held.as_slice() == said, "{said:?}");
+        }
     }
     Ok(())
 }

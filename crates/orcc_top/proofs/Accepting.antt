@@ -1,0 +1,59 @@
+-- Words ask for one command, and an input is accepted or refused.
+use Rattle.std.proofs.Common.{◌≡◌, ℕ, ◌+◌, ◌==◌, ltb, true, List, [], ◌∷◌, ◌++◌, length, Option, Some, None, if◌then◌else◌, inl, inr, refl, sym, ap, ◌∙◌, arith, length-append, IfSome}
+use Rattle.std.specs.List.{slice_index, slice_index_or}
+use Rattle.std.proofs.lemmas.Bool.{lt-ltb}
+use Rattle.orcc_top.specs.declared.command.Command.{Command}
+use Rattle.orcc_top.specs.declared.command.Command.TheVariants.{Asm, Check, Fmt, Dis, Emulate}
+use Rattle.orcc_top.specs.declared.refusal.Refusal.{Refusal}
+use Rattle.orcc_top.specs.declared.refusal.Refusal.TheVariants.{TooLong}
+use Rattle.orcc_top.specs.Commands.{Word, words_of}
+use Rattle.orcc_top.specs.Answer.{limit_of, refusal_of, Refuses}
+use Rattle.orcc_top.specs.Runs.{Takes, IsAccepted}
+
+-- the first byte tells the command
+abbrev first_byte : List Word → ℕ
+first_byte words = slice_index (slice_index_or words 0 []) 0
+
+abbrev command_at : ℕ → Command
+command_at b = if b == 97 then Asm else (if b == 99 then Check else (if b == 102 then Fmt else (if b == 100 then Dis else Emulate)))
+
+told_by : (c : Command) → command_at (first_byte (words_of c)) ≡ c
+told_by Asm = refl
+told_by Check = refl
+told_by Fmt = refl
+told_by Dis = refl
+told_by Emulate = refl
+
+one_command : (a b : Command) → words_of a ≡ words_of b → a ≡ b
+one_command a b e = sym (told_by a) ∙ ap (λ w. command_at (first_byte w)) e ∙ told_by b
+
+long_refused : (c : Command) (taken rest : List ℕ) → length taken ≡ limit_of c + 1 → refusal_of c (taken ++ rest) ≡ Some TooLong
+long_refused c taken rest long =
+    let more : ltb (limit_of c) (length (taken ++ rest)) ≡ true = lt-ltb _ _ (omega (arith, long, length-append taken rest)) in
+    rw more refl
+
+refused_none : {Q : Type 0} (o : Option Refusal) (r : Refusal) → o ≡ Some r → o ≡ None → Q
+refused_none o r e n = absurd (let both : Some r ≡ None = sym e ∙ n in cc)
+
+-- an input of which what was taken is refused is not accepted
+whole_refused : {Q : Type 0} (c command : Command) (text taken left line : List ℕ) → c ≡ command → text ≡ taken ++ left → left ≡ [] → Refuses command taken line → refusal_of c text ≡ None → Q
+whole_refused c command text taken left line same cut none refuses accepted =
+    let whole : text ≡ taken = cut ∙ ap (λ l. taken ++ l) none ∙ nil_after taken in
+    refused_none (refusal_of c text) refuses.refusal (ap (λ k. refusal_of k text) same ∙ ap (refusal_of command) whole ∙ refuses.refused) accepted
+  where
+    nil_after : (l : List ℕ) → l ++ [] ≡ l
+    nil_after [] = refl
+    nil_after (x ∷ l) = ap (λ (m : List ℕ). x ∷ m) (nil_after l)
+
+part_refused : {Q : Type 0} (c command : Command) (text taken left : List ℕ) → c ≡ command → text ≡ taken ++ left → length taken ≡ limit_of command + 1 → refusal_of c text ≡ None → Q
+part_refused c command text taken left same cut long accepted =
+    refused_none (refusal_of c text) TooLong (ap (λ k. refusal_of k text) same ∙ ap (refusal_of command) cut ∙ long_refused command taken left long) accepted
+
+pub not_accepted : (Q : Type 0) (words : List Word) (old new : Option (List ℕ)) (command : Command) (taken line : List ℕ) → words ≡ words_of command
+    → Takes (limit_of command) old new taken → Refuses command taken line → IfSome old (λ text. IsAccepted words text → Q)
+not_accepted Q words None new command taken line asked takes refuses = tt
+not_accepted Q words (Some text) None command taken line asked takes refuses = absurd takes.0
+not_accepted Q words (Some text) (Some left) command taken line asked (cut, inl end) refuses =
+    λ a. whole_refused a.0 command text taken left line (one_command a.0 command (sym a.1 ∙ asked)) cut end.0 refuses a.2
+not_accepted Q words (Some text) (Some left) command taken line asked (cut, inr long) refuses =
+    λ a. part_refused a.0 command text taken left (one_command a.0 command (sym a.1 ∙ asked)) cut long a.2
