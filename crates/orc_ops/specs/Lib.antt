@@ -3,3 +3,4 @@ pub mod Stems
 pub mod Widths
 pub mod Formula
 pub mod Names
+pub mod Targets

@@ -12,7 +12,7 @@ use orc_bits::cut;
 
 /// The bits of the first source.
 #[tactic(auto, using(crate::proofs::Rows::row_fits))]
-fn wide_of(op: Op) -> u32
+pub fn wide_of(op: Op) -> u32
     ensures value { result ≡ wide op }
     ensures width { IsWidth result }
 {
@@ -21,7 +21,7 @@ fn wide_of(op: Op) -> u32
 
 /// The bits of the first result.
 #[tactic(auto, using(crate::proofs::Rows::row_fits))]
-fn to_of(op: Op) -> u32
+pub fn to_of(op: Op) -> u32
     ensures value { result ≡ to op }
     ensures width { IsWidth result }
     ensures takes { Takes (row op).stem (wide op) result }

@@ -461,8 +461,8 @@ fn class(op: Op) -> u8
     table!(column, op, class_column)
 }
 
-/// The stem of an opcode.
-pub(crate) fn stem_of(op: Op) -> Stem
+/// The stem of an opcode: the family of opcodes with its formula.
+pub fn stem_of(op: Op) -> Stem
     ensures { result ≡ (row op).stem }
 {
     table!(column, op, stem_column)

@@ -1,5 +1,5 @@
 -- What is read of an instruction's spelling is the instruction.
-use Rattle.std.proofs.Common.{◌≡◌, ℕ, ◌+◌, ◌/◌, ◌%◌, ◌^◌, ◌<◌, Bool, true, false, ◌&&◌, not, cond, ltb, List, [], ◌∷◌, ◌++◌, Some, refl, sym, ap, ◌∙◌, append_assoc, arith, inl, inr, ℤ, lit<}
+use Rattle.std.proofs.Common.{◌≡◌, ℕ, ◌+◌, ◌/◌, ◌%◌, ◌^◌, ◌<◌, Bool, true, false, ◌&&◌, ◌||◌, not, cond, ltb, List, [], ◌∷◌, ◌++◌, Some, refl, sym, ap, ◌∙◌, append_assoc, arith, inl, inr, ℤ, lit<}
 use Rattle.std.specs.Int.{w32, w64, to_le_bytes}
 use Rattle.std.specs.Int.RustNames.{FitsSigned}
 use Rattle.std.proofs.lemmas.Bool.{and_parts, cases_Bool, ltb-true, eq-eqb, ne_eqb, le-ltb}
@@ -23,15 +23,16 @@ use Rattle.x86_ins.specs.declared.ins.Ins.{Ins}
 use Rattle.x86_ins.specs.declared.ins.Ins.TheVariants.{Vec, VecImm, Shuffle, VecLoad, VecStore, FromGpr, ToGpr, Move, Load, Store, Store8, Store16, Load8, Load16, MovImm, Alu, AluImm, Test, Shift, Imul, Lea, Push, Pop, Jump, JumpIf, Ret}
 use Rattle.x86_decode.specs.declared.fields.Rex.{Rex}
 use Rattle.x86_decode.specs.declared.fields.Operand.TheVariants.{Reg, Mem}
-use Rattle.x86_ins.specs.Spelling.{vec_byte, imm_byte, imm_digit, shuffle_prefix, load_prefix, load_byte, store_prefix, store_byte, alu_byte, alu_digit, shift_digit, cond_code, is_small, byte, dword, top, reg_form, mem_form, plus_form, bare_rex, m_mem, spelling, IsReg, IsAddr, IsIns}
+use Rattle.x86_ins.specs.Spelling.{vec_byte, has_38, imm_byte, imm_digit, shuffle_prefix, load_prefix, load_byte, store_prefix, store_byte, alu_byte, alu_digit, shift_digit, cond_code, is_small, byte, dword, top, reg_form, mem_form, plus_form, bare_rex, m_mem, spelling, IsReg, IsAddr, IsIns}
 use Rattle.x86_decode.specs.Reading.{shuffle_row, imm_row, vec_row, regs_66, mem_66, mem_f3, shift_row, small_row, large_row, alu_row, regs_one, mem_one, mem_two, by_66, by_f3, by_f2, by_none, by_prefix, long_row, short_row, mov_row, jump_row, jump_if_row, row_one, row_two, row_at, after_rex, guess}
 use Rattle.x86_decode.specs.Reading.{prefix_at, rex_at, opcode_at, number}
 use Rattle.x86_decode.proofs.FieldLaws.{rex_of, bit_top, small_again, number_dword, number_qword, dword_again, mem_again}
-use Rattle.x86_decode.proofs.ShapeLaws.{IsPre, is_free, one_row, operand_row, one_reg, two_reg, one_mem, two_mem, takes_one, takes_two, plus_head}
+use Rattle.x86_decode.proofs.ShapeLaws.{IsPre, is_free, one_row, operand_row, one_reg, two_reg, three_reg, one_mem, two_mem, takes_one, takes_two, plus_head}
 
 -- ---- the tables, by computing each entry
 
-two_vec : (op : VecOp) → takes_two (vec_byte op) ≡ true
+-- an operation has three opcode bytes, or its second one is of a row of two
+two_vec : (op : VecOp) → (has_38 op || takes_two (vec_byte op)) ≡ true
 two_vec Punpcklbw = refl
 two_vec _ = refl
 
@@ -132,7 +133,11 @@ IsRead i = (rest : List ℕ) → guess (spelling i ++ rest) ≡ Some i
 
 read_vec : (op : VecOp) (dst src : ℕ) → IsReg dst → IsReg src → IsRead (Vec op dst src)
 unfolding spelling
-read_vec op dst src h k rest = two_reg (0x66 ∷ []) false (vec_byte op) dst src rest refl (two_vec op) h k ∙ row_vec op dst src rest
+read_vec op dst src h k rest =
+    elim (cases_Bool (has_38 op)) [
+      | inl t ↦ rw t (three_reg (0x66 ∷ []) false (vec_byte op) dst src rest refl h k ∙ row_vec op dst src rest)
+      | inr f ↦ rw f (two_reg (0x66 ∷ []) false (vec_byte op) dst src rest refl (let e : takes_two (vec_byte op) ≡ true = rw f at (two_vec op) in e) h k ∙ row_vec op dst src rest)
+    ]
 
 read_imm : (op : VecImmOp) (dst count : ℕ) → IsReg dst → IsRead (VecImm op dst count)
 unfolding spelling

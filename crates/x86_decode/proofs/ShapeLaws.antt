@@ -6,7 +6,7 @@ use Rattle.x86_decode.specs.declared.fields.Rex.{Rex}
 use Rattle.x86_decode.specs.declared.fields.Operand.{Operand}
 use Rattle.x86_decode.specs.declared.fields.Operand.TheVariants.{Reg, Mem}
 use Rattle.x86_ins.specs.Spelling.{top, rex_bits, rex, m_reg, m_mem, IsReg, IsAddr, reg_form, mem_form, plus_form}
-use Rattle.x86_decode.specs.Reading.{is_prefix, opcode_at, operand_at, by_prefix, with_operand, row_one, row_two, row_at, after_rex, guess}
+use Rattle.x86_decode.specs.Reading.{is_prefix, opcode_at, operand_at, by_prefix, with_operand, row_one, row_two, row_three, row_at, after_rex, guess}
 use Rattle.x86_decode.proofs.FieldLaws.{rex_of, rex_again, prefix_none, prefix_again, reg_again, mem_again}
 
 -- at most one prefix, and its number
@@ -38,7 +38,7 @@ abbrev pub takes_one : ℕ → Bool
 takes_one o = is_free o && (not (eqb o 0x0f) && (not (eqb o 0xc3) && (not (eqb o 0xe9) && (not (eqb (o / 8) 10) && (not (eqb (o / 8) 11) && not (eqb (o / 8) 23))))))
 
 abbrev pub takes_two : ℕ → Bool
-takes_two o = not (eqb (o / 16) 8)
+takes_two o = not (eqb (o / 16) 8) && not (eqb o 0x38)
 
 pub one_row : (p : ℕ) (bits : Rex) (o : ℕ) (tail : List ℕ) → takes_one o ≡ true → after_rex p bits (o ∷ tail) ≡ with_operand p bits false o tail
 unfolding after_rex opcode_at row_at row_one
@@ -53,7 +53,13 @@ one_row p bits o tail h =
 
 two_row : (p : ℕ) (bits : Rex) (o : ℕ) (tail : List ℕ) → takes_two o ≡ true → after_rex p bits (0x0f ∷ o ∷ tail) ≡ with_operand p bits true o tail
 unfolding after_rex opcode_at row_at row_two
-two_row p bits o tail h = rw (not-true (eqb (o / 16) 8) h) refl
+two_row p bits o tail h =
+    let a = and_parts (not (eqb (o / 16) 8)) (not (eqb o 0x38)) h in
+    rw (not-true (eqb (o / 16) 8) a.0, not-true (eqb o 0x38) a.1) refl
+
+three_row : (p : ℕ) (bits : Rex) (o : ℕ) (tail : List ℕ) → after_rex p bits (0x0f ∷ 0x38 ∷ o ∷ tail) ≡ with_operand p bits true o tail
+unfolding after_rex opcode_at row_at row_two row_three
+three_row p bits o tail = refl
 
 pub operand_row : (p : ℕ) (bits : Rex) (two : Bool) (o : ℕ) (bytes : List ℕ) (reg : ℕ) (x : Operand) (tail : List ℕ) → operand_at bits bytes ≡ Some (reg, x, tail) → with_operand p bits two o bytes ≡ by_prefix p bits.wide two o reg x tail
 unfolding with_operand
@@ -78,6 +84,15 @@ two_reg pre w o reg rm rest p t h k =
     ap guess (regroup pre (rex w reg rm) (0x0f ∷ o ∷ []) (m_reg reg rm) rest)
     ∙ head_again pre w (top reg) (top rm) 0x0f (o ∷ (m_reg reg rm ++ rest)) p refl
     ∙ two_row (pre_number pre) (rex_of w (top reg) (top rm)) o (m_reg reg rm ++ rest) t
+    ∙ operand_row (pre_number pre) (rex_of w (top reg) (top rm)) true o (m_reg reg rm ++ rest) reg (Reg rm) rest (reg_again w reg rm rest h k)
+
+pub three_reg : (pre : List ℕ) (w : Bool) (o reg rm : ℕ) (rest : List ℕ) → IsPre pre → IsReg reg → IsReg rm
+    → guess (reg_form pre w (0x0f ∷ 0x38 ∷ o ∷ []) reg rm ++ rest) ≡ by_prefix (pre_number pre) w true o reg (Reg rm) rest
+unfolding reg_form
+three_reg pre w o reg rm rest p h k =
+    ap guess (regroup pre (rex w reg rm) (0x0f ∷ 0x38 ∷ o ∷ []) (m_reg reg rm) rest)
+    ∙ head_again pre w (top reg) (top rm) 0x0f (0x38 ∷ o ∷ (m_reg reg rm ++ rest)) p refl
+    ∙ three_row (pre_number pre) (rex_of w (top reg) (top rm)) o (m_reg reg rm ++ rest)
     ∙ operand_row (pre_number pre) (rex_of w (top reg) (top rm)) true o (m_reg reg rm ++ rest) reg (Reg rm) rest (reg_again w reg rm rest h k)
 
 pub one_mem : (pre : List ℕ) (w : Bool) (o reg : ℕ) (at : Addr) (rest : List ℕ) → IsPre pre → takes_one o ≡ true → IsReg reg → IsAddr at

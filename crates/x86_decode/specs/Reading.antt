@@ -27,13 +27,16 @@ infixl 10 ◌>>=◌
 abbrev pub ◌>>=◌ : {A B : Type 0} → Option A → (A → Option B) → Option B
 o >>= f = option_and_then f o
 
--- the operation of an opcode byte
-abbrev pub vec_among : List VecOp → ℕ → Option VecOp
-vec_among [] b = None
-vec_among (x ∷ xs) b = if b == vec_byte x then Some x else vec_among xs b
+-- the operation of its last opcode byte, or what is told of others
+abbrev pub vec_among : List VecOp → Option VecOp → ℕ → Option VecOp
+vec_among [] other b = other
+vec_among (x ∷ xs) other b = if b == vec_byte x then Some x else vec_among xs other b
+
+abbrev pub vec_38_of : ℕ → Option VecOp
+vec_38_of b = vec_among (vec.Pabsb ∷ vec.Pabsw ∷ vec.Pabsd ∷ vec.Pmovsxbw ∷ vec.Pmovsxwd ∷ vec.Pmovsxdq ∷ vec.Pmuldq ∷ vec.Pcmpeqq ∷ vec.Packusdw ∷ vec.Pmovzxbw ∷ vec.Pmovzxwd ∷ vec.Pmovzxdq ∷ vec.Pminsb ∷ vec.Pminsd ∷ vec.Pminuw ∷ vec.Pminud ∷ vec.Pmaxsb ∷ vec.Pmaxsd ∷ vec.Pmaxuw ∷ vec.Pmaxud ∷ vec.Pmulld ∷ []) None b
 
 abbrev pub vec_of : ℕ → Option VecOp
-vec_of b = vec_among (vec.Punpcklbw ∷ vec.Punpcklwd ∷ vec.Punpckldq ∷ vec.Packsswb ∷ vec.Pcmpgtb ∷ vec.Pcmpgtw ∷ vec.Pcmpgtd ∷ vec.Packuswb ∷ vec.Punpckhbw ∷ vec.Punpckhwd ∷ vec.Punpckhdq ∷ vec.Packssdw ∷ vec.Punpcklqdq ∷ vec.Punpckhqdq ∷ vec.Movdqa ∷ vec.Pcmpeqb ∷ vec.Pcmpeqw ∷ vec.Pcmpeqd ∷ vec.Psrlw ∷ vec.Psrld ∷ vec.Psrlq ∷ vec.Paddq ∷ vec.Pmullw ∷ vec.Psubusb ∷ vec.Psubusw ∷ vec.Pminub ∷ vec.Pand ∷ vec.Paddusb ∷ vec.Paddusw ∷ vec.Pmaxub ∷ vec.Pandn ∷ vec.Pavgb ∷ vec.Psraw ∷ vec.Psrad ∷ vec.Pavgw ∷ vec.Pmulhuw ∷ vec.Pmulhw ∷ vec.Psubsb ∷ vec.Psubsw ∷ vec.Pminsw ∷ vec.Por ∷ vec.Paddsb ∷ vec.Paddsw ∷ vec.Pmaxsw ∷ vec.Pxor ∷ vec.Psllw ∷ vec.Pslld ∷ vec.Psllq ∷ vec.Pmuludq ∷ vec.Psadbw ∷ vec.Psubb ∷ vec.Psubw ∷ vec.Psubd ∷ vec.Psubq ∷ vec.Paddb ∷ vec.Paddw ∷ vec.Paddd ∷ []) b
+vec_of b = vec_among (vec.Punpcklbw ∷ vec.Punpcklwd ∷ vec.Punpckldq ∷ vec.Packsswb ∷ vec.Pcmpgtb ∷ vec.Pcmpgtw ∷ vec.Pcmpgtd ∷ vec.Packuswb ∷ vec.Punpckhbw ∷ vec.Punpckhwd ∷ vec.Punpckhdq ∷ vec.Packssdw ∷ vec.Punpcklqdq ∷ vec.Punpckhqdq ∷ vec.Movdqa ∷ vec.Pcmpeqb ∷ vec.Pcmpeqw ∷ vec.Pcmpeqd ∷ vec.Psrlw ∷ vec.Psrld ∷ vec.Psrlq ∷ vec.Paddq ∷ vec.Pmullw ∷ vec.Psubusb ∷ vec.Psubusw ∷ vec.Pminub ∷ vec.Pand ∷ vec.Paddusb ∷ vec.Paddusw ∷ vec.Pmaxub ∷ vec.Pandn ∷ vec.Pavgb ∷ vec.Psraw ∷ vec.Psrad ∷ vec.Pavgw ∷ vec.Pmulhuw ∷ vec.Pmulhw ∷ vec.Psubsb ∷ vec.Psubsw ∷ vec.Pminsw ∷ vec.Por ∷ vec.Paddsb ∷ vec.Paddsw ∷ vec.Pmaxsw ∷ vec.Pxor ∷ vec.Psllw ∷ vec.Pslld ∷ vec.Psllq ∷ vec.Pmuludq ∷ vec.Psadbw ∷ vec.Psubb ∷ vec.Psubw ∷ vec.Psubd ∷ vec.Psubq ∷ vec.Paddb ∷ vec.Paddw ∷ vec.Paddd ∷ []) (vec_38_of b) b
 
 -- the shift of an opcode byte and a digit
 abbrev pub imm_among : List VecImmOp → ℕ → ℕ → Option VecImmOp
@@ -287,9 +290,17 @@ row_one prefix rex op bytes =
     else (if op / 8 == 23 then mov_row rex.wide (number op rex.rm) bytes
     else with_operand prefix rex false op bytes))))
 
+-- the rows of three opcode bytes, 0F 38 the first
+unfoldable pub row_three : ℕ → Rex → List ℕ → Option Ins
+row_three prefix rex bytes = do
+  b ← byte_at bytes
+  with_operand prefix rex true b.0 b.1
+
 unfoldable pub row_two : ℕ → Rex → ℕ → List ℕ → Option Ins
 row_two prefix rex op bytes =
-    if op / 16 == 8 then jump_if_row op bytes else with_operand prefix rex true op bytes
+    if op / 16 == 8 then jump_if_row op bytes
+    else (if op == 0x38 then row_three prefix rex bytes
+    else with_operand prefix rex true op bytes)
 
 unfoldable pub row_at : ℕ → Rex → Bool → ℕ → List ℕ → Option Ins
 row_at prefix rex true op bytes = row_two prefix rex op bytes

@@ -1,7 +1,7 @@
 //! The rows of the tables: the only instruction that may begin the bytes.
 
 ghost use Rattle.std.specs.Prelude.{◌≡◌, Some, None};
-ghost use Rattle.x86_decode.specs.Reading.{shuffle_row, imm_row, vec_row, regs_66, mem_66, mem_f3, shift_row, small_row, large_row, alu_row, regs_one, mem_one, mem_two, by_66, by_f3, by_f2, by_none, by_prefix, with_operand, long_row, short_row, mov_row, jump_row, jump_if_row, row_one, row_two, row_at, after_rex, guess};
+ghost use Rattle.x86_decode.specs.Reading.{shuffle_row, imm_row, vec_row, regs_66, mem_66, mem_f3, shift_row, small_row, large_row, alu_row, regs_one, mem_one, mem_two, by_66, by_f3, by_f2, by_none, by_prefix, with_operand, long_row, short_row, mov_row, jump_row, jump_if_row, row_one, row_two, row_three, row_at, after_rex, guess};
 
 use crate::fields::{
     Operand, Rex, byte, dword, opcode, prefix, qword, read_operand, read_rex, register, small, xmm,
@@ -379,13 +379,25 @@ fn row_one(prefix: u8, rex: Rex, op: u8, bytes: &[u8]) -> Option<Ins>
     with_operand(prefix, rex, false, op, bytes)
 }
 
-/// The rows of two opcode bytes, 0F the first.
+/// The rows of three opcode bytes, 0F 38 the first.
+#[tactic(auto, unfolding(crate::specs::Reading::row_three))]
+fn row_three(prefix: u8, rex: Rex, bytes: &[u8]) -> Option<Ins>
+    ensures { result ≡ row_three prefix rex bytes.now }
+{
+    let (op, rest) = byte(bytes)?;
+    with_operand(prefix, rex, true, op, rest)
+}
+
+/// The rows whose first opcode byte is 0F.
 #[tactic(auto, unfolding(crate::specs::Reading::row_two))]
 fn row_two(prefix: u8, rex: Rex, op: u8, bytes: &[u8]) -> Option<Ins>
     ensures { result ≡ row_two prefix rex op bytes.now }
 {
     if op / 16 == 8 {
         return jump_if_row(op, bytes);
+    }
+    if op == 0x38 {
+        return row_three(prefix, rex, bytes);
     }
     with_operand(prefix, rex, true, op, bytes)
 }

@@ -1,11 +1,41 @@
 //! Opcode bytes and digits as operations.
 
 ghost use Rattle.std.specs.Prelude.{◌≡◌};
-ghost use Rattle.x86_decode.specs.Reading.{vec_of, imm_of, alu_of, alu_digit_of, shift_of, cond_of};
+ghost use Rattle.x86_decode.specs.Reading.{vec_38_of, vec_of, imm_of, alu_of, alu_digit_of, shift_of, cond_of};
 
 use x86_ins::{AluOp, Cond, ShiftOp, VecImmOp, VecOp};
 
-/// The operation on two vector registers of an opcode byte after 66 0F.
+/// The operation on two vector registers of an opcode byte after 66 0F 38.
+fn vec_38_operation(byte: u8) -> Option<VecOp>
+    ensures { result ≡ vec_38_of byte }
+{
+    match byte {
+        0x1c => Some(VecOp::Pabsb),
+        0x1d => Some(VecOp::Pabsw),
+        0x1e => Some(VecOp::Pabsd),
+        0x20 => Some(VecOp::Pmovsxbw),
+        0x23 => Some(VecOp::Pmovsxwd),
+        0x25 => Some(VecOp::Pmovsxdq),
+        0x28 => Some(VecOp::Pmuldq),
+        0x29 => Some(VecOp::Pcmpeqq),
+        0x2b => Some(VecOp::Packusdw),
+        0x30 => Some(VecOp::Pmovzxbw),
+        0x33 => Some(VecOp::Pmovzxwd),
+        0x35 => Some(VecOp::Pmovzxdq),
+        0x38 => Some(VecOp::Pminsb),
+        0x39 => Some(VecOp::Pminsd),
+        0x3a => Some(VecOp::Pminuw),
+        0x3b => Some(VecOp::Pminud),
+        0x3c => Some(VecOp::Pmaxsb),
+        0x3d => Some(VecOp::Pmaxsd),
+        0x3e => Some(VecOp::Pmaxuw),
+        0x3f => Some(VecOp::Pmaxud),
+        0x40 => Some(VecOp::Pmulld),
+        _ => None,
+    }
+}
+
+/// The operation on two vector registers of its last opcode byte, after 66 0F or 66 0F 38: no byte stands in both places.
 pub(crate) fn vec_operation(byte: u8) -> Option<VecOp>
     ensures { result ≡ vec_of byte }
 {
@@ -67,7 +97,7 @@ pub(crate) fn vec_operation(byte: u8) -> Option<VecOp>
         0xfc => Some(VecOp::Paddb),
         0xfd => Some(VecOp::Paddw),
         0xfe => Some(VecOp::Paddd),
-        _ => None,
+        _ => vec_38_operation(byte),
     }
 }
 

@@ -71,6 +71,22 @@ fn decodings(rt: HostRuntime) {
                     5,
                 )),
             ),
+            // pmulld; pcmpgtq; pmulld's last byte without 38, and paddb's with it; pmulld without its registers
+            (
+                &[0x66, 0x44, 0x0f, 0x38, 0x40, 0xc8],
+                Some((
+                    Ins::Vec {
+                        op: VecOp::Pmulld,
+                        dst: XMM9,
+                        src: XMM0,
+                    },
+                    6,
+                )),
+            ),
+            (&[0x66, 0x0f, 0x38, 0x37, 0xc1], None),
+            (&[0x66, 0x0f, 0x40, 0xc1], None),
+            (&[0x66, 0x0f, 0x38, 0xfc, 0xc1], None),
+            (&[0x66, 0x0f, 0x38, 0x40], None),
             // mov rax, [rsp + 8], and with a displacement of four bytes
             (
                 &[0x48, 0x8b, 0x44, 0x24, 0x08],

@@ -5,7 +5,7 @@ use Rattle.std.proofs.lemmas.List.{length-append}
 use Rattle.x86_ins.specs.declared.ins.Addr.{Addr}
 use Rattle.x86_ins.specs.declared.ins.Ins.{Ins}
 use Rattle.x86_ins.specs.declared.ins.Ins.TheVariants.{Vec, VecImm, Shuffle, VecLoad, VecStore, FromGpr, ToGpr, Move, Load, Store, Store8, Store16, Load8, Load16, MovImm, Alu, AluImm, Test, Shift, Imul, Lea, Push, Pop, Jump, JumpIf, Ret}
-use Rattle.x86_ins.specs.Spelling.{top, rex_bits, rex, is_small, byte, dword, sib, m_mem, reg_form, mem_form, plus_form, bare_rex, spelling}
+use Rattle.x86_ins.specs.Spelling.{top, rex_bits, rex, is_small, byte, dword, has_38, sib, m_mem, reg_form, mem_form, plus_form, bare_rex, spelling}
 use Rattle.x86_encode.specs.Sizes.{HasFrom}
 
 joined : (a b m n : ℕ) (xs ys : List ℕ) → HasFrom a b xs → HasFrom m n ys → HasFrom (a + m) (b + n) (xs ++ ys)
@@ -54,6 +54,12 @@ plus_form_size w opcode rm = joined 0 1 1 1 (rex w 0 rm) _ (bits_size w false (t
 of_reg : (pre : List ℕ) (w : Bool) (opcode : List ℕ) (reg rm : ℕ) → HasFrom 0 1 pre → HasFrom 1 2 opcode → HasFrom 1 10 (reg_form pre w opcode reg rm)
 of_reg pre w opcode reg rm p o = wider 2 5 1 10 _ (omega arith) (omega arith) (reg_form_size pre w opcode reg rm p o)
 
+-- the row with up to three opcode bytes
+of_long : (pre : List ℕ) (w : Bool) (opcode : List ℕ) (reg rm : ℕ) → HasFrom 0 1 pre → HasFrom 1 3 opcode → HasFrom 1 10 (reg_form pre w opcode reg rm)
+unfolding reg_form
+of_long pre w opcode reg rm p o = wider 2 6 1 10 _ (omega arith) (omega arith)
+    (joined 0 1 2 5 pre _ p (joined 0 1 2 4 (rex w reg rm) _ (bits_size w (top reg) (top rm)) (joined 1 3 1 1 opcode _ o (record { enough = omega arith; few = omega arith }))))
+
 of_mem : (pre : List ℕ) (w : Bool) (opcode : List ℕ) (reg : ℕ) (at : Addr) → HasFrom 0 1 pre → HasFrom 1 2 opcode → HasFrom 1 10 (mem_form pre w opcode reg at)
 of_mem pre w opcode reg at p o = wider 3 10 1 10 _ (omega arith) (omega arith) (mem_form_size pre w opcode reg at p o)
 
@@ -96,7 +102,7 @@ store8_size src at = wider 3 9 1 10 _ (omega arith) (omega arith)
 
 pub size : (i : Ins) → HasFrom 1 10 (spelling i)
 unfolding spelling
-size (Vec op dst src) = of_reg _ _ _ _ _ (prefix _) (two _ _)
+size (Vec op dst src) = of_long _ _ _ _ _ (prefix _) (either 1 3 (has_38 op) _ _ (record { enough = omega arith; few = omega arith }) (record { enough = omega arith; few = omega arith }))
 size (VecImm op dst count) = reg_then _ _ _ _ _ _ (prefix _) (two _ _) (byte_tail _)
 size (Shuffle op dst src order) = reg_then _ _ _ _ _ _ (prefix _) (two _ _) (byte_tail _)
 size (VecLoad op dst at) = of_mem _ _ _ _ _ (prefix _) (two _ _)

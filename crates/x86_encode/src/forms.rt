@@ -87,11 +87,11 @@ pub(crate) fn put_mem(out: &mut Code, reg: u8, at: Addr)
 #[tactic(auto, unfolding(x86_ins::specs::Spelling::reg_form))]
 pub(crate) fn reg_form(pre: &[u8], wide: bool, opcode: &[u8], reg: u8, rm: u8) -> Code
     requires pre_few { length pre.now ≤ 1 }
-    requires opcode_few { length opcode.now ≤ 2 }
+    requires opcode_few { length opcode.now ≤ 3 }
     requires reg_in { reg < 16 }
     requires rm_in { rm < 16 }
     ensures items { result.items ≡ reg_form pre.now wide opcode.now reg rm }
-    ensures len { array_vec_len result ≤ 5 }
+    ensures len { array_vec_len result ≤ 6 }
 {
     let mut out = ArrayVec::new();
     put(&mut out, pre);

@@ -7,12 +7,22 @@ use crate::forms::{
     Code, fits_byte, mem_form, plus_form, put, put_dword, put_small, reg_form, with_byte,
 };
 use crate::tables::{
-    alu_extension, alu_opcode, condition_code, imm_extension, imm_opcode, opcode_of_load,
-    opcode_of_store, prefix_of_load, prefix_of_shuffle, prefix_of_store, shift_extension,
-    vec_opcode,
+    alu_extension, alu_opcode, condition_code, has_38, imm_extension, imm_opcode, opcode_of_load,
+    opcode_of_store, prefix_of_load, prefix_of_shuffle, prefix_of_store, shift_extension, vec_byte,
 };
 use arrayvec::ArrayVec;
-use x86_ins::{Addr, AluOp, Cond, Gpr, Ins};
+use x86_ins::{Addr, AluOp, Cond, Gpr, Ins, VecOp, Xmm};
+
+#[tactic(auto, unfolding(x86_ins::specs::Spelling::spelling))]
+fn vec(op: VecOp, dst: Xmm, src: Xmm) -> Code
+    ensures { result.items ≡ spelling (Ins.Vec op dst src) }
+{
+    let last = vec_byte(op);
+    if has_38(op) {
+        return reg_form(&[0x66], false, &[0x0f, 0x38, last], dst.number, src.number);
+    }
+    reg_form(&[0x66], false, &[0x0f, last], dst.number, src.number)
+}
 
 #[tactic(auto, unfolding(x86_ins::specs::Spelling::spelling))]
 fn store8(src: Gpr, at: Addr) -> Code
@@ -97,13 +107,7 @@ pub fn encode(ins: &Ins) -> ArrayVec<u8, 15>
     ensures { result.items ≡ spelling ins.now }
 {
     match *ins {
-        Ins::Vec { op, dst, src } => reg_form(
-            &[0x66],
-            false,
-            &[0x0f, vec_opcode(op)],
-            dst.number,
-            src.number,
-        ),
+        Ins::Vec { op, dst, src } => vec(op, dst, src),
         Ins::VecImm { op, dst, count } => with_byte(
             reg_form(
                 &[0x66],

@@ -1,12 +1,12 @@
 //! Opcode bytes, prefixes and digits.
 
 ghost use Rattle.std.specs.Prelude.{◌≡◌, ◌<◌};
-ghost use Rattle.x86_ins.specs.Spelling.{vec_byte, imm_byte, imm_digit, shuffle_prefix, load_prefix, load_byte, store_prefix, store_byte, alu_byte, alu_digit, shift_digit, cond_code};
+ghost use Rattle.x86_ins.specs.Spelling.{vec_byte, has_38, imm_byte, imm_digit, shuffle_prefix, load_prefix, load_byte, store_prefix, store_byte, alu_byte, alu_digit, shift_digit, cond_code};
 
 use x86_ins::{AluOp, Cond, MoveOp, ShiftOp, ShuffleOp, VecImmOp, VecOp};
 
-/// The opcode byte of an operation on two vector registers, after 66 0F.
-pub(crate) fn vec_opcode(op: VecOp) -> u8
+/// The last opcode byte of an operation on two vector registers, after 66 0F or 66 0F 38.
+pub(crate) fn vec_byte(op: VecOp) -> u8
     ensures { result ≡ vec_byte op }
 {
     match op {
@@ -67,6 +67,57 @@ pub(crate) fn vec_opcode(op: VecOp) -> u8
         VecOp::Paddb => 0xfc,
         VecOp::Paddw => 0xfd,
         VecOp::Paddd => 0xfe,
+        VecOp::Pabsb => 0x1c,
+        VecOp::Pabsw => 0x1d,
+        VecOp::Pabsd => 0x1e,
+        VecOp::Pmovsxbw => 0x20,
+        VecOp::Pmovsxwd => 0x23,
+        VecOp::Pmovsxdq => 0x25,
+        VecOp::Pmuldq => 0x28,
+        VecOp::Pcmpeqq => 0x29,
+        VecOp::Packusdw => 0x2b,
+        VecOp::Pmovzxbw => 0x30,
+        VecOp::Pmovzxwd => 0x33,
+        VecOp::Pmovzxdq => 0x35,
+        VecOp::Pminsb => 0x38,
+        VecOp::Pminsd => 0x39,
+        VecOp::Pminuw => 0x3a,
+        VecOp::Pminud => 0x3b,
+        VecOp::Pmaxsb => 0x3c,
+        VecOp::Pmaxsd => 0x3d,
+        VecOp::Pmaxuw => 0x3e,
+        VecOp::Pmaxud => 0x3f,
+        VecOp::Pmulld => 0x40,
+    }
+}
+
+/// Whether 38 stands before the last opcode byte.
+pub(crate) fn has_38(op: VecOp) -> bool
+    ensures { result ≡ has_38 op }
+{
+    match op {
+        VecOp::Pabsb
+        | VecOp::Pabsw
+        | VecOp::Pabsd
+        | VecOp::Pmovsxbw
+        | VecOp::Pmovsxwd
+        | VecOp::Pmovsxdq
+        | VecOp::Pmuldq
+        | VecOp::Pcmpeqq
+        | VecOp::Packusdw
+        | VecOp::Pmovzxbw
+        | VecOp::Pmovzxwd
+        | VecOp::Pmovzxdq
+        | VecOp::Pminsb
+        | VecOp::Pminsd
+        | VecOp::Pminuw
+        | VecOp::Pminud
+        | VecOp::Pmaxsb
+        | VecOp::Pmaxsd
+        | VecOp::Pmaxuw
+        | VecOp::Pmaxud
+        | VecOp::Pmulld => true,
+        _ => false,
     }
 }
 

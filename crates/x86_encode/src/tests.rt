@@ -64,6 +64,22 @@ fn spellings(rt: HostRuntime) {
                 &[0x66, 0x41, 0x0f, 0x6c, 0xcf],
             ),
             (
+                Ins::Vec {
+                    op: VecOp::Pmulld,
+                    dst: XMM9,
+                    src: XMM0,
+                },
+                &[0x66, 0x44, 0x0f, 0x38, 0x40, 0xc8],
+            ),
+            (
+                Ins::Vec {
+                    op: VecOp::Pminsb,
+                    dst: XMM1,
+                    src: XMM15,
+                },
+                &[0x66, 0x41, 0x0f, 0x38, 0x38, 0xcf],
+            ),
+            (
                 Ins::VecImm {
                     op: VecImmOp::Psrldq,
                     dst: XMM9,

@@ -26,6 +26,9 @@ a = 0 ∷ 1 ∷ 127 ∷ 128 ∷ 255 ∷ 200 ∷ 100 ∷ 50 ∷ 1 ∷ 0 ∷ 255 �
 abbrev b : List ℕ
 b = 0 ∷ 255 ∷ 1 ∷ 128 ∷ 1 ∷ 100 ∷ 200 ∷ 50 ∷ 0 ∷ 1 ∷ 255 ∷ 0 ∷ 128 ∷ 128 ∷ 0 ∷ 128 ∷ []
 
+abbrev c : List ℕ
+c = 0 ∷ 1 ∷ 127 ∷ 128 ∷ 255 ∷ 200 ∷ 100 ∷ 50 ∷ 9 ∷ 1 ∷ 0 ∷ 0 ∷ 0 ∷ 128 ∷ 255 ∷ 255 ∷ []
+
 abbrev three : List ℕ
 three = 3 ∷ 0 ∷ 0 ∷ 0 ∷ 0 ∷ 0 ∷ 0 ∷ 0 ∷ 9 ∷ 9 ∷ 9 ∷ 9 ∷ 9 ∷ 9 ∷ 9 ∷ 9 ∷ []
 
@@ -151,6 +154,71 @@ distances : results b (vec.Psadbw ∷ []) ≡
     []
 unfolding lane number_at from_lanes
 distances = refl
+
+-- SSSE3 and SSE4.1
+
+absolute : results b (vec.Pabsb ∷ vec.Pabsw ∷ vec.Pabsd ∷ []) ≡
+    (0 ∷ 1 ∷ 1 ∷ 128 ∷ 1 ∷ 100 ∷ 56 ∷ 50 ∷ 0 ∷ 1 ∷ 1 ∷ 0 ∷ 128 ∷ 128 ∷ 0 ∷ 128 ∷ []) ∷
+    (0 ∷ 1 ∷ 255 ∷ 127 ∷ 1 ∷ 100 ∷ 200 ∷ 50 ∷ 0 ∷ 1 ∷ 255 ∷ 0 ∷ 128 ∷ 127 ∷ 0 ∷ 128 ∷ []) ∷
+    (0 ∷ 1 ∷ 254 ∷ 127 ∷ 1 ∷ 100 ∷ 200 ∷ 50 ∷ 0 ∷ 1 ∷ 255 ∷ 0 ∷ 128 ∷ 127 ∷ 255 ∷ 127 ∷ []) ∷
+    []
+unfolding lane number_at from_lanes
+absolute = refl
+
+signed_extremes : results b (vec.Pminsb ∷ vec.Pminsd ∷ vec.Pmaxsb ∷ vec.Pmaxsd ∷ []) ≡
+    (0 ∷ 255 ∷ 1 ∷ 128 ∷ 255 ∷ 200 ∷ 200 ∷ 50 ∷ 0 ∷ 0 ∷ 255 ∷ 255 ∷ 128 ∷ 128 ∷ 255 ∷ 128 ∷ []) ∷
+    (0 ∷ 255 ∷ 1 ∷ 128 ∷ 255 ∷ 200 ∷ 100 ∷ 50 ∷ 1 ∷ 0 ∷ 255 ∷ 255 ∷ 128 ∷ 128 ∷ 0 ∷ 128 ∷ []) ∷
+    (0 ∷ 1 ∷ 127 ∷ 128 ∷ 1 ∷ 100 ∷ 100 ∷ 50 ∷ 1 ∷ 1 ∷ 255 ∷ 0 ∷ 0 ∷ 128 ∷ 0 ∷ 127 ∷ []) ∷
+    (0 ∷ 1 ∷ 127 ∷ 128 ∷ 1 ∷ 100 ∷ 200 ∷ 50 ∷ 0 ∷ 1 ∷ 255 ∷ 0 ∷ 0 ∷ 128 ∷ 255 ∷ 127 ∷ []) ∷
+    []
+unfolding lane number_at from_lanes
+signed_extremes = refl
+
+unsigned_extremes : results b (vec.Pminuw ∷ vec.Pminud ∷ vec.Pmaxuw ∷ vec.Pmaxud ∷ []) ≡
+    (0 ∷ 1 ∷ 1 ∷ 128 ∷ 1 ∷ 100 ∷ 100 ∷ 50 ∷ 1 ∷ 0 ∷ 255 ∷ 0 ∷ 0 ∷ 128 ∷ 255 ∷ 127 ∷ []) ∷
+    (0 ∷ 255 ∷ 1 ∷ 128 ∷ 255 ∷ 200 ∷ 100 ∷ 50 ∷ 0 ∷ 1 ∷ 255 ∷ 0 ∷ 0 ∷ 128 ∷ 255 ∷ 127 ∷ []) ∷
+    (0 ∷ 255 ∷ 127 ∷ 128 ∷ 255 ∷ 200 ∷ 200 ∷ 50 ∷ 0 ∷ 1 ∷ 255 ∷ 255 ∷ 128 ∷ 128 ∷ 0 ∷ 128 ∷ []) ∷
+    (0 ∷ 1 ∷ 127 ∷ 128 ∷ 1 ∷ 100 ∷ 200 ∷ 50 ∷ 1 ∷ 0 ∷ 255 ∷ 255 ∷ 128 ∷ 128 ∷ 0 ∷ 128 ∷ []) ∷
+    []
+unfolding lane number_at from_lanes
+unsigned_extremes = refl
+
+extended : results b (vec.Pmovsxbw ∷ vec.Pmovsxwd ∷ vec.Pmovsxdq ∷ vec.Pmovzxbw ∷ vec.Pmovzxwd ∷ vec.Pmovzxdq ∷ []) ≡
+    (0 ∷ 0 ∷ 255 ∷ 255 ∷ 1 ∷ 0 ∷ 128 ∷ 255 ∷ 1 ∷ 0 ∷ 100 ∷ 0 ∷ 200 ∷ 255 ∷ 50 ∷ 0 ∷ []) ∷
+    (0 ∷ 255 ∷ 255 ∷ 255 ∷ 1 ∷ 128 ∷ 255 ∷ 255 ∷ 1 ∷ 100 ∷ 0 ∷ 0 ∷ 200 ∷ 50 ∷ 0 ∷ 0 ∷ []) ∷
+    (0 ∷ 255 ∷ 1 ∷ 128 ∷ 255 ∷ 255 ∷ 255 ∷ 255 ∷ 1 ∷ 100 ∷ 200 ∷ 50 ∷ 0 ∷ 0 ∷ 0 ∷ 0 ∷ []) ∷
+    (0 ∷ 0 ∷ 255 ∷ 0 ∷ 1 ∷ 0 ∷ 128 ∷ 0 ∷ 1 ∷ 0 ∷ 100 ∷ 0 ∷ 200 ∷ 0 ∷ 50 ∷ 0 ∷ []) ∷
+    (0 ∷ 255 ∷ 0 ∷ 0 ∷ 1 ∷ 128 ∷ 0 ∷ 0 ∷ 1 ∷ 100 ∷ 0 ∷ 0 ∷ 200 ∷ 50 ∷ 0 ∷ 0 ∷ []) ∷
+    (0 ∷ 255 ∷ 1 ∷ 128 ∷ 0 ∷ 0 ∷ 0 ∷ 0 ∷ 1 ∷ 100 ∷ 200 ∷ 50 ∷ 0 ∷ 0 ∷ 0 ∷ 0 ∷ []) ∷
+    []
+unfolding lane number_at from_lanes
+extended = refl
+
+products_of_doublewords : results b (vec.Pmulld ∷ vec.Pmuldq ∷ []) ≡
+    (0 ∷ 0 ∷ 255 ∷ 130 ∷ 255 ∷ 100 ∷ 32 ∷ 102 ∷ 0 ∷ 1 ∷ 255 ∷ 255 ∷ 0 ∷ 0 ∷ 192 ∷ 191 ∷ []) ∷
+    (0 ∷ 0 ∷ 255 ∷ 130 ∷ 253 ∷ 128 ∷ 191 ∷ 63 ∷ 0 ∷ 1 ∷ 255 ∷ 255 ∷ 0 ∷ 255 ∷ 255 ∷ 255 ∷ []) ∷
+    []
+unfolding lane number_at from_lanes
+products_of_doublewords = refl
+
+equal_quadwords : results b (vec.Pcmpeqq ∷ []) ≡
+    (0 ∷ 0 ∷ 0 ∷ 0 ∷ 0 ∷ 0 ∷ 0 ∷ 0 ∷ 0 ∷ 0 ∷ 0 ∷ 0 ∷ 0 ∷ 0 ∷ 0 ∷ 0 ∷ []) ∷
+    []
+unfolding lane number_at from_lanes
+equal_quadwords = refl
+
+packed_to_words : results b (vec.Packusdw ∷ []) ≡
+    (0 ∷ 0 ∷ 255 ∷ 255 ∷ 0 ∷ 0 ∷ 255 ∷ 255 ∷ 0 ∷ 0 ∷ 255 ∷ 255 ∷ 255 ∷ 255 ∷ 0 ∷ 0 ∷ []) ∷
+    []
+unfolding lane number_at from_lanes
+packed_to_words = refl
+
+equal_and_packed : results c (vec.Pcmpeqq ∷ vec.Packusdw ∷ []) ≡
+    (255 ∷ 255 ∷ 255 ∷ 255 ∷ 255 ∷ 255 ∷ 255 ∷ 255 ∷ 0 ∷ 0 ∷ 0 ∷ 0 ∷ 0 ∷ 0 ∷ 0 ∷ 0 ∷ []) ∷
+    (0 ∷ 0 ∷ 255 ∷ 255 ∷ 0 ∷ 0 ∷ 255 ∷ 255 ∷ 0 ∷ 0 ∷ 255 ∷ 255 ∷ 9 ∷ 1 ∷ 0 ∷ 0 ∷ []) ∷
+    []
+unfolding lane number_at from_lanes
+equal_and_packed = refl
 
 -- the low 64 bits of the source are the count; its high ones say nothing
 shift_by_3 : results three (vec.Psrlw ∷ vec.Psrld ∷ vec.Psrlq ∷ vec.Psraw ∷ vec.Psrad ∷ vec.Psllw ∷ vec.Pslld ∷ vec.Psllq ∷ []) ≡

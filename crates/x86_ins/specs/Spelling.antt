@@ -21,7 +21,7 @@ use Rattle.x86_ins.specs.declared.ins.Cond.TheVariants as conds
 use Rattle.x86_ins.specs.declared.ins.Ins.{Ins}
 use Rattle.x86_ins.specs.declared.ins.Ins.TheVariants.{Vec, VecImm, Shuffle, VecLoad, VecStore, FromGpr, ToGpr, Move, Load, Store, Store8, Store16, Load8, Load16, MovImm, Alu, AluImm, Test, Shift, Imul, Lea, Push, Pop, Jump, JumpIf, Ret}
 
--- the opcode byte after 66 0F of an operation on two vector registers
+-- the last opcode byte of an operation on two vector registers: after 66 0F, or after 66 0F 38
 abbrev pub vec_byte : VecOp → ℕ
 vec_byte vec.Punpcklbw = 0x60
 vec_byte vec.Punpcklwd = 0x61
@@ -80,6 +80,56 @@ vec_byte vec.Psubq = 0xfb
 vec_byte vec.Paddb = 0xfc
 vec_byte vec.Paddw = 0xfd
 vec_byte vec.Paddd = 0xfe
+vec_byte vec.Pabsb = 0x1c
+vec_byte vec.Pabsw = 0x1d
+vec_byte vec.Pabsd = 0x1e
+vec_byte vec.Pmovsxbw = 0x20
+vec_byte vec.Pmovsxwd = 0x23
+vec_byte vec.Pmovsxdq = 0x25
+vec_byte vec.Pmuldq = 0x28
+vec_byte vec.Pcmpeqq = 0x29
+vec_byte vec.Packusdw = 0x2b
+vec_byte vec.Pmovzxbw = 0x30
+vec_byte vec.Pmovzxwd = 0x33
+vec_byte vec.Pmovzxdq = 0x35
+vec_byte vec.Pminsb = 0x38
+vec_byte vec.Pminsd = 0x39
+vec_byte vec.Pminuw = 0x3a
+vec_byte vec.Pminud = 0x3b
+vec_byte vec.Pmaxsb = 0x3c
+vec_byte vec.Pmaxsd = 0x3d
+vec_byte vec.Pmaxuw = 0x3e
+vec_byte vec.Pmaxud = 0x3f
+vec_byte vec.Pmulld = 0x40
+
+-- whether 38 stands before it: the operations of SSSE3 and SSE4.1
+abbrev pub has_38 : VecOp → Bool
+has_38 vec.Pabsb = true
+has_38 vec.Pabsw = true
+has_38 vec.Pabsd = true
+has_38 vec.Pmovsxbw = true
+has_38 vec.Pmovsxwd = true
+has_38 vec.Pmovsxdq = true
+has_38 vec.Pmuldq = true
+has_38 vec.Pcmpeqq = true
+has_38 vec.Packusdw = true
+has_38 vec.Pmovzxbw = true
+has_38 vec.Pmovzxwd = true
+has_38 vec.Pmovzxdq = true
+has_38 vec.Pminsb = true
+has_38 vec.Pminsd = true
+has_38 vec.Pminuw = true
+has_38 vec.Pminud = true
+has_38 vec.Pmaxsb = true
+has_38 vec.Pmaxsd = true
+has_38 vec.Pmaxuw = true
+has_38 vec.Pmaxud = true
+has_38 vec.Pmulld = true
+has_38 _ = false
+
+-- all its opcode bytes, after 66
+abbrev pub vec_opcode : VecOp → List ℕ
+vec_opcode op = if has_38 op then 0x0f ∷ 0x38 ∷ vec_byte op ∷ [] else 0x0f ∷ vec_byte op ∷ []
 
 -- the opcode byte of a shift by a number
 abbrev pub imm_byte : VecImmOp → ℕ
@@ -233,7 +283,7 @@ bare_rex src base = nat_lt src 8 && (not (nat_lt src 4) && nat_lt base 8)
 
 -- the bytes of an instruction: one line for each form
 unfoldable pub spelling : Ins → List ℕ
-spelling (Vec op dst src) = reg_form (0x66 ∷ []) false (0x0f ∷ vec_byte op ∷ []) dst src
+spelling (Vec op dst src) = reg_form (0x66 ∷ []) false (vec_opcode op) dst src
 spelling (VecImm op dst count) = reg_form (0x66 ∷ []) false (0x0f ∷ imm_byte op ∷ []) (imm_digit op) dst ++ count ∷ []
 spelling (Shuffle op dst src order) = reg_form (shuffle_prefix op ∷ []) false (0x0f ∷ 0x70 ∷ []) dst src ++ order ∷ []
 spelling (VecLoad op dst at) = mem_form (load_prefix op ∷ []) false (0x0f ∷ load_byte op ∷ []) dst at

@@ -1,10 +1,10 @@
 -- What the vector instructions between registers do, by lanes as exact numbers (Intel SDM, volume 2B, where each has the page that is named at its line).
 -- A register is the list of its 16 bytes, the lowest first. The width of a lane is in bytes; the width w of a number is in bits.
-use Rattle.std.specs.Prelude.{ℕ, zero, suc, Bool, true, false, ◌&&◌, cond, nat_eq, nat_lt, ◌+◌, ◌-◌, ◌*◌, ◌/◌, ◌%◌, ◌^◌, min, max, List, [], ◌∷◌, bit_and, bit_or, bit_xor, int_lt, ℤ, ◌-ℤ◌, ◌+ℤ◌, ◌*ℤ◌}
+use Rattle.std.specs.Prelude.{ℕ, zero, suc, Bool, true, false, ◌&&◌, cond, nat_eq, nat_lt, ◌+◌, ◌-◌, ◌*◌, ◌/◌, ◌%◌, ◌^◌, min, max, List, [], ◌∷◌, bit_and, bit_or, bit_xor, int_lt, ℤ, ◌-ℤ◌, ◌+ℤ◌, ◌*ℤ◌, unsigned_abs}
 use Rattle.orc_bits.specs.Numbers.{signed, wrap, clamp_s, clamp_u}
 use Rattle.orc_bits.specs.Lanes.{lane, from_lanes, change, AreBytes}
 use Rattle.x86_ins.specs.declared.ins.VecOp.{VecOp}
-use Rattle.x86_ins.specs.declared.ins.VecOp.TheVariants.{Punpcklbw, Punpcklwd, Punpckldq, Packsswb, Pcmpgtb, Pcmpgtw, Pcmpgtd, Packuswb, Punpckhbw, Punpckhwd, Punpckhdq, Packssdw, Punpcklqdq, Punpckhqdq, Movdqa, Pcmpeqb, Pcmpeqw, Pcmpeqd, Psrlw, Psrld, Psrlq, Paddq, Pmullw, Psubusb, Psubusw, Pminub, Pand, Paddusb, Paddusw, Pmaxub, Pandn, Pavgb, Psraw, Psrad, Pavgw, Pmulhuw, Pmulhw, Psubsb, Psubsw, Pminsw, Por, Paddsb, Paddsw, Pmaxsw, Pxor, Psllw, Pslld, Psllq, Pmuludq, Psadbw, Psubb, Psubw, Psubd, Psubq, Paddb, Paddw, Paddd}
+use Rattle.x86_ins.specs.declared.ins.VecOp.TheVariants.{Punpcklbw, Punpcklwd, Punpckldq, Packsswb, Pcmpgtb, Pcmpgtw, Pcmpgtd, Packuswb, Punpckhbw, Punpckhwd, Punpckhdq, Packssdw, Punpcklqdq, Punpckhqdq, Movdqa, Pcmpeqb, Pcmpeqw, Pcmpeqd, Psrlw, Psrld, Psrlq, Paddq, Pmullw, Psubusb, Psubusw, Pminub, Pand, Paddusb, Paddusw, Pmaxub, Pandn, Pavgb, Psraw, Psrad, Pavgw, Pmulhuw, Pmulhw, Psubsb, Psubsw, Pminsw, Por, Paddsb, Paddsw, Pmaxsw, Pxor, Psllw, Pslld, Psllq, Pmuludq, Psadbw, Psubb, Psubw, Psubd, Psubq, Paddb, Paddw, Paddd, Pabsb, Pabsw, Pabsd, Pmovsxbw, Pmovsxwd, Pmovsxdq, Pmuldq, Pcmpeqq, Packusdw, Pmovzxbw, Pmovzxwd, Pmovzxdq, Pminsb, Pminsd, Pminuw, Pminud, Pmaxsb, Pmaxsd, Pmaxuw, Pmaxud, Pmulld}
 use Rattle.x86_ins.specs.declared.ins.VecImmOp.{VecImmOp}
 use Rattle.x86_ins.specs.declared.ins.VecImmOp.TheVariants as imm
 use Rattle.x86_ins.specs.declared.ins.ShuffleOp.{ShuffleOp}
@@ -90,6 +90,21 @@ sar w a c = cond (nat_lt c w) (sar_by w a c) (sar_by w a (w - 1))
 abbrev pub mul_pair : ℕ → ℕ → ℕ
 mul_pair a b = a % 2 ^ 32 * (b % 2 ^ 32)
 
+-- the same of the signed ones
+abbrev pub mul_pair_s : ℕ → ℕ → ℕ
+mul_pair_s a b = wrap 64 (signed 32 (a % 2 ^ 32) *ℤ signed 32 (b % 2 ^ 32))
+
+-- the absolute value of the source's signed number, modulo 2 ^ w
+abbrev pub absolute : ℕ → ℕ → ℕ → ℕ
+absolute w a b = unsigned_abs (signed w b) % 2 ^ w
+
+-- a number of w bits at twice the width, with its sign or with zeros
+abbrev pub sign_extended : ℕ → ℕ → ℕ
+sign_extended w b = wrap (w + w) (signed w b)
+
+abbrev pub zero_extended : ℕ → ℕ → ℕ
+zero_extended w b = b
+
 -- the source
 abbrev pub right : ℕ → ℕ → ℕ → ℕ
 right w a b = b
@@ -119,6 +134,7 @@ distance a b = (a - b) + (b - a)
 -- counted: on the lanes of the destination, with the low 64 bits of the source as a count
 -- interleaved: units of that width of the low halves (0) or of the high halves (1), the destination's unit first
 -- packed: signed units of that width, clamped to half of it; the low half of the result is the destination's, the high half the source's
+-- extended: units of that width of the source's low half, each made twice as wide
 -- distances: sums of absolute differences of bytes
 pub data Shape : Type 0 where
   bits : (ℕ → ℕ → ℕ → ℕ) → Shape
@@ -126,6 +142,7 @@ pub data Shape : Type 0 where
   counted : ℕ → (ℕ → ℕ → ℕ → ℕ) → Shape
   interleaved : ℕ → ℕ → Shape
   packed : ℕ → (ℤ → ℕ) → Shape
+  extended : ℕ → (ℕ → ℕ → ℕ) → Shape
   distances : Shape
 
 -- the pages are of volume 2B
@@ -160,25 +177,40 @@ shape Psubusw = each 2 sub_u
 -- PAVGB/PAVGW
 shape Pavgb = each 1 average
 shape Pavgw = each 2 average
--- PMINUB/PMINUW; PMAXUB/PMAXUW
+-- PMINUB/PMINUW; PMINUD/PMINUQ; PMAXUB/PMAXUW; PMAXUD/PMAXUQ
 shape Pminub = each 1 (λ w. min)
+shape Pminuw = each 2 (λ w. min)
+shape Pminud = each 4 (λ w. min)
 shape Pmaxub = each 1 (λ w. max)
--- PMINSB/PMINSW; PMAXSB/PMAXSW/PMAXSD/PMAXSQ
+shape Pmaxuw = each 2 (λ w. max)
+shape Pmaxud = each 4 (λ w. max)
+-- PMINSB/PMINSW; PMINSD/PMINSQ; PMAXSB/PMAXSW/PMAXSD/PMAXSQ
+shape Pminsb = each 1 min_s
 shape Pminsw = each 2 min_s
+shape Pminsd = each 4 min_s
+shape Pmaxsb = each 1 max_s
 shape Pmaxsw = each 2 max_s
--- PCMPEQB/PCMPEQW/PCMPEQD
+shape Pmaxsd = each 4 max_s
+-- PABSB/PABSW/PABSD/PABSQ
+shape Pabsb = each 1 absolute
+shape Pabsw = each 2 absolute
+shape Pabsd = each 4 absolute
+-- PCMPEQB/PCMPEQW/PCMPEQD; PCMPEQQ
 shape Pcmpeqb = each 1 equal
 shape Pcmpeqw = each 2 equal
 shape Pcmpeqd = each 4 equal
+shape Pcmpeqq = each 8 equal
 -- PCMPGTB/PCMPGTW/PCMPGTD
 shape Pcmpgtb = each 1 greater_s
 shape Pcmpgtw = each 2 greater_s
 shape Pcmpgtd = each 4 greater_s
--- PMULLW; PMULHW; PMULHUW; PMULUDQ
+-- PMULLW; PMULLD/PMULLQ; PMULHW; PMULHUW; PMULUDQ; PMULDQ
 shape Pmullw = each 2 mul_low
+shape Pmulld = each 4 mul_low
 shape Pmulhw = each 2 mul_high_s
 shape Pmulhuw = each 2 mul_high_u
 shape Pmuludq = each 8 (λ w. mul_pair)
+shape Pmuldq = each 8 (λ w. mul_pair_s)
 -- PSRLW/PSRLD/PSRLQ
 shape Psrlw = counted 2 shr
 shape Psrld = counted 4 shr
@@ -200,10 +232,18 @@ shape Punpckhbw = interleaved 1 1
 shape Punpckhwd = interleaved 2 1
 shape Punpckhdq = interleaved 4 1
 shape Punpckhqdq = interleaved 8 1
--- PACKSSWB/PACKSSDW; PACKUSWB
+-- PACKSSWB/PACKSSDW; PACKUSWB; PACKUSDW
 shape Packsswb = packed 2 (clamp_s 8)
 shape Packuswb = packed 2 (clamp_u 8)
 shape Packssdw = packed 4 (clamp_s 16)
+shape Packusdw = packed 4 (clamp_u 16)
+-- PMOVSX; PMOVZX
+shape Pmovsxbw = extended 1 sign_extended
+shape Pmovsxwd = extended 2 sign_extended
+shape Pmovsxdq = extended 4 sign_extended
+shape Pmovzxbw = extended 1 zero_extended
+shape Pmovzxwd = extended 2 zero_extended
+shape Pmovzxdq = extended 4 zero_extended
 -- PSADBW
 shape Psadbw = distances
 
@@ -219,6 +259,7 @@ width_of (each w f) = w
 width_of (counted w f) = w
 width_of (interleaved w h) = w
 width_of (packed w f) = w / 2
+width_of (extended w f) = w + w
 width_of distances = 8
 
 -- lane q of the result on the registers x, the destination, and y, the source
@@ -228,6 +269,7 @@ lane_of (each w f) x y q = f (8 * w) (lane w q x) (lane w q y)
 lane_of (counted w f) x y q = f (8 * w) (lane w q x) (lane 8 0 y)
 lane_of (interleaved w h) x y q = cond (nat_eq (q % 2) 0) (lane w (q / 2 + h * (8 / w)) x) (lane w (q / 2 + h * (8 / w)) y)
 lane_of (packed w f) x y q = cond (nat_lt q (16 / w)) (f (signed (8 * w) (lane w q x))) (f (signed (8 * w) (lane w (q - 16 / w) y)))
+lane_of (extended w f) x y q = f (8 * w) (lane w q y)
 lane_of distances x y q = distance_sum x y (8 * q) 8
 
 -- the destination after it, from the registers before it

@@ -53,7 +53,7 @@ pub struct Addr {
     pub disp: i32,
 }
 
-/// A vector operation on two registers (Intel SDM, volume 2B). The first register is the destination and the first operand.
+/// A vector operation on two registers (Intel SDM, volume 2B): of SSE2, and from PABSB on of SSSE3 and SSE4.1. The first register is the destination and the first operand.
 #[derive(Clone, Copy, Debug, PartialEq, Eq)]
 pub enum VecOp {
     /// PUNPCKLBW: the low eight bytes of both, interleaved.
@@ -170,6 +170,48 @@ pub enum VecOp {
     Paddw,
     /// PADDD: sums of doublewords, modulo 2^32.
     Paddd,
+    /// PABSB: absolute values of signed bytes, modulo 2^8.
+    Pabsb,
+    /// PABSW: absolute values of signed words, modulo 2^16.
+    Pabsw,
+    /// PABSD: absolute values of signed doublewords, modulo 2^32.
+    Pabsd,
+    /// PMOVSXBW: the low eight bytes, sign-extended to words.
+    Pmovsxbw,
+    /// PMOVSXWD: the low four words, sign-extended to doublewords.
+    Pmovsxwd,
+    /// PMOVSXDQ: the low two doublewords, sign-extended to quadwords.
+    Pmovsxdq,
+    /// PMULDQ: 64-bit products of the low signed doublewords of each quadword.
+    Pmuldq,
+    /// PCMPEQQ: all ones where quadwords are equal.
+    Pcmpeqq,
+    /// PACKUSDW: signed doublewords, clamped to unsigned words.
+    Packusdw,
+    /// PMOVZXBW: the low eight bytes, zero-extended to words.
+    Pmovzxbw,
+    /// PMOVZXWD: the low four words, zero-extended to doublewords.
+    Pmovzxwd,
+    /// PMOVZXDQ: the low two doublewords, zero-extended to quadwords.
+    Pmovzxdq,
+    /// PMINSB: the lesser signed bytes.
+    Pminsb,
+    /// PMINSD: the lesser signed doublewords.
+    Pminsd,
+    /// PMINUW: the lesser unsigned words.
+    Pminuw,
+    /// PMINUD: the lesser unsigned doublewords.
+    Pminud,
+    /// PMAXSB: the greater signed bytes.
+    Pmaxsb,
+    /// PMAXSD: the greater signed doublewords.
+    Pmaxsd,
+    /// PMAXUW: the greater unsigned words.
+    Pmaxuw,
+    /// PMAXUD: the greater unsigned doublewords.
+    Pmaxud,
+    /// PMULLD: the low 32 bits of the products of doublewords.
+    Pmulld,
 }
 
 /// A shift of a vector register by a number (Intel SDM, volume 2B).

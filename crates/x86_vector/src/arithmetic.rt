@@ -1,9 +1,9 @@
 //! Arithmetic on lanes.
 
-ghost use Rattle.std.specs.Prelude.{◌≡◌, if◌then◌else◌, ◌≤◌, ◌<◌, ◌+◌, ◌-◌, ◌*◌, ◌/◌, ◌%◌, ◌^◌, ◌<ℤ◌, neg_ℤ, pos, FitsSigned};
+ghost use Rattle.std.specs.Prelude.{◌≡◌, ◌≤◌, ◌<◌, ◌+◌, ◌-◌, ◌*◌, ◌/◌, ◌%◌, ◌^◌, ◌<ℤ◌, neg_ℤ, pos, FitsSigned};
 ghost use Rattle.std.specs.Int.{w32};
 ghost use Rattle.orc_bits.specs.Numbers.{signed, wrap};
-ghost use Rattle.x86_ins.specs.Vectors.{add_wrap, sub_wrap, add_s, sub_s, add_u, average, equal, greater_s, min_s, max_s, mul_low, mul_high_s, mul_high_u, mul_pair};
+ghost use Rattle.x86_ins.specs.Vectors.{add_wrap, sub_wrap, add_s, sub_s, add_u, average, equal, greater_s, min_s, max_s, mul_low, mul_high_s, mul_high_u, mul_pair, mul_pair_s, absolute};
 ghost use Rattle.x86_vector.specs.Forms.{bytes_of, lane_fn, word_fn, bit_fn};
 
 use crate::forms::{BitFn, LaneFn, WordFn};
@@ -76,6 +76,42 @@ fn greater_signed(w: Width, a: u64, b: u64) -> u64
     mask(w, signed_lane(w, b) < signed_lane(w, a))
 }
 
+/// The lesser signed number.
+fn min_signed(w: Width, a: u64, b: u64) -> u64
+    requires first { a < 2 ^ (8 * bytes_of w) }
+    requires second { b < 2 ^ (8 * bytes_of w) }
+    ensures { result ≡ min_s (8 * bytes_of w) a b }
+{
+    if signed_lane(w, b) < signed_lane(w, a) {
+        b
+    } else {
+        a
+    }
+}
+
+/// The greater signed number.
+fn max_signed(w: Width, a: u64, b: u64) -> u64
+    requires first { a < 2 ^ (8 * bytes_of w) }
+    requires second { b < 2 ^ (8 * bytes_of w) }
+    ensures { result ≡ max_s (8 * bytes_of w) a b }
+{
+    if signed_lane(w, b) < signed_lane(w, a) {
+        a
+    } else {
+        b
+    }
+}
+
+/// The absolute value, modulo 2^w for lanes of w bits.
+fn absolute(w: Width, b: u64) -> u64
+    requires { b < 2 ^ (8 * bytes_of w) }
+    ensures { result ≡ absolute (8 * bytes_of w) b b }
+{
+    let half = modulus(w) / 2;
+    let v = u128::from(b);
+    if v < half { b } else { (modulus(w) - v) as u64 }
+}
+
 /// A function of two lanes.
 pub fn lane_value(f: LaneFn, w: Width, a: u64, b: u64) -> u64
     requires first { a < 2 ^ (8 * bytes_of w) }
@@ -94,19 +130,9 @@ pub fn lane_value(f: LaneFn, w: Width, a: u64, b: u64) -> u64
         LaneFn::MaxUnsigned => a.max(b),
         LaneFn::Equal => mask(w, a == b),
         LaneFn::GreaterSigned => greater_signed(w, a, b),
-    }
-}
-
-/// The less or the greater of two signed words.
-fn word_extreme(a: u64, b: u64, greater: bool) -> u64
-    requires first { a < 2 ^ 16 }
-    requires second { b < 2 ^ 16 }
-    ensures { result ≡ (if greater then max_s 16 a b else min_s 16 a b) }
-{
-    if (signed(b, 16) < signed(a, 16)) == greater {
-        a
-    } else {
-        b
+        LaneFn::MinSigned => min_signed(w, a, b),
+        LaneFn::MaxSigned => max_signed(w, a, b),
+        LaneFn::Absolute => absolute(w, b),
     }
 }
 
@@ -138,8 +164,6 @@ pub fn word_value(f: WordFn, a: u64, b: u64) -> u64
     ensures { result ≡ word_fn f 16 a b }
 {
     match f {
-        WordFn::MinSigned => word_extreme(a, b, false),
-        WordFn::MaxSigned => word_extreme(a, b, true),
         WordFn::MulLow => a * b % 0x1_0000,
         WordFn::MulHighSigned => mul_high_signed(a, b),
         WordFn::MulHighUnsigned => a * b / 0x1_0000,
@@ -151,6 +175,33 @@ pub fn product(a: u64, b: u64) -> u64
     ensures { result ≡ mul_pair a b }
 {
     a % 0x1_0000_0000 * (b % 0x1_0000_0000)
+}
+
+/// The low half of the product of two doublewords.
+pub fn low_product(a: u64, b: u64) -> u64
+    requires first { a < 2 ^ 32 }
+    requires second { b < 2 ^ 32 }
+    ensures { result ≡ mul_low 32 a b }
+{
+    a * b % 0x1_0000_0000
+}
+
+/// A signed number of 64 bits, modulo 2^64.
+fn wrapped_64(v: i64) -> u64
+    ensures { result ≡ wrap 64 v }
+{
+    if v < 0 {
+        (i128::from(v) + 0x1_0000_0000_0000_0000) as u64
+    } else {
+        v as u64
+    }
+}
+
+/// The product of the low signed doublewords of two quadwords.
+pub fn signed_product(a: u64, b: u64) -> u64
+    ensures { result ≡ mul_pair_s a b }
+{
+    wrapped_64(signed(a % 0x1_0000_0000, 32) * signed(b % 0x1_0000_0000, 32))
 }
 
 /// A function of the bits of two bytes.

@@ -4,8 +4,9 @@ ghost use Rattle.std.specs.Prelude.{◌≡◌, ℕ, ◌≤◌, ◌<◌, ◌+◌,
 ghost use Rattle.x86_ins.specs.Vectors.{shape, result_of, imm_shape, imm_result, shuffle_result};
 ghost use Rattle.x86_vector.specs.Forms.{bytes_of, width_in, lane_in, result_in};
 
-use crate::arithmetic::{bit_value, lane_value, product, word_value};
-use crate::forms::{Form, PackFn};
+use crate::arithmetic::{bit_value, lane_value, low_product, product, signed_product, word_value};
+use crate::extends::extended_lane;
+use crate::forms::{Form, Half, PackFn};
 use crate::packs::pack_lane;
 use crate::select::{form, shift_form, shuffle_form};
 use crate::shifts::{byte_from_above, byte_from_below, shift_value};
@@ -22,13 +23,19 @@ fn width(f: Form) -> Width
         Form::Bits(_) => Width::One,
         Form::Each(_, w) => w,
         Form::Words(_) => Width::Two,
+        Form::LowProducts => Width::Four,
         Form::Products => Width::Eight,
+        Form::SignedProducts => Width::Eight,
         Form::Counted(_, w) => w,
         Form::Shifted(_, w, _) => w,
         Form::Interleaved(w, _) => w,
         Form::Packed(PackFn::SignedBytes) => Width::One,
         Form::Packed(PackFn::UnsignedBytes) => Width::One,
         Form::Packed(PackFn::SignedWords) => Width::Two,
+        Form::Packed(PackFn::UnsignedWords) => Width::Two,
+        Form::Extended(Half::Byte, _) => Width::Two,
+        Form::Extended(Half::Word, _) => Width::Four,
+        Form::Extended(Half::Doubleword, _) => Width::Eight,
         Form::Distances => Width::Eight,
         Form::BytesUp(_) => Width::One,
         Form::BytesDown(_) => Width::One,
@@ -47,11 +54,14 @@ fn lane(f: Form, x: &[u8; 16], y: &[u8; 16], q: usize) -> u64
         Form::Bits(f) => bit_value(f, lane_at(x, 1, q), lane_at(y, 1, q)),
         Form::Each(f, w) => lane_value(f, w, lane_at(x, size(w), q), lane_at(y, size(w), q)),
         Form::Words(f) => word_value(f, lane_at(x, 2, q), lane_at(y, 2, q)),
+        Form::LowProducts => low_product(lane_at(x, 4, q), lane_at(y, 4, q)),
         Form::Products => product(lane_at(x, 8, q), lane_at(y, 8, q)),
+        Form::SignedProducts => signed_product(lane_at(x, 8, q), lane_at(y, 8, q)),
         Form::Counted(f, w) => shift_value(f, w, lane_at(x, size(w), q), lane_at(y, 8, 0)),
         Form::Shifted(f, w, count) => shift_value(f, w, lane_at(x, size(w), q), u64::from(count)),
         Form::Interleaved(w, high) => interleave_lane(w, high, x, y, q),
         Form::Packed(f) => pack_lane(f, x, y, q),
+        Form::Extended(h, sign) => extended_lane(h, sign, y, q),
         Form::Distances => distance_sum(x, y, q),
         Form::BytesUp(count) => byte_from_below(x, count, q),
         Form::BytesDown(count) => byte_from_above(x, count, q),

@@ -16,13 +16,15 @@ pub enum LaneFn {
     MaxUnsigned,
     Equal,
     GreaterSigned,
+    MinSigned,
+    MaxSigned,
+    /// Of the second lane alone.
+    Absolute,
 }
 
 /// A function of two words.
 #[derive(Clone, Copy)]
 pub enum WordFn {
-    MinSigned,
-    MaxSigned,
     MulLow,
     MulHighSigned,
     MulHighUnsigned,
@@ -52,6 +54,15 @@ pub enum PackFn {
     SignedBytes,
     UnsignedBytes,
     SignedWords,
+    UnsignedWords,
+}
+
+/// The width of a lane that is extended to twice its width.
+#[derive(Clone, Copy)]
+pub enum Half {
+    Byte,
+    Word,
+    Doubleword,
 }
 
 /// How each lane of a result comes about from the lanes of two registers.
@@ -63,8 +74,12 @@ pub enum Form {
     Each(LaneFn, Width),
     /// A function of the two words at the same place.
     Words(WordFn),
+    /// The low half of the product of the two doublewords at the same place.
+    LowProducts,
     /// The product of the low doublewords of the two quadwords at the same place.
     Products,
+    /// The product of the low signed doublewords of the two quadwords at the same place.
+    SignedProducts,
     /// A shift by the low quadword of the second register.
     Counted(ShiftFn, Width),
     /// A shift by this count.
@@ -73,6 +88,8 @@ pub enum Form {
     Interleaved(Width, bool),
     /// The lanes of the first register and then of the second, each in half its width.
     Packed(PackFn),
+    /// The low lanes of the second register at twice their width, with their signs where this is true.
+    Extended(Half, bool),
     /// The sum of the distances of eight bytes.
     Distances,
     /// The bytes of the first register, this many places higher.

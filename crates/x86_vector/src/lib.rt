@@ -5,6 +5,7 @@
 
 mod arithmetic;
 mod build;
+mod extends;
 mod forms;
 mod packs;
 mod select;

@@ -19,6 +19,7 @@ fn source(f: PackFn, x: &[u8; 16], q: usize) -> i64
         PackFn::SignedBytes => signed(lane_at(x, 2, q), 16),
         PackFn::UnsignedBytes => signed(lane_at(x, 2, q), 16),
         PackFn::SignedWords => signed(lane_at(x, 4, q), 32),
+        PackFn::UnsignedWords => signed(lane_at(x, 4, q), 32),
     }
 }
 
@@ -30,6 +31,7 @@ fn pack_value(f: PackFn, v: i64) -> u64
         PackFn::SignedBytes => clamp_s(i128::from(v), 8),
         PackFn::UnsignedBytes => clamp_u(i128::from(v), 8),
         PackFn::SignedWords => clamp_s(i128::from(v), 16),
+        PackFn::UnsignedWords => clamp_u(i128::from(v), 16),
     }
 }
 
@@ -41,6 +43,7 @@ fn lane_count(f: PackFn) -> usize
         PackFn::SignedBytes => 8,
         PackFn::UnsignedBytes => 8,
         PackFn::SignedWords => 4,
+        PackFn::UnsignedWords => 4,
     }
 }
 
@@ -54,6 +57,7 @@ fn place(f: PackFn, q: usize) -> usize
         PackFn::SignedBytes => if q < 8 { q } else { q - 8 },
         PackFn::UnsignedBytes => if q < 8 { q } else { q - 8 },
         PackFn::SignedWords => if q < 4 { q } else { q - 4 },
+        PackFn::UnsignedWords => if q < 4 { q } else { q - 4 },
     }
 }
 

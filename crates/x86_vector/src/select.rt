@@ -4,7 +4,7 @@ ghost use Rattle.std.specs.Prelude.{◌≡◌, ℕ, List};
 ghost use Rattle.x86_ins.specs.Vectors.{shape, result_of, imm_shape, imm_result, shuffle_result};
 ghost use Rattle.x86_vector.specs.Forms.{result_in};
 
-use crate::forms::{BitFn, Form, LaneFn, PackFn, ShiftFn, WordFn};
+use crate::forms::{BitFn, Form, Half, LaneFn, PackFn, ShiftFn, WordFn};
 use crate::width::Width;
 use x86_ins::{ShuffleOp, VecImmOp, VecOp};
 
@@ -42,24 +42,40 @@ pub fn form(op: VecOp) -> Form
         // PAVGB/PAVGW
         VecOp::Pavgb => Form::Each(LaneFn::Average, Width::One),
         VecOp::Pavgw => Form::Each(LaneFn::Average, Width::Two),
-        // PMINUB/PMINUW; PMAXUB/PMAXUW; PMINSB/PMINSW; PMAXSB/PMAXSW/PMAXSD/PMAXSQ
+        // PMINUB/PMINUW; PMINUD/PMINUQ; PMAXUB/PMAXUW; PMAXUD/PMAXUQ
         VecOp::Pminub => Form::Each(LaneFn::MinUnsigned, Width::One),
+        VecOp::Pminuw => Form::Each(LaneFn::MinUnsigned, Width::Two),
+        VecOp::Pminud => Form::Each(LaneFn::MinUnsigned, Width::Four),
         VecOp::Pmaxub => Form::Each(LaneFn::MaxUnsigned, Width::One),
-        VecOp::Pminsw => Form::Words(WordFn::MinSigned),
-        VecOp::Pmaxsw => Form::Words(WordFn::MaxSigned),
-        // PCMPEQB/PCMPEQW/PCMPEQD
+        VecOp::Pmaxuw => Form::Each(LaneFn::MaxUnsigned, Width::Two),
+        VecOp::Pmaxud => Form::Each(LaneFn::MaxUnsigned, Width::Four),
+        // PMINSB/PMINSW; PMINSD/PMINSQ; PMAXSB/PMAXSW/PMAXSD/PMAXSQ
+        VecOp::Pminsb => Form::Each(LaneFn::MinSigned, Width::One),
+        VecOp::Pminsw => Form::Each(LaneFn::MinSigned, Width::Two),
+        VecOp::Pminsd => Form::Each(LaneFn::MinSigned, Width::Four),
+        VecOp::Pmaxsb => Form::Each(LaneFn::MaxSigned, Width::One),
+        VecOp::Pmaxsw => Form::Each(LaneFn::MaxSigned, Width::Two),
+        VecOp::Pmaxsd => Form::Each(LaneFn::MaxSigned, Width::Four),
+        // PABSB/PABSW/PABSD/PABSQ
+        VecOp::Pabsb => Form::Each(LaneFn::Absolute, Width::One),
+        VecOp::Pabsw => Form::Each(LaneFn::Absolute, Width::Two),
+        VecOp::Pabsd => Form::Each(LaneFn::Absolute, Width::Four),
+        // PCMPEQB/PCMPEQW/PCMPEQD; PCMPEQQ
         VecOp::Pcmpeqb => Form::Each(LaneFn::Equal, Width::One),
         VecOp::Pcmpeqw => Form::Each(LaneFn::Equal, Width::Two),
         VecOp::Pcmpeqd => Form::Each(LaneFn::Equal, Width::Four),
+        VecOp::Pcmpeqq => Form::Each(LaneFn::Equal, Width::Eight),
         // PCMPGTB/PCMPGTW/PCMPGTD
         VecOp::Pcmpgtb => Form::Each(LaneFn::GreaterSigned, Width::One),
         VecOp::Pcmpgtw => Form::Each(LaneFn::GreaterSigned, Width::Two),
         VecOp::Pcmpgtd => Form::Each(LaneFn::GreaterSigned, Width::Four),
-        // PMULLW; PMULHW; PMULHUW; PMULUDQ
+        // PMULLW; PMULLD/PMULLQ; PMULHW; PMULHUW; PMULUDQ; PMULDQ
         VecOp::Pmullw => Form::Words(WordFn::MulLow),
+        VecOp::Pmulld => Form::LowProducts,
         VecOp::Pmulhw => Form::Words(WordFn::MulHighSigned),
         VecOp::Pmulhuw => Form::Words(WordFn::MulHighUnsigned),
         VecOp::Pmuludq => Form::Products,
+        VecOp::Pmuldq => Form::SignedProducts,
         // PSRLW/PSRLD/PSRLQ; PSRAW/PSRAD/PSRAQ; PSLLW/PSLLD/PSLLQ
         VecOp::Psrlw => Form::Counted(ShiftFn::Right, Width::Two),
         VecOp::Psrld => Form::Counted(ShiftFn::Right, Width::Four),
@@ -78,10 +94,18 @@ pub fn form(op: VecOp) -> Form
         VecOp::Punpckhwd => Form::Interleaved(Width::Two, true),
         VecOp::Punpckhdq => Form::Interleaved(Width::Four, true),
         VecOp::Punpckhqdq => Form::Interleaved(Width::Eight, true),
-        // PACKSSWB/PACKSSDW; PACKUSWB
+        // PACKSSWB/PACKSSDW; PACKUSWB; PACKUSDW
         VecOp::Packsswb => Form::Packed(PackFn::SignedBytes),
         VecOp::Packuswb => Form::Packed(PackFn::UnsignedBytes),
         VecOp::Packssdw => Form::Packed(PackFn::SignedWords),
+        VecOp::Packusdw => Form::Packed(PackFn::UnsignedWords),
+        // PMOVSX; PMOVZX
+        VecOp::Pmovsxbw => Form::Extended(Half::Byte, true),
+        VecOp::Pmovsxwd => Form::Extended(Half::Word, true),
+        VecOp::Pmovsxdq => Form::Extended(Half::Doubleword, true),
+        VecOp::Pmovzxbw => Form::Extended(Half::Byte, false),
+        VecOp::Pmovzxwd => Form::Extended(Half::Word, false),
+        VecOp::Pmovzxdq => Form::Extended(Half::Doubleword, false),
         // PSADBW
         VecOp::Psadbw => Form::Distances,
     }

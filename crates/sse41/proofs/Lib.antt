@@ -1,0 +1,2 @@
+mod Equations
+pub mod Meet
