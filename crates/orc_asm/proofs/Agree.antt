@@ -17,9 +17,9 @@ use Rattle.orc_program.specs.Slots.{slot_of, slots, size_of_slot, call_of, place
 use Rattle.orc_program.specs.Good.{IsByte, IsSame, GoodArrays, byte_at}
 use Rattle.orc_program.specs.Good.{IsArray as IsArrayVar}
 use Rattle.orc_program.proofs.Apart.{byte_address}
-use Rattle.orc_asm.specs.Subject.{Subject, IsArray, InArray, VerySame, cell}
-use Rattle.orc_asm.specs.Subject.{Call as Arguments}
-use Rattle.orc_asm.specs.Function.{IsCellByte, subject_of}
+use Rattle.orc_frame.specs.Subject.{Subject, IsArray, InArray, VerySame, cell}
+use Rattle.orc_frame.specs.Subject.{Call as Arguments}
+use Rattle.orc_frame.specs.Function.{IsCellByte, subject_of}
 use Rattle.orc_asm.proofs.Slots.{Limits, SlotIs, slot_is}
 
 -- ---- cells and good arrays by slots

@@ -18,23 +18,25 @@ use Rattle.x86_ins.specs.Machine.{Core, Bounded}
 use Rattle.x86_ins.specs.Spelling.{IsIns}
 use Rattle.x86_ins.specs.Way.{Each}
 use Rattle.x86_ins.proofs.Registers.{registers_after}
-use Rattle.x86_flow.specs.Moves.{IsWidth, away, load_code, store_code}
-use Rattle.x86_flow.proofs.Flow.{Line}
-use Rattle.x86_flow.proofs.Moves.{IsFill, line_append, load_line, store_line}
+use Rattle.x86_flow.specs.Moves.{IsWidth, away, load_far_code, store_either_code}
+use Rattle.x86_flow.specs.Does.{Line}
+use Rattle.x86_flow.proofs.Moves.{IsFill, line_append, load_line_at, store_either_line}
 use Rattle.x86_flow.proofs.Plans.{rule_line, with_lanes}
 use Rattle.sse_laws.specs.Meets.{Meets, widest, size_beside, is_shift, second_of, results_at}
 use Rattle.sse_acc.specs.Sums.{AddsUp, sum_below, sum_of}
 use Rattle.sse_acc.specs.Sums.{number_of as adds_number}
 use Rattle.sse_acc.proofs.Totals.{sum_below-same}
 use Rattle.orc_program.specs.Meaning.{sub_lane, pack}
-use Rattle.orc_asm.specs.Code.{Action, IsRule, Source, FromArray, FromPattern, Target, ToArray, ToSum, pointer, pattern_slot, sum_slot, source_code, sources_code, sum_code, results_code, action_code, actions_code}
+use Rattle.orc_frame.specs.Layout.{pattern_slot, sum_slot}
+use Rattle.orc_frame.specs.Parts.{InRunning}
+use Rattle.orc_asm.specs.Code.{Action, IsRule, Source, FromArray, FromPattern, Target, ToArray, ToSum, pointer, source_far_code, sources_far_code, sum_code, results_far_code, action_code, action_far_code, actions_far_code}
 use Rattle.orc_asm.proofs.Registers.{not_0}
 use Rattle.orc_asm.proofs.Digits.{digit, digit_small, byte_split, byte_within, byte_further}
 use Rattle.orc_asm.proofs.SubLanes.{lane_sub_lane, packed_bytes}
 use Rattle.orc_asm.proofs.Sized.{one_shift, shift_two}
-use Rattle.orc_asm.proofs.Cells.{Numbers, Local, given_by, given, results_add, Lanes, Others, AtElements, IsOf, IsFrom, IsBeside, AreFrom, AreTo, IsKnown, AllKnown, Separate, Low, set_local, set_results, value_of, local_act, local, adds, store_lanes, store_others}
+use Rattle.orc_asm.proofs.Cells.{Numbers, OfDests, Local, given_by, given, results_add, Lanes, Others, AtElements, IsOf, IsTo, IsFrom, IsBeside, AreFrom, AreTo, IsKnown, AllKnown, Separate, Low, set_local, set_results, value_of, local_act, local, adds, store_lanes, store_others}
 use Rattle.orc_asm.proofs.Keeping.{line_bounded, each_front, each_back}
-use Rattle.orc_asm.proofs.Frames.{IsFrame, InSums, Framed, framed_same, framed_totals, framed_grown, load_slot, store_slot, pattern_lane, same_sum, no_sum, adds_all, sum_both}
+use Rattle.orc_asm.proofs.Frames.{IsFrame, Framed, framed_same, framed_totals, framed_grown, load_slot, store_slot, pattern_lane, same_sum, no_sum, adds_all, sum_both}
 
 -- so many elements can be moved at once
 abbrev pub IsMovedFrom : ℕ → (ℕ → ℕ) → Source → Type 0
@@ -104,18 +106,18 @@ pub record Ground (n : ℕ) (base size : ℕ → ℕ) (P : ℕ → Type 0) (numb
   -- arrays lie outside the frame
   pub apart : (k : ℕ) → P k → (i : ℕ) → i < n → (r : ℕ) → r < size k → rsp ≤ base k + i * size k + r → base k + i * size k + r < rsp + 1024 → ⊥
 
-module _ (n : ℕ) (base size : ℕ → ℕ) (P : ℕ → Type 0) (numbers : Numbers) (rsp : ℕ) (ground : Ground n base size P numbers rsp) (Q : Core → Ins → Type 0) (count : ℕ) (some : 0 < count) where
+module _ (n : ℕ) (base size : ℕ → ℕ) (P : ℕ → Type 0) (numbers : Numbers) (rsp : ℕ) (ground : Ground n base size P numbers rsp) (Q : Core → Ins → Type 0) (far : ℕ → ℕ) (aligned : ℕ → Bool) (count : ℕ) (some : 0 < count) where
   separate : Separate n base size P
   separate = ground.separate
 
   low : Low n base size P
   low = ground.low
 
-  -- but for cells of these elements and for running sums memory is as at first
+  -- but for dests' cells of these elements and for running sums memory is as at first
   abbrev pub Rest : ℕ → Memory → Memory → Type 0
-  Rest i first mem = (a : ℕ) → (AtElements n base size P i count a → ⊥) → (InSums numbers rsp a → ⊥) → mem a ≡ first a
+  Rest i first mem = (a : ℕ) → (AtElements n base size (OfDests P) i count a → ⊥) → (InRunning rsp numbers.sums a → ⊥) → mem a ≡ first a
 
-  -- what lets Q be known at each step: but for RAX the general registers stand, and only cells of these elements and running sums have changed
+  -- what lets Q be known at each step: but for RAX the general registers stand, and only dests' cells of these elements and running sums have changed
   abbrev pub Keeps : ℕ → (ℕ → ℕ) → Memory → Type 0
   Keeps i gpr first = (u : Core) (ins : Ins) → ((r : ℕ) → r ≢ 0 → u.gpr r ≡ gpr r) → Rest i first u.memory → Q u ins
 
@@ -123,9 +125,9 @@ module _ (n : ℕ) (base size : ℕ → ℕ) (P : ℕ → Type 0) (numbers : Num
   abbrev Stays : Core → Type 0
   Stays c = (u : Core) (ins : Ins) → u.memory ≡ c.memory → ((r : ℕ) → r ≢ 0 → u.gpr r ≡ c.gpr r) → Q u ins
 
-  -- the pointers of the arrays that have bytes
+  -- the pointers of the arrays that have bytes, and what aligned stores ask
   abbrev pub Points : ℕ → (ℕ → ℕ) → Type 0
-  Points i gpr = (k : ℕ) → P k → 0 < size k → gpr (pointer k) ≡ base k + i * size k
+  Points i gpr = (k : ℕ) → P k → 0 < size k → (gpr (pointer k) + far k ≡ base k + i * size k) × (aligned k ≡ true → (count * size k ≡ 16) × ((base k + i * size k) % 16 ≡ 0))
 
   -- what a block leaves
   pub record After (i : ℕ) (c d : Core) (first : Memory) (sig : ℕ → Local) (totals : ℕ → ℕ) : Type 0 where
@@ -155,7 +157,7 @@ module _ (n : ℕ) (base size : ℕ → ℕ) (P : ℕ → Type 0) (numbers : Num
     lanes : AreBytes (d.xmm x) → (q : ℕ) → q < count → (p : ℕ) → p < prefix → lane w (q * prefix + p) (d.xmm x) ≡ sub_lane (8 * w) (sig q k) p
 
   load_cells : (i k w prefix x : ℕ) (c : Core) (sig : ℕ → Local) → IsOf n base size P k (w * prefix) → IsWidth (count * size k) → i + count ≤ n → Points i c.gpr → Lanes n base size P i count c.memory sig → Stays c
-      → (d : Core) × Line Q (load_code (count * size k) x (pointer k)) c d × Got k w prefix x sig c d
+      → (d : Core) × Line Q (load_far_code (count * size k) x (pointer k) (far k)) c d × Got k w prefix x sig c d
   load_cells i k w prefix x c sig o wide fits at h stays =
       let b = w * prefix in
       let p = base k + i * size k in
@@ -163,7 +165,7 @@ module _ (n : ℕ) (base size : ℕ → ℕ) (P : ℕ → Type 0) (numbers : Num
       let byte = each_byte i k b c.memory sig o h in
       let there : (j : ℕ) → j < count * size k → c.memory (p + j) ≡ Some (z j) = λ j l. let v = byte j l in v.2 ∙ ap (λ m. Some (or_else 0 m)) (sym v.2) in
       let small : (j : ℕ) → j < count * size k → z j < 256 = λ j l. let v = byte j l in subst (λ m. or_else 0 m < 256) (sym v.2) v.1 in
-      let l = load_line Q c stays (count * size k) x (pointer k) p z wide (at k o.array o.some) (near i k b o fits) there (λ two. small 0 (omega (arith, two))) in
+      let l = load_line_at Q c (count * size k) x (pointer k) (far k) p z (λ u ins m g t. stays u ins m g) wide (at k o.array o.some).0 (near i k b o fits) there (λ two. small 0 (omega (arith, two))) in
       let d = l.0 in
       let g = l.2 in
       let digits : AreBytes (d.xmm x) → (q : ℕ) → q < count → (r : ℕ) → r < size k → get_or (d.xmm x) (q * size k + r) 0 ≡ digit (sig q k) r = λ bytes q lq r lr.
@@ -195,7 +197,7 @@ module _ (n : ℕ) (base size : ℕ → ℕ) (P : ℕ → Type 0) (numbers : Num
     lanes : AreBytes (d.xmm x) → InRegister w prefix sig s (d.xmm x)
 
   load_source : (i : ℕ) (s : Source) (w prefix x : ℕ) (c : Core) (sig : ℕ → Local) (totals : ℕ → ℕ) → IsFrom n base size P numbers w prefix s → IsMovedFrom count size s → i + count ≤ n → Points i c.gpr → c.gpr 4 ≡ rsp
-      → Lanes n base size P i count c.memory sig → Framed numbers rsp c.memory totals → Stays c → (d : Core) × Line Q (source_code count size x s) c d × GotFrom s w prefix x sig c d
+      → Lanes n base size P i count c.memory sig → Framed numbers rsp c.memory totals → Stays c → (d : Core) × Line Q (source_far_code count size far x s) c d × GotFrom s w prefix x sig c d
   load_source i (FromArray k) w prefix x c sig totals o wide fits at stack h framed stays =
       let l = load_cells i k w prefix x c sig o wide fits at h stays in
       (l.0, l.1, record { memory = l.2.memory; gpr = l.2.gpr; others = l.2.others; lanes = l.2.lanes })
@@ -251,13 +253,13 @@ module _ (n : ℕ) (base size : ℕ → ℕ) (P : ℕ → Type 0) (numbers : Num
     bounded : Bounded d
     value : Values op prefix ss sig d.xmm
 
-  sources_line : (i : ℕ) (op : Op) (prefix : ℕ) (ss : List Source) (c : Core) (sig : ℕ → Local) (totals : ℕ → ℕ) → AreFrom n base size P numbers op prefix ss → Fits op prefix → Each (IsMovedFrom count size) ss → Each IsIns (sources_code count size ss) → i + count ≤ n
-      → Points i c.gpr → c.gpr 4 ≡ rsp → Lanes n base size P i count c.memory sig → Framed numbers rsp c.memory totals → Bounded c → Stays c → (d : Core) × Line Q (sources_code count size ss) c d × Read op prefix ss sig c d
+  sources_line : (i : ℕ) (op : Op) (prefix : ℕ) (ss : List Source) (c : Core) (sig : ℕ → Local) (totals : ℕ → ℕ) → AreFrom n base size P numbers op prefix ss → Fits op prefix → Each (IsMovedFrom count size) ss → Each IsIns (sources_far_code count size far ss) → i + count ≤ n
+      → Points i c.gpr → c.gpr 4 ≡ rsp → Lanes n base size P i count c.memory sig → Framed numbers rsp c.memory totals → Bounded c → Stays c → (d : Core) × Line Q (sources_far_code count size far ss) c d × Read op prefix ss sig c d
   sources_line i op prefix [] c sig totals known fits wide ins w at stack h framed bound stays = absurd known
   sources_line i op prefix (s ∷ []) c sig totals known fits wide ins w at stack h framed bound stays =
       let x = load_source i s (size_of_source op 0) prefix 0 c sig totals known.0 wide.0 w at stack h framed stays in
       let d = x.0 in
-      let b = line_bounded Q (source_code count size 0 s) c d ins x.1 bound in (
+      let b = line_bounded Q (source_far_code count size far 0 s) c d ins x.1 bound in (
         d,
         x.1,
         record {
@@ -270,11 +272,11 @@ module _ (n : ℕ) (base size : ℕ → ℕ) (P : ℕ → Type 0) (numbers : Num
         },
       )
   sources_line i op prefix (s ∷ t ∷ more) c sig totals known fits wide ins w at stack h framed bound stays =
-      let one = source_code count size 0 s in
-      let two = source_code count size 1 t in
+      let one = source_far_code count size far 0 s in
+      let two = source_far_code count size far 1 t in
       let x = load_source i s (size_of_source op 0) prefix 0 c sig totals known.0 wide.0 w at stack h framed stays in
       let b = x.0 in
-      let at' : Points i b.gpr = λ j hj s. x.2.gpr (pointer j) (not_0 j) ∙ at j hj s in
+      let at' : Points i b.gpr = λ j hj s. (ap (λ y. y + far j) (x.2.gpr (pointer j) (not_0 j)) ∙ (at j hj s).0, (at j hj s).1) in
       let h' : Lanes n base size P i count b.memory sig = λ j hj q l r lr. ap (λ f. f (base j + (i + q) * size j + r)) x.2.memory ∙ h j hj q l r lr in
       let y = load_source i t (size_of_source op 1) prefix 1 b sig totals known.1 wide.1.0 w at' (x.2.gpr 4 (λ e. omega (arith, e)) ∙ stack) h' (subst (λ m. Framed numbers rsp m totals) (sym x.2.memory) framed) (λ u i m g. stays u i (m ∙ x.2.memory) (λ r ne. g r ne ∙ x.2.gpr r ne)) in
       let d = y.0 in
@@ -299,28 +301,28 @@ module _ (n : ℕ) (base size : ℕ → ℕ) (P : ℕ → Type 0) (numbers : Num
     gpr : (r : ℕ) → r ≢ 0 → d.gpr r ≡ c.gpr r
     xmm : d.xmm ≡ c.xmm
     lanes : Lanes n base size P i count d.memory (λ q. set_local n base size P (sig q) k (v q))
-    others : Others n base size P i count c.memory d.memory
+    others : Others n base size (OfDests P) i count c.memory d.memory
 
-  store_cells : (i k w prefix x : ℕ) (g : ℕ → ℕ → ℕ) (c : Core) (sig : ℕ → Local) → IsOf n base size P k (w * prefix) → IsWidth (count * size k) → i + count ≤ n → Points i c.gpr → Lanes n base size P i count c.memory sig → Stays c
+  store_cells : (i k w prefix x : ℕ) (g : ℕ → ℕ → ℕ) (c : Core) (sig : ℕ → Local) → IsTo n base size P k (w * prefix) → IsWidth (count * size k) → i + count ≤ n → Points i c.gpr → Lanes n base size P i count c.memory sig → Stays c
       → AreBytes (c.xmm x) → ((q : ℕ) → q < count → (p : ℕ) → p < prefix → lane w (q * prefix + p) (c.xmm x) ≡ g q p)
-      → (d : Core) × Line Q (store_code (count * size k) x (pointer k)) c d × Put i k (λ q. pack (8 * w) prefix (g q)) sig c d
+      → (d : Core) × Line Q (store_either_code (aligned k) (count * size k) x (pointer k) (far k)) c d × Put i k (λ q. pack (8 * w) prefix (g q)) sig c d
   store_cells i k w prefix x g c sig o wide fits at h stays bytes lanes =
       let b = w * prefix in
       let p = base k + i * size k in
       let v : ℕ → ℕ = λ q. pack (8 * w) prefix (g q) in
       let z : ℕ → ℕ = λ j. get_or (c.xmm x) j 0 in
-      let there : (j : ℕ) → j < count * size k → IsMapped c.memory (p + j) = λ j l. ap is_some (each_byte i k b c.memory sig o h j l).2 in
-      let s = store_line Q c stays (count * size k) x (pointer k) p wide (not_0 k) (at k o.array o.some) (near i k b o fits) there bytes in
+      let there : (j : ℕ) → j < count * size k → IsMapped c.memory (p + j) = λ j l. ap is_some (each_byte i k b c.memory sig o.of h j l).2 in
+      let s = store_either_line Q c (aligned k) (count * size k) x (pointer k) (far k) p (at k o.of.array o.of.some).1 (λ u ins m g t. stays u ins m g) wide (not_0 k) (at k o.of.array o.of.some).0 (near i k b o.of fits) there bytes in
       let d = s.0 in
       let numbers : (q r : ℕ) → q < count → r < size k → z (q * size k + r) ≡ digit (v q) r = λ q r l.
-      subst (λ t. r < t → z (q * t + r) ≡ digit (v q) r) (sym o.bytes_are) (packed_bytes (c.xmm x) bytes w prefix q (g q) (lanes q l) r) in (
+      subst (λ t. r < t → z (q * t + r) ≡ digit (v q) r) (sym o.of.bytes_are) (packed_bytes (c.xmm x) bytes w prefix q (g q) (lanes q l) r) in (
         d,
         s.1,
         record {
           gpr = s.2.gpr;
           xmm = s.2.xmm;
-          lanes = store_lanes n base size P separate low i count c.memory d.memory sig k z v o.array o.some fits h s.2.memory numbers;
-          others = store_others n base size P separate low i count c.memory d.memory k z o.array s.2.memory;
+          lanes = store_lanes n base size P separate low i count c.memory d.memory sig k z v o.of.array o.of.some fits h s.2.memory numbers;
+          others = store_others n base size (OfDests P) i count c.memory d.memory k z (o.of.array, o.dest) s.2.memory;
         },
       )
 
@@ -344,19 +346,19 @@ module _ (n : ℕ) (base size : ℕ → ℕ) (P : ℕ → Type 0) (numbers : Num
   stay : (i : ℕ) (c : Core) (gpr : ℕ → ℕ) (first : Memory) → ((r : ℕ) → r ≢ 0 → c.gpr r ≡ gpr r) → Rest i first c.memory → Keeps i gpr first → Stays c
   stay i c gpr first e o keeps u ins m g = keeps u ins (λ r ne. g r ne ∙ e r ne) (λ v out sums. ap (λ f. f v) m ∙ o v out sums)
 
-  rest_more : (i : ℕ) (first c d : Memory) → Rest i first c → Others n base size P i count c d → Rest i first d
+  rest_more : (i : ℕ) (first c d : Memory) → Rest i first c → Others n base size (OfDests P) i count c d → Rest i first d
   rest_more i first c d o x a m s = x a m ∙ o a m s
 
   -- stores to cells leave the frame
-  frame_kept : (i : ℕ) (c d : Memory) (totals : ℕ → ℕ) → i + count ≤ n → Others n base size P i count c d → Framed numbers rsp c totals → Framed numbers rsp d totals
-  frame_kept i c d totals w o = framed_same numbers rsp ground.frame c d totals (λ x l u. o x (λ at. ground.apart at.0 at.1 (i + at.2) (omega (arith, at.3, w)) at.4 at.5 (subst (λ a. rsp ≤ a) at.6 l) (subst (λ a. a < rsp + 1024) at.6 u)))
+  frame_kept : (i : ℕ) (c d : Memory) (totals : ℕ → ℕ) → i + count ≤ n → Others n base size (OfDests P) i count c d → Framed numbers rsp c totals → Framed numbers rsp d totals
+  frame_kept i c d totals w o = framed_same numbers rsp ground.frame c d totals (λ x l u. o x (λ at. ground.apart at.0 at.1.0 (i + at.2) (omega (arith, at.3, w)) at.4 at.5 (subst (λ a. rsp ≤ a) at.6 l) (subst (λ a. a < rsp + 1024) at.6 u)))
 
   nothing_added : (totals : ℕ → ℕ) (mem : Memory) (g : ℕ → ℕ → ℕ) → ((q h : ℕ) → g q h ≡ 0) → Framed numbers rsp mem totals → Framed numbers rsp mem (λ h. totals h + sum_below count (λ q. g q h))
   nothing_added totals mem g none = framed_totals numbers rsp mem totals (λ h. totals h + sum_below count (λ q. g q h)) (λ h. let e = sum_below-same count (λ q. g q h) (λ q. 0) (λ q l. none q h) ∙ no_sum count in omega (arith, e))
 
-  arrays_line : (i : ℕ) (op : Op) (prefix : ℕ) (g : ℕ → ℕ → ℕ × ℕ) (k : ℕ) (c : Core) (first : Memory) (sig : ℕ → Local) (totals : ℕ → ℕ) → IsOf n base size P k (size_of_result op 0 * prefix) → IsWidth (count * size k) → i + count ≤ n
+  arrays_line : (i : ℕ) (op : Op) (prefix : ℕ) (g : ℕ → ℕ → ℕ × ℕ) (k : ℕ) (c : Core) (first : Memory) (sig : ℕ → Local) (totals : ℕ → ℕ) → IsTo n base size P k (size_of_result op 0 * prefix) → IsWidth (count * size k) → i + count ≤ n
       → Points i c.gpr → Lanes n base size P i count c.memory sig → Framed numbers rsp c.memory totals → Holds op prefix g c.xmm → Rest i first c.memory → Keeps i c.gpr first
-      → (d : Core) × Line Q (store_code (count * size k) 0 (pointer k)) c d × Wrote i (ToArray k ∷ []) (λ q. packed op prefix (g q)) sig totals first c d
+      → (d : Core) × Line Q (store_either_code (aligned k) (count * size k) 0 (pointer k) (far k)) c d × Wrote i (ToArray k ∷ []) (λ q. packed op prefix (g q)) sig totals first c d
   arrays_line i op prefix g k c first sig totals known wide w at h framed holds o keeps =
       let x = store_cells i k (size_of_result op 0) prefix 0 (λ q p. (g q p).0) c sig known wide w at h (stay i c c.gpr first (λ r ne. refl) o keeps) (holds.bytes 0) holds.first in (
         x.0,
@@ -369,18 +371,18 @@ module _ (n : ℕ) (base size : ℕ → ℕ) (P : ℕ → Type 0) (numbers : Num
         },
       )
 
-  two_arrays_line : (i : ℕ) (op : Op) (prefix : ℕ) (g : ℕ → ℕ → ℕ × ℕ) (k m : ℕ) (c : Core) (first : Memory) (sig : ℕ → Local) (totals : ℕ → ℕ) → IsOf n base size P k (size_of_result op 0 * prefix) → IsOf n base size P m (size_of_result op 1 * prefix)
+  two_arrays_line : (i : ℕ) (op : Op) (prefix : ℕ) (g : ℕ → ℕ → ℕ × ℕ) (k m : ℕ) (c : Core) (first : Memory) (sig : ℕ → Local) (totals : ℕ → ℕ) → IsTo n base size P k (size_of_result op 0 * prefix) → IsTo n base size P m (size_of_result op 1 * prefix)
       → IsWidth (count * size k) → IsWidth (count * size m) → i + count ≤ n
       → Points i c.gpr → Lanes n base size P i count c.memory sig → Framed numbers rsp c.memory totals → Holds op prefix g c.xmm → Rest i first c.memory → Keeps i c.gpr first
-      → (d : Core) × Line Q (store_code (count * size k) 0 (pointer k) ++ store_code (count * size m) 1 (pointer m)) c d × Wrote i (ToArray k ∷ ToArray m ∷ []) (λ q. packed op prefix (g q)) sig totals first c d
+      → (d : Core) × Line Q (store_either_code (aligned k) (count * size k) 0 (pointer k) (far k) ++ store_either_code (aligned m) (count * size m) 1 (pointer m) (far m)) c d × Wrote i (ToArray k ∷ ToArray m ∷ []) (λ q. packed op prefix (g q)) sig totals first c d
   two_arrays_line i op prefix g k m c first sig totals known known' wide wide' w at h framed holds o keeps =
-      let one = store_code (count * size k) 0 (pointer k) in
-      let two = store_code (count * size m) 1 (pointer m) in
+      let one = store_either_code (aligned k) (count * size k) 0 (pointer k) (far k) in
+      let two = store_either_code (aligned m) (count * size m) 1 (pointer m) (far m) in
       let x = store_cells i k (size_of_result op 0) prefix 0 (λ q p. (g q p).0) c sig known wide w at h (stay i c c.gpr first (λ r ne. refl) o keeps) (holds.bytes 0) holds.first in
       let b = x.0 in
       let ob = rest_more i first c.memory b.memory o x.2.others in
       let same : b.xmm 1 ≡ c.xmm 1 = ap (λ f. f 1) x.2.xmm in
-      let y = store_cells i m (size_of_result op 1) prefix 1 (λ q p. (g q p).1) b (λ q. set_local n base size P (sig q) k (packed op prefix (g q)).0) known' wide' w (λ j hj s. x.2.gpr (pointer j) (not_0 j) ∙ at j hj s) x.2.lanes (stay i b c.gpr first x.2.gpr ob keeps)
+      let y = store_cells i m (size_of_result op 1) prefix 1 (λ q p. (g q p).1) b (λ q. set_local n base size P (sig q) k (packed op prefix (g q)).0) known' wide' w (λ j hj s. (ap (λ y. y + far j) (x.2.gpr (pointer j) (not_0 j)) ∙ (at j hj s).0, (at j hj s).1)) x.2.lanes (stay i b c.gpr first x.2.gpr ob keeps)
       (subst AreBytes (sym same) (holds.bytes 1)) (λ q l p lp. ap (lane (size_of_result op 1) (q * prefix + p)) same ∙ holds.second q l p lp) in
       let d = y.0 in (
         d,
@@ -485,18 +487,18 @@ module _ (n : ℕ) (base size : ℕ → ℕ) (P : ℕ → Type 0) (numbers : Num
 
   finish_line : (i : ℕ) (op : Op) (prefix : ℕ) (ss : List Source) (rule : List Ins) (ts : List Target) (c : Core) (first : Memory) (sig : ℕ → Local) (totals : ℕ → ℕ) → AreTo n base size P numbers op prefix ts → IsRule count op rule → Each (IsMovedTo count size) ts → Fits op prefix
       → Each IsIns (sum_code ts) → i + count ≤ n → Points i c.gpr → c.gpr 4 ≡ rsp → Lanes n base size P i count c.memory sig → Framed numbers rsp c.memory totals → Values op prefix ss sig c.xmm → Bounded c → Rest i first c.memory → Keeps i c.gpr first
-      → (d : Core) × Line Q (sum_code ts ++ (rule ++ results_code count size ts)) c d × Wrote i ts (λ q. packed op prefix (made op (sig q) ss)) sig totals first c d
+      → (d : Core) × Line Q (sum_code ts ++ (rule ++ results_far_code count size far aligned ts)) c d × Wrote i ts (λ q. packed op prefix (made op (sig q) ss)) sig totals first c d
   finish_line i op prefix ss rule [] c first sig totals known is wide fits ins w at stack h framed value bound o keeps = absurd known
   finish_line i op prefix ss rule (ToArray k ∷ []) c first sig totals known is wide fits ins w at stack h framed value bound o keeps =
       let x = computed_line op prefix ss rule c sig (is.meets known.1) fits value bound (stay i c c.gpr first (λ r ne. refl) o keeps) in
       let u : Core = with_lanes c (after rule c.xmm) in
       let s = arrays_line i op prefix (λ q. made op (sig q) ss) k u first sig totals known.0 wide.0 w at h framed x.1 o keeps in
-      (s.0, line_append Q rule (store_code (count * size k) 0 (pointer k)) c u s.0 x.0 s.1, record { gpr = s.2.gpr; lanes = s.2.lanes; framed = s.2.framed; others = s.2.others })
+      (s.0, line_append Q rule (store_either_code (aligned k) (count * size k) 0 (pointer k) (far k)) c u s.0 x.0 s.1, record { gpr = s.2.gpr; lanes = s.2.lanes; framed = s.2.framed; others = s.2.others })
   finish_line i op prefix ss rule (ToArray k ∷ ToArray m ∷ more) c first sig totals known is wide fits ins w at stack h framed value bound o keeps =
       let x = computed_line op prefix ss rule c sig (is.meets known.1) fits value bound (stay i c c.gpr first (λ r ne. refl) o keeps) in
       let u : Core = with_lanes c (after rule c.xmm) in
       let s = two_arrays_line i op prefix (λ q. made op (sig q) ss) k m u first sig totals known.0 known.2 wide.0 wide.1.0 w at h framed x.1 o keeps in
-      (s.0, line_append Q rule (store_code (count * size k) 0 (pointer k) ++ store_code (count * size m) 1 (pointer m)) c u s.0 x.0 s.1, record { gpr = s.2.gpr; lanes = s.2.lanes; framed = s.2.framed; others = s.2.others })
+      (s.0, line_append Q rule (store_either_code (aligned k) (count * size k) 0 (pointer k) (far k) ++ store_either_code (aligned m) (count * size m) 1 (pointer m) (far m)) c u s.0 x.0 s.1, record { gpr = s.2.gpr; lanes = s.2.lanes; framed = s.2.framed; others = s.2.others })
   finish_line i op prefix ss rule (ToArray k ∷ ToSum g ∷ more) c first sig totals known is wide fits ins w at stack h framed value bound o keeps = absurd known
   finish_line i op prefix ss rule (ToSum g ∷ []) c first sig totals known is wide fits ins w at stack h framed value bound o keeps =
       sum_line i op prefix ss rule g c first sig totals known.0 known.2 known.3 (is.adds known.1) w stack h framed value bound ins o keeps
@@ -509,22 +511,22 @@ module _ (n : ℕ) (base size : ℕ → ℕ) (P : ℕ → Type 0) (numbers : Num
   abbrev GrownBy : Action → (ℕ → Local) → (ℕ → ℕ) → ℕ → ℕ
   GrownBy a sig totals g = totals g + sum_below count (λ q. results_add a.to (value_of n base size P numbers a (sig q)) g)
 
-  action_line : (i : ℕ) (a : Action) (c : Core) (first : Memory) (sig : ℕ → Local) (totals : ℕ → ℕ) → IsKnown n base size P numbers a → IsFit count size a → i + count ≤ n → Points i c.gpr → c.gpr 4 ≡ rsp → Lanes n base size P i count c.memory sig → Framed numbers rsp c.memory totals
-      → Bounded c → Rest i first c.memory → Keeps i c.gpr first → (d : Core) × Line Q (action_code count size a) c d × After i c d first (λ q. local_act n base size P numbers a (sig q)) (GrownBy a sig totals)
-  action_line i a c first sig totals known fit w at stack h framed bound o keeps =
-      let loads = sources_code count size a.sources in
-      let rest = sum_code a.to ++ (a.rule ++ results_code count size a.to) in
+  action_line : (i : ℕ) (a : Action) (c : Core) (first : Memory) (sig : ℕ → Local) (totals : ℕ → ℕ) → IsKnown n base size P numbers a → IsFit count size a → Each IsIns (action_far_code count size far aligned a) → i + count ≤ n → Points i c.gpr → c.gpr 4 ≡ rsp → Lanes n base size P i count c.memory sig → Framed numbers rsp c.memory totals
+      → Bounded c → Rest i first c.memory → Keeps i c.gpr first → (d : Core) × Line Q (action_far_code count size far aligned a) c d × After i c d first (λ q. local_act n base size P numbers a (sig q)) (GrownBy a sig totals)
+  action_line i a c first sig totals known fit ins_a w at stack h framed bound o keeps =
+      let loads = sources_far_code count size far a.sources in
+      let rest = sum_code a.to ++ (a.rule ++ results_far_code count size far aligned a.to) in
       let stays = stay i c c.gpr first (λ r ne. refl) o keeps in
       let fits : Fits a.op a.prefix = λ q l p lp. lane_fits (q * a.prefix + p) (count * a.prefix) (widest a.op) (byte_within q count a.prefix p l lp) fit.lanes in
-      let x = sources_line i a.op a.prefix a.sources c sig totals known.sources fits fit.sources (each_front IsIns loads rest fit.known) w at stack h framed bound stays in
+      let x = sources_line i a.op a.prefix a.sources c sig totals known.sources fits fit.sources (each_front IsIns loads rest ins_a) w at stack h framed bound stays in
       let e = x.0 in
       let g = x.2 in
       let s = finish_line i a.op a.prefix a.sources a.rule a.to e first sig totals known.to fit.rule fit.to fits
-      (each_front IsIns (sum_code a.to) (a.rule ++ results_code count size a.to) (each_back IsIns loads rest fit.known)) w (λ k hk t. g.gpr (pointer k) (not_0 k) ∙ at k hk t) (g.gpr 4 (λ z. omega (arith, z)) ∙ stack)
+      (each_front IsIns (sum_code a.to) (a.rule ++ results_far_code count size far aligned a.to) (each_back IsIns loads rest ins_a)) w (λ k hk t. (ap (λ y. y + far k) (g.gpr (pointer k) (not_0 k)) ∙ (at k hk t).0, (at k hk t).1)) (g.gpr 4 (λ z. omega (arith, z)) ∙ stack)
       (λ k hk q l r lr. ap (λ f. f (base k + (i + q) * size k + r)) g.memory ∙ h k hk q l r lr) (subst (λ m. Framed numbers rsp m totals) (sym g.memory) framed) g.value g.bounded
       (λ v out sums. ap (λ f. f v) g.memory ∙ o v out sums) (λ t ins gs m. keeps t ins (λ r ne. gs r ne ∙ g.gpr r ne) m) in
       let d = s.0 in
-      let line : Line Q (action_code count size a) c d = line_append Q loads rest c e d x.1 s.1 in (
+      let line : Line Q (action_far_code count size far aligned a) c d = line_append Q loads rest c e d x.1 s.1 in (
         d,
         line,
         record {
@@ -532,7 +534,7 @@ module _ (n : ℕ) (base size : ℕ → ℕ) (P : ℕ → Type 0) (numbers : Num
           lanes = s.2.lanes;
           framed = s.2.framed;
           others = s.2.others;
-          bounded = line_bounded Q (action_code count size a) c d fit.known line bound;
+          bounded = line_bounded Q (action_far_code count size far aligned a) c d ins_a line bound;
         },
       )
 
@@ -546,15 +548,15 @@ module _ (n : ℕ) (base size : ℕ → ℕ) (P : ℕ → Type 0) (numbers : Num
   no_growth totals g = let e = no_sum count in omega (arith, e)
 
   -- a whole block
-  pub actions_line : (i : ℕ) (actions : List Action) (c : Core) (first : Memory) (sig : ℕ → Local) (totals : ℕ → ℕ) → AllKnown n base size P numbers actions → Each (IsFit count size) actions → i + count ≤ n → Points i c.gpr → c.gpr 4 ≡ rsp → Lanes n base size P i count c.memory sig
-      → Framed numbers rsp c.memory totals → Bounded c → Rest i first c.memory → Keeps i c.gpr first → (d : Core) × Line Q (actions_code count size actions) c d × After i c d first (λ q. local n base size P numbers actions (sig q)) (Grown actions sig totals)
-  actions_line i [] c first sig totals known fit w at stack h framed bound o keeps = (c, refl, record { gpr = λ r ne. refl; lanes = h; framed = framed_totals numbers rsp c.memory totals (λ g. totals g + sum_below count (λ q. 0)) (no_growth totals) framed; others = o; bounded = bound })
-  actions_line i (a ∷ rest) c first sig totals known fit w at stack h framed bound o keeps =
-      let x = action_line i a c first sig totals known.0 fit.0 w at stack h framed bound o keeps in
-      let y = actions_line i rest x.0 first (λ q. local_act n base size P numbers a (sig q)) (GrownBy a sig totals) known.1 fit.1 w (λ k hk s. x.2.gpr (pointer k) (not_0 k) ∙ at k hk s) (x.2.gpr 4 (λ z. omega (arith, z)) ∙ stack) x.2.lanes x.2.framed x.2.bounded x.2.others
+  pub actions_line : (i : ℕ) (actions : List Action) (c : Core) (first : Memory) (sig : ℕ → Local) (totals : ℕ → ℕ) → AllKnown n base size P numbers actions → Each (IsFit count size) actions → Each (λ a. Each IsIns (action_far_code count size far aligned a)) actions → i + count ≤ n → Points i c.gpr → c.gpr 4 ≡ rsp → Lanes n base size P i count c.memory sig
+      → Framed numbers rsp c.memory totals → Bounded c → Rest i first c.memory → Keeps i c.gpr first → (d : Core) × Line Q (actions_far_code count size far aligned actions) c d × After i c d first (λ q. local n base size P numbers actions (sig q)) (Grown actions sig totals)
+  actions_line i [] c first sig totals known fit ins_all w at stack h framed bound o keeps = (c, refl, record { gpr = λ r ne. refl; lanes = h; framed = framed_totals numbers rsp c.memory totals (λ g. totals g + sum_below count (λ q. 0)) (no_growth totals) framed; others = o; bounded = bound })
+  actions_line i (a ∷ rest) c first sig totals known fit ins_all w at stack h framed bound o keeps =
+      let x = action_line i a c first sig totals known.0 fit.0 ins_all.0 w at stack h framed bound o keeps in
+      let y = actions_line i rest x.0 first (λ q. local_act n base size P numbers a (sig q)) (GrownBy a sig totals) known.1 fit.1 ins_all.1 w (λ k hk s. (ap (λ y. y + far k) (x.2.gpr (pointer k) (not_0 k)) ∙ (at k hk s).0, (at k hk s).1)) (x.2.gpr 4 (λ z. omega (arith, z)) ∙ stack) x.2.lanes x.2.framed x.2.bounded x.2.others
       (λ u ins g. keeps u ins (λ r ne. g r ne ∙ x.2.gpr r ne)) in (
         y.0,
-        line_append Q (action_code count size a) (actions_code count size rest) c x.0 y.0 x.1 y.1,
+        line_append Q (action_far_code count size far aligned a) (actions_far_code count size far aligned rest) c x.0 y.0 x.1 y.1,
         record {
           gpr = λ r ne. y.2.gpr r ne ∙ x.2.gpr r ne;
           lanes = y.2.lanes;

@@ -53,6 +53,10 @@ results_add [] v g = 0
 results_add (t ∷ []) v g = adds_to t v.0 g
 results_add (t ∷ u ∷ more) v g = adds_to t v.0 g + adds_to u v.1 g
 
+-- of arrays' slots those of dests: they are the first four
+abbrev pub OfDests : (ℕ → Type 0) → ℕ → Type 0
+OfDests P k = P k × (k < 4)
+
 -- n elements of arrays: their slots are those with P, `base` are their first addresses, and `size` the bytes of their elements
 module _ (n : ℕ) (base size : ℕ → ℕ) (P : ℕ → Type 0) where
   -- the address of byte r of element i
@@ -84,11 +88,23 @@ module _ (n : ℕ) (base size : ℕ → ℕ) (P : ℕ → Type 0) where
   abbrev pub Others : ℕ → ℕ → Memory → Memory → Type 0
   Others i c mem end = (a : ℕ) → (AtElements i c a → ⊥) → end a ≡ mem a
 
+  pub others_more : (i c : ℕ) (m u e : Memory) → Others i c m u → Others i c u e → Others i c m e
+  others_more i c m u e a b x k = b x k ∙ a x k
+
+  -- a store to cells leaves the others
+  pub store_others : (i c : ℕ) (mem end : Memory) (d : ℕ) (z : ℕ → ℕ) → P d → IsFill (c * size d) mem (base d + i * size d) z end → Others i c mem end
+  store_others i c mem end d z hd f a m = f.outside a (λ j l e. let x = byte_split (size d) c j l in m (d, hd, x.0, x.2, x.1, x.3, e ∙ ap (λ t. base d + i * size d + t) x.4 ∙ sym (byte_further (base d) i x.0 (size d) x.1)))
+
   -- an array whose elements have so many bytes
   pub record IsOf (k bytes : ℕ) : Type 0 where
     pub array : P k
     pub bytes_are : size k ≡ bytes
     pub some : 0 < size k
+
+  -- one that is written
+  pub record IsTo (k bytes : ℕ) : Type 0 where
+    pub of : IsOf k bytes
+    pub dest : k < 4
 
   module _ (numbers : Numbers) where
     abbrev pub value_of : Action → Local → ℕ × ℕ
@@ -122,11 +138,11 @@ module _ (n : ℕ) (base size : ℕ → ℕ) (P : ℕ → Type 0) where
     AreFrom op prefix (s ∷ []) = IsFrom (size_of_source op 0) prefix s × (size_of_source op 1 ≡ 0)
     AreFrom op prefix (s ∷ t ∷ more) = IsFrom (size_of_source op 0) prefix s × IsFrom (size_of_source op 1) prefix t × IsBeside op t
 
-    -- one or two arrays, or one running sum
+    -- one or two dests, or one running sum
     abbrev pub AreTo : Op → ℕ → List Target → Type 0
     AreTo op prefix [] = ⊥
-    AreTo op prefix (ToArray k ∷ []) = IsOf k (size_of_result op 0 * prefix) × (is_sum (row op).kind ≡ false)
-    AreTo op prefix (ToArray k ∷ ToArray m ∷ more) = IsOf k (size_of_result op 0 * prefix) × (is_sum (row op).kind ≡ false) × IsOf m (size_of_result op 1 * prefix)
+    AreTo op prefix (ToArray k ∷ []) = IsTo k (size_of_result op 0 * prefix) × (is_sum (row op).kind ≡ false)
+    AreTo op prefix (ToArray k ∷ ToArray m ∷ more) = IsTo k (size_of_result op 0 * prefix) × (is_sum (row op).kind ≡ false) × IsTo m (size_of_result op 1 * prefix)
     AreTo op prefix (ToArray k ∷ ToSum g ∷ more) = ⊥
     AreTo op prefix (ToSum g ∷ []) = (g < numbers.sums) × (is_sum (row op).kind ≡ true) × (numbers.width g ≡ size_of_result op 0) × (prefix ≡ 1)
     AreTo op prefix (ToSum g ∷ t ∷ more) = ⊥
@@ -185,12 +201,6 @@ module _ (n : ℕ) (base size : ℕ → ℕ) (P : ℕ → Type 0) where
             f.outside (place k (i + q) r) (λ j lj e. let x = byte_split (size d) c j lj in a (i + q) (i + x.0) r x.1 lq (omega (arith, x.2, w)) lr x.3 (e ∙ ap (λ t. base d + i * size d + t) x.4 ∙ sym (byte_further (base d) i x.0 (size d) x.1)))
             ∙ h k hk q l r lr
             ∙ ap (λ b. Some (digit (if b then v q else sig q k) r)) (sym (eq_false (base k) (base d) (λ e. a 0 0 0 0 (omega (arith, lq)) (omega (arith, lq)) (omega (arith, lr)) some (omega (arith, e)))))
-
-    pub store_others : (i c : ℕ) (mem end : Memory) (d : ℕ) (z : ℕ → ℕ) → P d → IsFill (c * size d) mem (base d + i * size d) z end → Others i c mem end
-    store_others i c mem end d z hd f a m = f.outside a (λ j l e. let x = byte_split (size d) c j l in m (d, hd, x.0, x.2, x.1, x.3, e ∙ ap (λ t. base d + i * size d + t) x.4 ∙ sym (byte_further (base d) i x.0 (size d) x.1)))
-
-    pub others_more : (i c : ℕ) (m u e : Memory) → Others i c m u → Others i c u e → Others i c m e
-    others_more i c m u e a b x k = b x k ∙ a x k
 
     -- whether an address is a byte of one of these elements
     at_or_not : Decided → (i c a p : ℕ) → At i c a p ⊎ NotAt i c a p

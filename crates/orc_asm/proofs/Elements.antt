@@ -151,7 +151,7 @@ module _ (f : FunctionValue) (call : Call) (r : ℕ) (base size : ℕ → ℕ) (
       let filled : IsFill (1 * size k) mem (base k + e * size k) (digit v) end =
       subst (λ a. IsFill (1 * size k) mem a (digit v) end) (cell_is d b is e le) (subst (λ s. IsFill s mem (cell f call d r e) (digit v) end) (let q : b ≡ 1 * size k = omega (arith, o.bytes_are) in q) f') in (
         store_lanes call.n base size P separate low e 1 mem end (λ q. l) k (digit v) (λ q. v) o.array o.some (omega (arith, le)) h filled (λ q r lq lr. ap (digit v) (let w : q * size k + r ≡ r = ap (λ x. x * size k + r) (let z : q ≡ 0 = omega (arith, lq) in z) ∙ (let z : 0 * size k + r ≡ r = omega arith in z) in w)),
-        store_others call.n base size P separate low e 1 mem end k (digit v) o.array filled,
+        store_others call.n base size P e 1 mem end k (digit v) o.array filled,
       )
 
   -- ---- results
@@ -209,7 +209,7 @@ module _ (f : FunctionValue) (call : Call) (r : ℕ) (base size : ℕ → ℕ) (
         sums = two.sums;
         is = ap (λ o. go_on o (λ s. write_result f call r e v.1 s y)) one.is ∙ two.is;
         lanes = two.lanes;
-        others = others_more call.n base size P separate low e 1 mem one.end two.end one.others two.others;
+        others = others_more call.n base size P e 1 mem one.end two.end one.others two.others;
         agrees = agrees_same f two.sums (λ g. totals g + adds_to t v.0 g + adds_to u v.1 g) (λ g. totals g + (adds_to t v.0 g + adds_to u v.1 g)) (λ g. omega arith) two.agrees;
       }
   write_all e op prefix (x ∷ y ∷ []) (t ∷ u ∷ w ∷ more) v mem sums totals l is le h a = absurd is
@@ -286,7 +286,7 @@ module _ (f : FunctionValue) (call : Call) (r : ℕ) (base size : ℕ → ℕ) (
         sums = y.sums;
         is = ap (λ o. go_on o (element f call r e insns)) x.is ∙ y.is;
         lanes = y.lanes;
-        others = others_more call.n base size P separate low e 1 mem x.end y.end x.others y.others;
+        others = others_more call.n base size P e 1 mem x.end y.end x.others y.others;
         agrees = agrees_same f y.sums (λ g. totals g + one g + Adds rest (Act a l) g) (λ g. totals g + (one g + Adds rest (Act a l) g)) (λ g. omega arith) y.agrees;
       }
 

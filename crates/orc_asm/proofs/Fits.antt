@@ -13,7 +13,7 @@ use Rattle.orc_program.proofs.Apart.{IsSize}
 use Rattle.orc_program.proofs.Sizes.{both, kept_of, size_kept}
 use Rattle.x86_ins.specs.Way.{Each}
 use Rattle.x86_flow.specs.Moves.{IsWidth}
-use Rattle.orc_asm.specs.Subject.{Call}
+use Rattle.orc_frame.specs.Subject.{Call}
 use Rattle.orc_asm.specs.Code.{Action, Source, FromArray, FromPattern, Target, ToArray, ToSum, AreActions, patterns_in, plan_with}
 use Rattle.orc_asm.proofs.Emulated.{IsCells}
 use Rattle.orc_asm.proofs.Slots.{Limits, limits, SlotIs, slot_is}

@@ -15,7 +15,8 @@ use Rattle.x86_flow.specs.Moves.{away}
 use Rattle.x86_flow.proofs.Moves.{IsFill, fill_is}
 use Rattle.sse_acc.specs.Sums.{sum_below, sum_of}
 use Rattle.sse_acc.proofs.Totals.{sum_below-zero, sum_below-suc, sum_below-same}
-use Rattle.orc_asm.specs.Code.{ToSum, pattern_slot, sum_slot}
+use Rattle.orc_frame.specs.Layout.{pattern_slot, sum_slot}
+use Rattle.orc_asm.specs.Code.{ToSum}
 use Rattle.orc_asm.proofs.Digits.{digit, byte_within}
 use Rattle.orc_asm.proofs.Cells.{Numbers, adds_to, eq_yes}
 
@@ -108,10 +109,6 @@ module _ (numbers : Numbers) (rsp : ℕ) where
     pub few_sums : numbers.sums ≤ 4
     pub low : rsp + 1024 ≤ 2 ^ 47
 
-  -- the bytes of running sums
-  abbrev pub InSums : ℕ → Type 0
-  InSums a = (rsp + 768 ≤ a) × (a < rsp + 768 + 16 * numbers.sums)
-
   -- the patterns' slots hold their bytes, and the lanes of each running sum add up to its total, modulo what the sum's bytes hold
   pub record Framed (mem : Memory) (totals : ℕ → ℕ) : Type 0 where
     pub patterns : (j : ℕ) → j < numbers.patterns → (b : ℕ) → b < 16 → mem (rsp + pattern_slot j + b) ≡ Some (digit (numbers.number j) (b % numbers.period j))
@@ -119,6 +116,16 @@ module _ (numbers : Numbers) (rsp : ℕ) where
     pub bytes : (g : ℕ) → AreBytes (running g)
     pub sums : (g : ℕ) → g < numbers.sums → (b : ℕ) → b < 16 → mem (rsp + sum_slot g + b) ≡ Some (get_or (running g) b 0)
     pub totals_are : (g : ℕ) → g < numbers.sums → cut (8 * numbers.width g) (sum_of (numbers.width g) (running g)) ≡ cut (8 * numbers.width g) (totals g)
+
+  -- the patterns and sums stay where their bytes do
+  pub framed_below : IsFrame → (mem end : Memory) (totals : ℕ → ℕ) → ((x : ℕ) → rsp ≤ x → x < rsp + 832 → end x ≡ mem x) → Framed mem totals → Framed end totals
+  framed_below is mem end totals same h = record {
+    patterns = λ j l b lb. same (rsp + pattern_slot j + b) (omega arith) (omega (arith, l, lb, is.few_patterns)) ∙ h.patterns j l b lb;
+    running = h.running;
+    bytes = h.bytes;
+    sums = λ g l b lb. same (rsp + sum_slot g + b) (omega arith) (omega (arith, l, lb, is.few_sums)) ∙ h.sums g l b lb;
+    totals_are = h.totals_are;
+  }
 
   pub framed_same : IsFrame → (mem end : Memory) (totals : ℕ → ℕ) → ((x : ℕ) → rsp ≤ x → x < rsp + 1024 → end x ≡ mem x) → Framed mem totals → Framed end totals
   framed_same is mem end totals same h = record {

@@ -5,15 +5,16 @@ use Rattle.orc_bits.specs.Lanes.{from_bytes}
 use Rattle.orc_bits.proofs.LaneLaws.{AreBytes-from_bytes, length-from_bytes}
 use Rattle.orc_bits.specs.Memory.{Memory, IsMapped, word}
 use Rattle.x86_ins.specs.Machine.{Core, Point}
-use Rattle.orc_asm.specs.Subject.{Call, Subject, IsArray, InArray}
+use Rattle.orc_frame.specs.Parts.{base_word, stride_word}
+use Rattle.orc_frame.specs.Subject.{Call, Subject, IsArray, InArray}
 use Rattle.orc_ops.specs.declared.opcode.Op.TheVariants.{Addb}
 use Rattle.orc_program.specs.declared.program.VarKind.TheVariants as kind
 use Rattle.orc_program.specs.declared.program.Operand.TheVariants as operand
 use Rattle.orc_program.specs.Program.{FunctionValue}
-use Rattle.orc_asm.specs.RunsAs.{GoodCall}
+use Rattle.orc_frame.specs.GoodCall.{GoodCall}
 use Rattle.orc_asm.proofs.Slots.{Limits}
 use Rattle.orc_asm.proofs.Agree.{InCells, good_by_variables, cells_by_slots, cells_by_variables}
-use Rattle.orc_asm.specs.Function.{subject_of}
+use Rattle.orc_frame.specs.Function.{subject_of}
 
 abbrev pub inside : ℕ → ℕ → ℕ → Bool
 inside low high a = if nat_lt a low then false else nat_lt a high
@@ -98,8 +99,8 @@ there_is bytes short = record {
   reads = record {
     n = refl;
     m = refl;
-    bases = λ k h. ap (λ x. word memory (4096 + 16 + 16 * x)) (only k h) ∙ refl;
-    strides = λ k h. ap (λ x. word memory (4096 + 24 + 16 * x)) (only k h) ∙ refl;
+    bases = λ k h. ap (λ x. word memory (4096 + base_word x)) (only k h) ∙ refl;
+    strides = λ k h. ap (λ x. word memory (4096 + stride_word x)) (only k h) ∙ refl;
     params = λ j h. absurd (omega (arith, h));
   };
   returns = refl;
@@ -116,7 +117,7 @@ there_is bytes short = record {
   frame = λ a w. mapped a (inr (inr (omega (arith, w.0, w.1), omega (arith, w.0, w.1))));
   no_more = λ a m. ⊎_elim
       (λ e. inl (the_cell a e))
-      (λ r. ⊎_elim (λ b. inr (inl (omega (arith, b.0), omega (arith, b.1)))) (λ b. ⊎_elim (λ l. inr (inr (inr (l, omega (arith, b.0))))) (λ g. inr (inr (inl (g, omega (arith, b.1))))) (cases_lt a 1048576)) r)
+      (λ r. ⊎_elim (λ b. inr (inl (omega (arith, b.0), omega (arith, b.1)))) (λ b. ⊎_elim (λ l. inr (inr (inr (omega (arith, b.0), omega (arith, l))))) (λ g. inr (inr (inl (g, omega (arith, b.1))))) (cases_lt a 1048576)) r)
       (known a m);
   disjoint = record {
     cells = λ a w. (λ x. omega (arith, in_cell a w, x.1), λ x. omega (arith, in_cell a w, x.0), λ x. omega (arith, in_cell a w, x.1), λ x. omega (arith, in_cell a w, x.0));

@@ -5,7 +5,7 @@ use Rattle.x86_ins.specs.Machine.{Core, Bounded}
 use Rattle.x86_ins.specs.Spelling.{IsIns}
 use Rattle.x86_ins.specs.Way.{Each}
 use Rattle.x86_ins.proofs.Bounds.{work_bounded}
-use Rattle.x86_flow.proofs.Flow.{Line}
+use Rattle.x86_flow.specs.Does.{Line}
 use Rattle.x86_flow.proofs.Spelled.{IsFine}
 
 pub line_bounded : (Q : Core → Ins → Type 0) (is : List Ins) (c d : Core) → Each IsIns is → Line Q is c d → Bounded c → Bounded d

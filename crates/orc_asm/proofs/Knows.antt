@@ -1,5 +1,5 @@
 -- Actions of a function without temps: what emulation, the turn and its code need of them.
-use Rattle.std.proofs.Common.{◌≡◌, ℕ, zero, suc, ◌*◌, ◌<◌, ◌≤◌, true, true≢false, List, [], ◌∷◌, length, slice_index, get_or, refl, sym, ap, ◌∙◌, subst, arith}
+use Rattle.std.proofs.Common.{◌≡◌, ℕ, zero, suc, ◌*◌, ◌<◌, ◌≤◌, true, true≢false, if◌then◌else◌, ◌+◌, List, [], ◌∷◌, length, slice_index, get_or, refl, sym, ap, ◌∙◌, subst, arith}
 use Rattle.std.specs.List.{sum_by}
 use Rattle.std.proofs.lemmas.List.Sums.{sum_by-cons}
 use Rattle.orc_ops.specs.declared.opcode.Op.{Op}
@@ -19,7 +19,7 @@ use Rattle.x86_ins.specs.Way.{Each}
 use Rattle.sse_laws.specs.Meets.{widest}
 use Rattle.orc_frame.specs.Frame.{period}
 use Rattle.orc_asm.specs.Code.{Action, Source, FromArray, FromPattern, Target, ToArray, ToSum, IsAction, AreActions, IsLoaded, IsStored, IsReady, patterns_in, source_at, target_at, sources_of, targets_of, action_code}
-use Rattle.orc_asm.proofs.Cells.{Numbers, IsOf, IsFrom, IsBeside, AreFrom, AreTo, IsKnown, AllKnown}
+use Rattle.orc_asm.proofs.Cells.{Numbers, IsOf, IsTo, IsFrom, IsBeside, AreFrom, AreTo, IsKnown, AllKnown}
 use Rattle.orc_asm.proofs.Emulated.{IsCells, IsSum, meant}
 use Rattle.orc_asm.proofs.Elements.{IsRead, AreRead, IsWritten, AreWritten, IsMeant, AreMeant}
 use Rattle.orc_asm.proofs.Places.{place_again, before_less}
@@ -100,7 +100,7 @@ module _ (f : FunctionValue) where
 
 -- ---- what a turn needs
 
-module _ (f : FunctionValue) (call : Call) (n : ℕ) (base : ℕ → ℕ) (P : ℕ → Type 0) (has : (p b : ℕ) → IsCells f p b → IsOf n base (size_of_slot f.vars) P (slot_of f.vars p) b) where
+module _ (f : FunctionValue) (call : Call) (n : ℕ) (base : ℕ → ℕ) (P : ℕ → Type 0) (has : (p b : ℕ) → IsCells f p b → IsOf n base (size_of_slot f.vars) P (slot_of f.vars p) b) (few : count_of kind.Dest f.vars ≤ 4) where
   abbrev Of : Numbers
   Of = numbers_of f call
 
@@ -123,8 +123,17 @@ module _ (f : FunctionValue) (call : Call) (n : ℕ) (base : ℕ → ℕ) (P : �
   are_from op prefix (x ∷ y ∷ []) (s ∷ t ∷ u ∷ more) h = absurd h
   are_from op prefix (x ∷ y ∷ z ∷ rest) ss h = absurd h
 
-  is_array : (op : Op) (prefix position : ℕ) (o : Operand) (k : ℕ) → IsTargeted f op prefix position o (ToArray k) → IsOf n base (size_of_slot f.vars) P k (size_of_result op position * prefix)
-  is_array op prefix position o k h = subst (λ k. IsOf n base (size_of_slot f.vars) P k (size_of_result op position * prefix)) h.4 (has h.0 (size_of_result op position * prefix) h.2)
+  -- the slot of a dest
+  dest_slot : (p : ℕ) → p < length f.vars → same_kind kind.Dest (var_at f.vars p).kind ≡ true → slot_of f.vars p < 4
+  dest_slot p l e =
+      let below = before_less kind.Dest f.vars p l e in
+      let is : slot_of f.vars p ≡ count_before kind.Dest f.vars p = ap (λ b. if b then count_before kind.Dest f.vars p else 4 + count_before kind.Source f.vars p) e in
+      omega (arith, is, below, few)
+
+  is_array : (op : Op) (prefix position : ℕ) (o : Operand) (k : ℕ) → IsTargeted f op prefix position o (ToArray k) → IsTo n base (size_of_slot f.vars) P k (size_of_result op position * prefix)
+  is_array op prefix position o k h =
+      subst (λ k. IsTo n base (size_of_slot f.vars) P k (size_of_result op position * prefix)) h.4
+      (record { of = has h.0 (size_of_result op position * prefix) h.2; dest = dest_slot h.0 h.2.inside (ap (same_kind kind.Dest) h.3) })
 
   -- an accumulator's number and bytes
   sum_number : (p b g : ℕ) → IsSum f p b → count_before kind.Accumulator f.vars p ≡ g → (g < count_of kind.Accumulator f.vars) × (width_of f g ≡ b)

@@ -1,4 +1,5 @@
 pub mod Weaker
+pub mod Inside
 pub mod Good
 pub mod Digits
 pub mod SubLanes
@@ -40,3 +41,11 @@ pub mod Knows
 pub mod Numbered
 pub mod Parts
 pub mod Whole
+pub mod Gaps
+pub mod Regions
+pub mod RegionPushes
+pub mod RegionSizes
+pub mod Counters
+pub mod Rounds
+pub mod RegionSteps
+pub mod Touches

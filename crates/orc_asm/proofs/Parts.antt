@@ -15,44 +15,43 @@ use Rattle.x86_ins.specs.declared.ins.Ins.{Ins}
 use Rattle.x86_ins.specs.Machine.{Core, Point}
 use Rattle.x86_ins.specs.Spelling.{IsIns}
 use Rattle.x86_ins.specs.Way.{Placed, Each}
-use Rattle.x86_flow.proofs.Flow.{Line, Does}
+use Rattle.x86_flow.specs.Does.{Line, Does}
 use Rattle.x86_flow.proofs.Frame.{word_same}
-use Rattle.x86_flow.proofs.Plans.{line_map}
+use Rattle.x86_flow.proofs.Plans.{line_map, weigh}
 use Rattle.orc_bits.specs.Lanes.{lane}
 use Rattle.orc_bits.proofs.LaneLaws.{lane_of_digits}
 use Rattle.sse_acc.specs.Sums.{sum_of}
 use Rattle.sse_acc.proofs.Totals.{sum_below-same}
-use Rattle.orc_frame.specs.Layout.{layout_of, saved_slot}
-use Rattle.orc_frame.specs.Layout.{sum_slot as sum_far, pattern_slot as pattern_far}
-use Rattle.orc_frame.specs.Frame.{IsLayout, Prepares, Finishes, Enters, Prepared, Ends, AfterEntry, AfterRows, acc_size, no_pattern, pattern_at, pattern_byte, param_word, sum_word}
+use Rattle.orc_frame.specs.Layout.{layout_of, pattern_slot, sum_slot, saved_slot}
+use Rattle.orc_frame.specs.Frame.{IsLayout, Prepares, Finishes, Enters, Prepared, Ends, AfterEntry, AfterRows, acc_size, no_pattern, pattern_at, pattern_byte, saved}
 use Rattle.orc_frame.specs.Frame.{number_of as held}
-use Rattle.orc_frame.specs.Frame.{InFrame as InSlots, InBlock as InWords, InSums as InTotals, saved}
 use Rattle.orc_frame.proofs.Facts.{Facts, facts}
 use Rattle.orc_frame.proofs.Fills.{IsKnown}
 use Rattle.orc_frame.proofs.Apart.{length-acc_sizes_of}
 use Rattle.orc_frame.proofs.Places.{length-places_of}
-use Rattle.orc_asm.specs.Subject.{Call as Arguments, rows}
-use Rattle.orc_asm.specs.RunsAs.{GoodCall, InFrame}
-use Rattle.orc_asm.specs.Function.{IsCellByte, subject_of}
-use Rattle.orc_asm.specs.Code.{Action, AreActions, patterns_in, pattern_slot, sum_slot, plan_with, turn_code}
+use Rattle.orc_frame.specs.Subject.{Call as Arguments, InDests, rows}
+use Rattle.orc_frame.specs.Parts.{InFrame, InRunning, InBlock, InSums, param_word, sum_word}
+use Rattle.orc_frame.specs.GoodCall.{GoodCall}
+use Rattle.orc_frame.specs.Function.{IsCellByte, subject_of}
+use Rattle.orc_asm.specs.Code.{Action, AreActions, patterns_in, plan_with, turn_code}
 use Rattle.orc_asm.specs.Rows.{turns_flow}
 use Rattle.orc_asm.proofs.Cells.{Numbers, IsOf}
-use Rattle.orc_asm.proofs.Frames.{IsFrame, InSums, Framed, no_sum}
+use Rattle.orc_asm.proofs.Frames.{IsFrame, Framed, framed_below, no_sum}
 use Rattle.orc_asm.proofs.Emulated.{IsCells, state}
 use Rattle.orc_asm.proofs.Elements.{Agrees, Reached, reaches}
 use Rattle.orc_asm.proofs.Block.{IsFit}
-use Rattle.orc_asm.proofs.Turn.{Setting, IsCell, Calm, Inside}
+use Rattle.orc_asm.proofs.Turn.{Setting, IsCell, IsDestCell, Calm, Inside}
 use Rattle.orc_asm.proofs.Loop.{loop_line}
 use Rattle.orc_asm.proofs.Direct.{pattern_of, number_of}
 use Rattle.orc_asm.proofs.Acts.{AreDirect}
 use Rattle.orc_asm.proofs.Knows.{width_of, numbers_of, are_meant, all_known}
 use Rattle.orc_asm.proofs.Numbered.{nth_is, sum_size, patterns_are, params_are, sizes_are, number_is}
 use Rattle.orc_asm.proofs.RowsEmulated.{end_with, sum_of_end}
-use Rattle.orc_asm.proofs.RowCells.{Arrays, arrays, call, P, row_base, mapped, low, separate, decided, slot_at, cell_is, cell_cells}
+use Rattle.orc_asm.proofs.RowCells.{Arrays, arrays, call, P, row_base, mapped, low, separate, decided, slot_at, cell_is, cell_cells, row_dests, dest_cell}
 use Rattle.orc_asm.proofs.RowLines.{InRows}
 use Rattle.orc_asm.proofs.RowLoop.{rsp, stack_low, Steady, Ready, Ended}
 use Rattle.orc_asm.proofs.RowElements.{RowDone, row_ended}
-use Rattle.orc_asm.proofs.RowPath.{Still, Gone, Parts}
+use Rattle.orc_asm.proofs.RowPath.{Still, Gone, Parts, cell_weight}
 use Rattle.orc_asm.proofs.RowRuns.{elements_of}
 
 -- what is known of a function and of its actions
@@ -72,16 +71,6 @@ is_sum_kind kind.Temp h = absurd (true≢false (sym h))
 is_sum_kind kind.Param h = absurd (true≢false (sym h))
 is_sum_kind kind.Const h = absurd (true≢false (sym h))
 
--- the patterns and sums stay where their bytes do
-framed_below : (numbers : Numbers) (rsp : ℕ) → IsFrame numbers rsp → (mem end : Memory) (totals : ℕ → ℕ) → ((x : ℕ) → rsp ≤ x → x < rsp + 832 → end x ≡ mem x) → Framed numbers rsp mem totals → Framed numbers rsp end totals
-framed_below numbers rsp is mem end totals same h = record {
-  patterns = λ j l b lb. same (rsp + pattern_slot j + b) (omega arith) (omega (arith, l, lb, is.few_patterns)) ∙ h.patterns j l b lb;
-  running = h.running;
-  bytes = h.bytes;
-  sums = λ g l b lb. same (rsp + sum_slot g + b) (omega arith) (omega (arith, l, lb, is.few_sums)) ∙ h.sums g l b lb;
-  totals_are = h.totals_are;
-}
-
 no_lane : (w q : ℕ) → lane w q [] ≡ 0
 no_lane w q = lane_of_digits [] w q 0 (λ k l. no_digit (256 ^ k)) ∙ zero-mod (2 ^ (8 * w))
   where
@@ -99,10 +88,10 @@ pub record InSum (rsp sums x : ℕ) : Type 0 where
   pub inside : byte < 16
   pub here : x ≡ rsp + sum_slot sum + byte
 
-in_sum : (rsp sums x : ℕ) → rsp + 768 ≤ x → x < rsp + 768 + 16 * sums → InSum rsp sums x
-in_sum rsp sums x l u =
+in_sum : (rsp sums x : ℕ) → InRunning rsp sums x → InSum rsp sums x
+in_sum rsp sums x h =
     let d = x - (rsp + 768) in
-    record { sum = d / 16; byte = d % 16; few = omega (arith, l, u); inside = omega arith; here = omega (arith, l) }
+    record { sum = d / 16; byte = d % 16; few = omega (arith, h.0, h.1); inside = omega arith; here = omega (arith, h.0) }
 
 module _ (f : FunctionValue) (actions : List Action) (done : Done f actions) (code : Placed) (s : Point) (args : Arguments) (back : ℕ) (good : GoodCall (subject_of f) code s args back) where
   abbrev known : Arrays f
@@ -127,7 +116,7 @@ module _ (f : FunctionValue) (actions : List Action) (done : Done f actions) (co
   Cell = IsCellByte f Args
 
   abbrev Frame : ℕ → Type 0
-  Frame = InFrame (subject_of f) s.core
+  Frame = InFrame lowered
 
   -- what else holds between rows
   pub record Kept (e : State) (c : Core) : Type 0 where
@@ -143,9 +132,6 @@ module _ (f : FunctionValue) (actions : List Action) (done : Done f actions) (co
   frame_low : s.core.gpr 4 ≡ lowered + 1024
   frame_low = (let w = good.frame_room in omega (arith, w))
 
-  in_frame : (x : ℕ) → lowered ≤ x → x < lowered + 1024 → Frame x
-  in_frame x l u = (omega (arith, u, frame_low), omega (arith, l, frame_low))
-
   few_patterns : length (patterns_of f.vars f.insns) ≤ 48
   few_patterns = (let a = fact.few_patterns in subst (λ l. length l ≤ 48) (patterns_are f) a)
 
@@ -156,7 +142,7 @@ module _ (f : FunctionValue) (actions : List Action) (done : Done f actions) (co
   is_frame = record { few_patterns = few_patterns; few_sums = known.few.accs; low = (let a = stack_room in omega (arith, a)) }
 
   -- the frame's slots stay
-  module _ (c d : Core) (same : (x : ℕ) → lowered ≤ x → x < lowered + 880 → (InSums numbers lowered x → ⊥) → d.memory x ≡ c.memory x) where
+  module _ (c d : Core) (same : (x : ℕ) → lowered ≤ x → x < lowered + 880 → (InRunning lowered numbers.sums x → ⊥) → d.memory x ≡ c.memory x) where
     words_stay : ((j : ℕ) → j < 6 → word c.memory (lowered + saved_slot j) ≡ Some (s.core.gpr (saved j))) → (j : ℕ) → j < 6 → word d.memory (lowered + saved_slot j) ≡ Some (s.core.gpr (saved j))
     words_stay h j l = word_same d.memory c.memory (lowered + saved_slot j) (omega (arith, stack_room, l)) (λ x a b. same x (omega (arith, a)) (omega (arith, b, l)) (λ i. omega (arith, i.1, a, known.few.accs))) ∙ h j l
 
@@ -171,44 +157,56 @@ module _ (f : FunctionValue) (actions : List Action) (done : Done f actions) (co
         plain = h.plain;
       }
 
+  abbrev Dests : ℕ → Type 0
+  Dests = InDests (subject_of f) args
+
   cell_frame : (a : ℕ) → Cell a → Frame a → ⊥
   cell_frame a w h = (good.disjoint.cells a w).2 h
+
+  dest_frame : (a : ℕ) → Dests a → Frame a → ⊥
+  dest_frame a w h = cell_frame a (dest_cell f known code s args back good a w) h
 
   block_frame : (x : ℕ) → s.core.gpr 7 ≤ x → x < s.core.gpr 7 + 304 → Frame x → ⊥
   block_frame x l u h = (good.disjoint.block x (l, u)).1 h
 
-  block_cell : (x : ℕ) → s.core.gpr 7 ≤ x → x < s.core.gpr 7 + 304 → Cell x → ⊥
-  block_cell x l u h = (good.disjoint.cells x h).0 (l, u)
+  block_dest : (x : ℕ) → s.core.gpr 7 ≤ x → x < s.core.gpr 7 + 304 → Dests x → ⊥
+  block_dest x l u h = (good.disjoint.cells x (dest_cell f known code s args back good x h)).0 (l, u)
+
+  -- nothing more is asked of a step's instruction
+  abbrev pub Any : Core → Ins → Type 0
+  Any u i = Unit {0}
 
   abbrev Q : Core → Ins → Type 0
-  Q u i = Still f known code s args back good u
+  Q u i = Still f known code s args back good u × Any u i
 
   -- ---- before the rows
 
   param_words : (j : ℕ) → j < length (layout_of f).params.items → word s.core.memory (s.core.gpr 7 + param_word j) ≡ Some (args.param j)
   param_words j l =
-      ap (λ a. word s.core.memory a) (let z : s.core.gpr 7 + param_word j ≡ s.core.gpr 7 + 208 + 8 * j = omega arith in z)
-      ∙ good.reads.params j (omega (arith, l, ap length (params_are f), length-places_of kind.Param f.vars))
+      good.reads.params j (omega (arith, l, ap length (params_are f), length-places_of kind.Param f.vars))
 
   enters : Enters (layout_of f) args.param s.core
   enters = record {
     bounded = good.bounded;
     room = good.frame_room;
     low = good.return_low;
-    frame = λ x i. good.frame x (in_frame x i.0 i.1);
+    frame = λ x i. good.frame x (i);
     block_low = good.block_low;
     params = param_words;
-    apart = λ x b i. block_frame x b.0 b.1 (in_frame x i.0 i.1);
+    apart = λ x b i. block_frame x b.0 b.1 (i);
   }
 
   entry_still : (u : Core) (i : Ins) → AfterEntry s.core u i → Q u i
-  entry_still u i h = record {
-    stack = ⊎_elim (λ e. inl e) (λ e. inr (omega (arith, e, frame_low))) h.stack;
-    quiet = λ a nc nf ns. h.outside a (λ w. nf (in_frame a w.0 w.1));
-  }
+  entry_still u i h = (
+    record {
+      stack = ⊎_elim (λ e. inl e) (λ e. inr (omega (arith, e, frame_low))) h.stack;
+      quiet = λ a nc nf ns. h.outside a (λ w. nf (w));
+    },
+    tt,
+  )
 
   first_patterns : (d : Core) → d.gpr 4 ≡ lowered → Prepared (layout_of f) args.param s.core d
-      → (j : ℕ) → j < length (patterns_of f.vars f.insns) → (b : ℕ) → b < 16 → d.memory (lowered + pattern_far j + b) ≡ Some (pattern_byte (pattern_of f j).way (numbers.number j) b)
+      → (j : ℕ) → j < length (patterns_of f.vars f.insns) → (b : ℕ) → b < 16 → d.memory (lowered + pattern_slot j + b) ≡ Some (pattern_byte (pattern_of f j).way (numbers.number j) b)
   first_patterns d e h j l b lb =
       let here : pattern_at (layout_of f) j ≡ pattern_of f j = ap (λ ps. get_or ps j no_pattern) (patterns_are f) in
       let within : j < length (layout_of f).patterns.items = subst (λ ps. j < length ps) (sym (patterns_are f)) l in
@@ -218,7 +216,7 @@ module _ (f : FunctionValue) (actions : List Action) (done : Done f actions) (co
       ap₂ (λ ps p. held ps args.param p.number) params here
       ∙ number_is f args.n args.m args.base args.stride args.param (number_of f j)
       (subst (λ p. IsKnown (places_of kind.Param f.vars) (length (places_of kind.Param f.vars)) p.number) here (subst (λ ps. IsKnown ps (length ps) (pattern_at (layout_of f) j).number) params known_is)) in
-      ap (λ a. d.memory (a + pattern_far j + b)) (sym e) ∙ h.patterns j within b lb ∙ ap₂ (λ p n. Some (pattern_byte p.way n b)) here number
+      ap (λ a. d.memory (a + pattern_slot j + b)) (sym e) ∙ h.patterns j within b lb ∙ ap₂ (λ p n. Some (pattern_byte p.way n b)) here number
 
   module _ (first : List Ins) (prepares : Prepares (layout_of f) first) where
     begins : (d : Core) × Line Q first s.core d × Steady f known code s args back good Kept (start s.core.memory) d
@@ -227,7 +225,7 @@ module _ (f : FunctionValue) (actions : List Action) (done : Done f actions) (co
         let d = x.0 in
         let h = x.2 in
         let stack : d.gpr 4 ≡ lowered = (let w = h.stack in omega (arith, w, frame_low)) in
-        let outside : (a : ℕ) → (Frame a → ⊥) → d.memory a ≡ s.core.memory a = λ a nf. h.outside a (λ w. nf (in_frame a (omega (arith, w.0, stack)) (omega (arith, w.1, stack)))) in (
+        let outside : (a : ℕ) → (Frame a → ⊥) → d.memory a ≡ s.core.memory a = λ a nf. h.outside a (λ w. nf (omega (arith, w.0, stack), omega (arith, w.1, stack))) in (
           d,
           line_map (AfterEntry s.core) Q entry_still first s.core d x.1,
           record {
@@ -236,7 +234,7 @@ module _ (f : FunctionValue) (actions : List Action) (done : Done f actions) (co
             quiet = λ a nc nf. outside a nf;
             agree = outside;
             mapped = λ a w. mapped f known code s args back good a w;
-            frame = λ a w. h.frame a (omega (arith, w.1, frame_low, stack), omega (arith, w.0, frame_low, stack));
+            frame = λ a w. h.frame a (omega (arith, w.0, stack), omega (arith, w.1, stack));
             bounded = h.bounded;
             kept = record {
               saved_words = λ j l. ap (λ a. word d.memory (a + saved_slot j)) (sym stack) ∙ h.saved j l;
@@ -245,7 +243,7 @@ module _ (f : FunctionValue) (actions : List Action) (done : Done f actions) (co
                 patterns = first_patterns d stack h;
                 running = λ g. [];
                 bytes = λ g r. lit< tt;
-                sums = λ g l b lb. ap (λ a. d.memory (a + sum_far g + b)) (sym stack) ∙ h.sums g (omega (arith, l, sums_count)) b lb;
+                sums = λ g l b lb. ap (λ a. d.memory (a + sum_slot g + b)) (sym stack) ∙ h.sums g (omega (arith, l, sums_count)) b lb;
                 totals_are = λ g l. ap (cut (8 * width_of f g)) (no_lanes (width_of f g));
               };
               agrees = λ p l k. sym (zero-mod (2 ^ (8 * (var_at f.vars p).size)));
@@ -279,8 +277,8 @@ module _ (f : FunctionValue) (actions : List Action) (done : Done f actions) (co
     apart : (k : ℕ) → Slot k → (i : ℕ) → i < args.n → (j : ℕ) → j < size k → Frame (base k + i * size k + j) → ⊥
     apart k h i l j lj w = cell_frame (base k + i * size k + j) (cell_cells f known code s args back good r row k h i l j lj) w
 
-    sums_frame : (a : ℕ) → InSums numbers lowered a → Frame a
-    sums_frame a h = in_frame a (omega (arith, h.0)) (omega (arith, h.1, known.few.accs))
+    sums_frame : (a : ℕ) → InRunning lowered numbers.sums a → Frame a
+    sums_frame a h = (omega (arith, h.0), omega (arith, h.1, known.few.accs))
 
     setting : Setting args.n base Slot numbers lowered (plan_with f actions) Emul Frame
     setting = record {
@@ -288,11 +286,11 @@ module _ (f : FunctionValue) (actions : List Action) (done : Done f actions) (co
         separate = separate f known code s args back good r row;
         low = low f known code s args back good r row;
         frame = is_frame;
-        apart = λ k h i l j lj x y. apart k h i l j lj (in_frame (base k + i * size k + j) x y);
+        apart = λ k h i l j lj x y. apart k h i l j lj (x, y);
       };
       decided = decided f known code s args back good r row;
       slots = λ k h. h;
-      known = all_known f Args args.n base Slot has 1 f.insns actions done.direct done.are;
+      known = all_known f Args args.n base Slot has known.few.dests 1 f.insns actions done.direct done.are;
       few_dests = known.few.dests;
       few_sources = known.few.sources;
       few = (arrays f known code s args back good).few;
@@ -310,6 +308,9 @@ module _ (f : FunctionValue) (actions : List Action) (done : Done f actions) (co
     row_cell : (a : ℕ) → InRow a → Cell a
     row_cell a w = subst Cell (sym w.6) (cell_cells f known code s args back good r row w.0 w.1 w.2 w.3 w.4 w.5)
 
+    row_dest : (a : ℕ) → IsDestCell args.n base Slot numbers lowered (plan_with f actions) Emul Frame setting a → Dests a
+    row_dest a w = row_dests f known code s args back good r row a w
+
     first_pointer : (b z : ℕ) → b % 2 ^ 64 ≡ (b % 2 ^ 64 + 0 * z) % 2 ^ 64
     first_pointer b z = omega arith
 
@@ -317,7 +318,6 @@ module _ (f : FunctionValue) (actions : List Action) (done : Done f actions) (co
       inside_first : Within c.memory 0 e.memory h.steady.kept.totals c
       inside_first = record {
         pointers = λ k t. h.pointers k t ∙ first_pointer (args.base k + r * args.stride k) (size k);
-        counter = (let q = h.counter in omega (arith, q));
         block = h.steady.block;
         calm = record { stack = h.steady.stack; quiet = λ a m n. refl };
         agree = h.steady.agree;
@@ -326,17 +326,17 @@ module _ (f : FunctionValue) (actions : List Action) (done : Done f actions) (co
         bounded = h.steady.bounded;
       }
 
-      still : (u : Core) → Calm args.n base Slot numbers lowered (plan_with f actions) Emul Frame setting (s.core.gpr 7) c.memory u → (a : ℕ) → (Cell a → ⊥) → (Frame a → ⊥) → u.memory a ≡ s.core.memory a
-      still u w a nc nf = w.quiet a (λ i. nc (row_cell a i)) (λ i. nf (sums_frame a i)) ∙ h.steady.quiet a nc nf
+      still : (u : Core) → Calm args.n base Slot numbers lowered (plan_with f actions) Emul Frame setting (s.core.gpr 7) c.memory u → (a : ℕ) → (Dests a → ⊥) → (Frame a → ⊥) → u.memory a ≡ s.core.memory a
+      still u w a nd nf = w.quiet a (λ i. nd (row_dest a i)) (λ i. nf (sums_frame a i)) ∙ h.steady.quiet a nd nf
 
-      turns : (end : Memory) × (new : ℕ → ℕ) × (list : List Ins) × (d : Core) × Does Q (turns_flow (turn_code (plan_with f actions) 1)) c list d × Within c.memory args.n end new d × Emul args.n end new × (length list ≤ elements_of (length (turn_code (plan_with f actions) 1)) args.n)
-      turns = loop_line args.n base Slot numbers lowered (plan_with f actions) Emul Frame setting (s.core.gpr 7) c.memory done.fit done.turn Q
-          (λ u i w. record { stack = inr w.stack; quiet = λ a nc nf ns. still u w a nc nf })
-          e.memory h.steady.kept.totals c inside_first
+      turns : (end : Memory) × (new : ℕ → ℕ) × (list : List Ins) × (d : Core) × Does Q (turns_flow (turn_code (plan_with f actions) 1)) c list d × Within c.memory args.n end new d × Emul args.n end new × (length list ≤ elements_of (length (turn_code (plan_with f actions) 1)) args.n) × (weigh cell_weight list ≤ args.n * weigh cell_weight (turn_code (plan_with f actions) 1))
+      turns = loop_line args.n base Slot numbers lowered (plan_with f actions) Emul Frame setting (s.core.gpr 7) c.memory done.fit done.turn cell_weight (λ q rel. refl, λ rel. refl) Q
+          (λ u i w. (record { stack = inr w.stack; quiet = λ a nc nf ns. still u w a nc nf }, tt))
+          e.memory h.steady.kept.totals c inside_first h.counter
           (record { sums = e.sums; is = ap Ok h.steady.kept.plain; agrees = h.steady.kept.agrees }) h.tests
 
       -- what the turns leave
-      row_done : (end : Memory) (new sums : ℕ → ℕ) (d : Core) → Within c.memory args.n end new d → row_of f Args r args.n e ≡ Ok (state end sums) → Agrees f sums new → RowDone f known code s args back good Kept (16 * count_of kind.Accumulator f.vars) r row e (state end sums) c d
+      row_done : (end : Memory) (new sums : ℕ → ℕ) (d : Core) → Within c.memory args.n end new d → row_of f Args r args.n e ≡ Ok (state end sums) → Agrees f sums new → RowDone f known code s args back good Kept (count_of kind.Accumulator f.vars) r row e (state end sums) c d
       row_done end new sums d w is agrees = record {
         emulated = is;
         stack = w.calm.stack;
@@ -344,10 +344,10 @@ module _ (f : FunctionValue) (actions : List Action) (done : Done f actions) (co
         quiet = w.calm.quiet;
         agree = w.agree;
         mapped = w.mapped;
-        running = λ a i. let x = in_sum lowered (count_of kind.Accumulator f.vars) a i.0 i.1 in ap is_some (ap d.memory x.here ∙ w.framed.sums x.sum x.few x.byte x.inside);
+        running = λ a i. let x = in_sum lowered (count_of kind.Accumulator f.vars) a i in ap is_some (ap d.memory x.here ∙ w.framed.sums x.sum x.few x.byte x.inside);
         bounded = w.bounded;
         kept = record {
-          saved_words = words_stay c d (λ x l u n. w.calm.quiet x (λ i. cell_frame x (row_cell x i) (in_frame x l (omega (arith, u)))) n) h.steady.kept.saved_words;
+          saved_words = words_stay c d (λ x l u n. w.calm.quiet x (λ i. dest_frame x (row_dest x i) (l, omega (arith, u))) n) h.steady.kept.saved_words;
           totals = new;
           framed = w.framed;
           agrees = agrees;
@@ -355,12 +355,11 @@ module _ (f : FunctionValue) (actions : List Action) (done : Done f actions) (co
         };
       }
 
-      does : (t : State) × (list : List Ins) × (d : Core) × Does Q (turns_flow (turn_code (plan_with f actions) 1)) c list d × Ended f known code s args back good Kept r e t c d × (length list ≤ elements_of (length (turn_code (plan_with f actions) 1)) args.n)
+      does : (t : State) × (list : List Ins) × (d : Core) × Does Q (turns_flow (turn_code (plan_with f actions) 1)) c list d × Ended f known code s args back good Kept r e t c d × (length list ≤ elements_of (length (turn_code (plan_with f actions) 1)) args.n) × (weigh cell_weight list ≤ args.n * weigh cell_weight (turn_code (plan_with f actions) 1))
       does =
           let x = turns in
-          let few : 16 * count_of kind.Accumulator f.vars ≤ 64 = omega (arith, known.few.accs) in
           let t = state x.0 x.6.sums in
-          (t, x.2, x.3, x.4, row_ended f known code s args back good Kept (16 * count_of kind.Accumulator f.vars) few r row e t c x.3 h (row_done x.0 x.1 x.6.sums x.3 x.5 x.6.is x.6.agrees), x.7)
+          (t, x.2, x.3, x.4, row_ended f known code s args back good Kept (count_of kind.Accumulator f.vars) known.few.accs r row e t c x.3 h (row_done x.0 x.1 x.6.sums x.3 x.5 x.6.is x.6.agrees), x.7, x.8)
 
   -- ---- after the rows
 
@@ -372,31 +371,34 @@ module _ (f : FunctionValue) (actions : List Action) (done : Done f actions) (co
     ends_here = record {
       low = (let a = h.stack in omega (arith, a, stack_room));
       block_low = subst (λ a. a + 304 ≤ 2 ^ 47) (sym h.block) good.block_low;
-      block = λ x i. there x (subst (λ a. InWords a x) h.block i);
-      apart = λ x i w. block_in x (subst (λ a. InWords a x) h.block i) (subst (λ a. InSlots a x) h.stack w);
+      block = λ x i. there x (subst (λ a. InBlock a x) h.block i);
+      apart = λ x i w. block_in x (subst (λ a. InBlock a x) h.block i) (subst (λ a. InFrame a x) h.stack w);
       saved = λ j l. ap (λ a. word c.memory (a + saved_slot j)) h.stack ∙ h.kept.saved_words j l;
       bytes = h.kept.framed.bytes;
-      sums = λ g l b lb. ap (λ a. c.memory (a + sum_far g + b)) h.stack ∙ h.kept.framed.sums g (omega (arith, l, sums_count)) b lb;
+      sums = λ g l b lb. ap (λ a. c.memory (a + sum_slot g + b)) h.stack ∙ h.kept.framed.sums g (omega (arith, l, sums_count)) b lb;
     }
       where
-        there : (x : ℕ) → InWords (s.core.gpr 7) x → IsMapped c.memory x
-        there x i = subst (λ o. is_some o ≡ true) (sym (h.quiet x (block_cell x i.0 i.1) (block_frame x i.0 i.1))) (good.block x i)
+        there : (x : ℕ) → InBlock (s.core.gpr 7) x → IsMapped c.memory x
+        there x i = subst (λ o. is_some o ≡ true) (sym (h.quiet x (block_dest x i.0 i.1) (block_frame x i.0 i.1))) (good.block x i)
 
-        block_in : (x : ℕ) → InWords (s.core.gpr 7) x → InSlots lowered x → ⊥
-        block_in x i w = block_frame x i.0 i.1 (in_frame x w.0 w.1)
+        block_in : (x : ℕ) → InBlock (s.core.gpr 7) x → Frame x → ⊥
+        block_in x i w = block_frame x i.0 i.1 w
 
     -- the addresses of accumulators' words
     abbrev Totals : ℕ → Type 0
-    Totals x = (s.core.gpr 7 + 272 ≤ x) × (x < s.core.gpr 7 + 272 + 8 * count_of kind.Accumulator f.vars)
+    Totals = InSums (s.core.gpr 7) (count_of kind.Accumulator f.vars)
 
-    not_total : (x : ℕ) → (Totals x → ⊥) → InTotals (c.gpr 7) (length (layout_of f).acc_sizes.items) x → ⊥
+    not_total : (x : ℕ) → (Totals x → ⊥) → InSums (c.gpr 7) (length (layout_of f).acc_sizes.items) x → ⊥
     not_total x n i = (let b = h.block in n (omega (arith, i.0, b), omega (arith, i.1, b, sums_count)))
 
     exit_still : (u : Core) (i : Ins) → AfterRows (layout_of f) c u i → Q u i
-    exit_still u i w = record {
-      stack = inr (w.stack ∙ h.stack);
-      quiet = λ a nc nf ns. w.outside a (not_total a ns) ∙ h.quiet a nc nf;
-    }
+    exit_still u i w = (
+      record {
+        stack = inr (w.stack ∙ h.stack);
+        quiet = λ a nc nf ns. w.outside a (not_total a ns) ∙ h.quiet a nc nf;
+      },
+      tt,
+    )
 
     -- emulation's sum is that of the lanes
     sum_is : (g : ℕ) → g < count_of kind.Accumulator f.vars → cut (8 * acc_size (layout_of f) g) (sum_of (acc_size (layout_of f) g) (h.kept.framed.running g)) ≡ (end_with f t).sums g
@@ -422,13 +424,13 @@ module _ (f : FunctionValue) (actions : List Action) (done : Done f actions) (co
           record {
             stack = (let a = w.stack in omega (arith, a, h.stack, frame_low));
             registers = w.restored;
-            words = λ g l. ap (λ a. word d.memory a) (let z : s.core.gpr 7 + 272 + 8 * g ≡ c.gpr 7 + sum_word g = omega (arith, h.block) in z) ∙ w.words g (omega (arith, l, sums_count)) ∙ ap Some (sum_is g l);
+            words = λ g l. ap (λ a. word d.memory a) (let z : s.core.gpr 7 + sum_word g ≡ c.gpr 7 + sum_word g = omega (arith, h.block) in z) ∙ w.words g (omega (arith, l, sums_count)) ∙ ap Some (sum_is g l);
             outside = λ x n. w.outside x (not_total x n);
           },
         )
 
   pub parts : (first last : List Ins) → Prepares (layout_of f) first → Finishes (layout_of f) last
-      → Parts f known code s args back good first (turns_flow (turn_code (plan_with f actions) 1)) last (elements_of (length (turn_code (plan_with f actions) 1)) args.n)
+      → Parts f known code s args back good Any first (turns_flow (turn_code (plan_with f actions) 1)) last (elements_of (length (turn_code (plan_with f actions) 1)) args.n) (args.n * weigh cell_weight (turn_code (plan_with f actions) 1))
   parts first last prepares finishes = record {
     Kept = Kept;
     kept_on = kept_on;

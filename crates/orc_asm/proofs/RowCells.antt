@@ -11,10 +11,11 @@ use Rattle.orc_program.specs.Meaning.{cell}
 use Rattle.orc_program.specs.Good.{IsArray}
 use Rattle.x86_ins.specs.Machine.{Point}
 use Rattle.x86_ins.specs.Way.{Placed}
-use Rattle.orc_asm.specs.Subject.{Call as Arguments, InArray, VerySame, rows}
-use Rattle.orc_asm.specs.RunsAs.{GoodCall, InBlock, InFrame}
-use Rattle.orc_asm.specs.Function.{IsCellByte, subject_of}
-use Rattle.orc_asm.proofs.Cells.{Separate, Low, Decided, elements_or_not}
+use Rattle.orc_frame.specs.Subject.{Call as Arguments, InArray, InDests, VerySame, rows}
+use Rattle.orc_frame.specs.Parts.{InBlock, InFrame, base_word, stride_word}
+use Rattle.orc_frame.specs.GoodCall.{GoodCall, lowered}
+use Rattle.orc_frame.specs.Function.{IsCellByte, subject_of}
+use Rattle.orc_asm.proofs.Cells.{OfDests, Separate, Low, Decided, elements_or_not}
 use Rattle.orc_asm.proofs.Agree.{GoodSlots, good_by_slots, cells_by_slots, byte_is}
 use Rattle.orc_asm.proofs.Slots.{Limits, SlotIs, slot_is}
 use Rattle.orc_asm.proofs.Turn.{IsSlot}
@@ -71,10 +72,10 @@ module _ (f : FunctionValue) (known : Arrays f) (code : Placed) (s : Point) (arg
   row_base r k = (args.base k + r * args.stride k) % 2 ^ 64
 
   pub base_small : (k : ℕ) → P k → args.base k < 2 ^ 64
-  base_small k h = value_small 8 s.core.memory (s.core.gpr 7 + 16 + 16 * k) (args.base k) good.bounded.memory (good.reads.bases k h)
+  base_small k h = value_small 8 s.core.memory (s.core.gpr 7 + base_word k) (args.base k) good.bounded.memory (good.reads.bases k h)
 
   pub stride_small : (k : ℕ) → P k → args.stride k < 2 ^ 64
-  stride_small k h = value_small 8 s.core.memory (s.core.gpr 7 + 24 + 16 * k) (args.stride k) good.bounded.memory (good.reads.strides k h)
+  stride_small k h = value_small 8 s.core.memory (s.core.gpr 7 + stride_word k) (args.stride k) good.bounded.memory (good.reads.strides k h)
 
   -- the bases of the first row, and those of one row more
   pub first_base : (k : ℕ) → P k → row_base 0 k ≡ args.base k
@@ -162,9 +163,25 @@ module _ (f : FunctionValue) (known : Arrays f) (code : Placed) (s : Point) (arg
     pub cell_cells : (k : ℕ) → P k → (i : ℕ) → i < args.n → (j : ℕ) → j < size k → IsCellByte f call (row_base r k + i * size k + j)
     cell_cells k h i l j lj = cells_by_slots f known.few args stride_small (row_base r k + i * size k + j) (k, h, cell_in k h i l j lj)
 
-    -- the addresses of the row's cells
+    -- the addresses of the row's cells, and of those of dests
+    abbrev pub InRowOf : (ℕ → Type 0) → ℕ → Type 0
+    InRowOf D a = (k : ℕ) × D k × (i : ℕ) × (i < args.n) × (j : ℕ) × (j < size k) × (a ≡ row_base r k + i * size k + j)
+
     abbrev pub InRow : ℕ → Type 0
-    InRow a = (k : ℕ) × P k × (i : ℕ) × (i < args.n) × (j : ℕ) × (j < size k) × (a ≡ row_base r k + i * size k + j)
+    InRow = InRowOf P
+
+    abbrev pub InRowDests : ℕ → Type 0
+    InRowDests = InRowOf (OfDests P)
+
+    pub row_of_dest : (a : ℕ) → InRowDests a → InRow a
+    row_of_dest a w = (w.0, w.1.0, w.2, w.3, w.4, w.5, w.6)
+
+    dest_few : (k : ℕ) → OfDests P k → k < count_of kind.Dest f.vars
+    dest_few k h = ⊎_elim (λ l. l) (λ s. absurd (omega (arith, s.0, h.1))) h.0
+
+    -- they are cells of the call's dests
+    pub row_dests : (a : ℕ) → InRowDests a → InDests (subject_of f) args a
+    row_dests a w = (w.0, dest_few w.0 w.1, subst (λ a. InArray (subject_of f) args w.0 a) (sym w.6) (cell_in w.0 w.1.0 w.2 w.3 w.4 w.5))
 
     pub slot_few : (k : ℕ) → P k → k < 12
     slot_few k h = ⊎_elim (λ l. (let a = known.few.dests in omega (arith, l, a))) (λ l. (let a = known.few.sources in omega (arith, l.1, a))) h
@@ -178,8 +195,12 @@ module _ (f : FunctionValue) (known : Arrays f) (code : Placed) (s : Point) (arg
         from_none : (i : ℕ) → 0 + i ≡ i
         from_none i = omega arith
 
-  pub cell_block : (a : ℕ) → IsCellByte f call a → InBlock s.core a → ⊥
+  -- a dest's cell is one of the call
+  pub dest_cell : (a : ℕ) → InDests (subject_of f) args a → IsCellByte f call a
+  dest_cell a w = cells_by_slots f known.few args stride_small a (w.0, inl w.1, w.2)
+
+  pub cell_block : (a : ℕ) → IsCellByte f call a → InBlock (s.core.gpr 7) a → ⊥
   cell_block a w h = (good.disjoint.cells a w).0 h
 
-  pub cell_frame : (a : ℕ) → IsCellByte f call a → InFrame (subject_of f) s.core a → ⊥
+  pub cell_frame : (a : ℕ) → IsCellByte f call a → InFrame (lowered s.core) a → ⊥
   cell_frame a w h = (good.disjoint.cells a w).2 h

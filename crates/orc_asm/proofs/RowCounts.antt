@@ -1,5 +1,5 @@
 -- The instructions of the lists around rows: they are allowed, and few.
-use Rattle.std.proofs.Common.{◌≡◌, ℕ, zero, suc, ◌+◌, ◌*◌, ◌^◌, ◌<◌, ◌≤◌, Bool, true, false, pos, negsuc, List, [], ◌∷◌, ◌++◌, length, refl, ap, ◌∙◌, arith, suc-mul, length-append}
+use Rattle.std.proofs.Common.{◌≡◌, ℕ, zero, suc, ◌+◌, ◌*◌, ◌^◌, ◌<◌, ◌≤◌, Bool, true, false, if◌then◌else◌, pos, negsuc, List, [], ◌∷◌, ◌++◌, length, refl, ap, ◌∙◌, arith, suc-mul, length-append}
 use Rattle.x86_ins.specs.declared.ins.AluOp.TheVariants.{Add, Sub}
 use Rattle.x86_ins.specs.declared.ins.Cond.TheVariants.{Ne, E}
 use Rattle.x86_ins.specs.declared.ins.Ins.{Ins}
@@ -9,9 +9,13 @@ use Rattle.x86_ins.specs.Way.{Each}
 use Rattle.x86_flow.specs.Flow.{Flow, flat, spell_all, size, loop_code}
 use Rattle.x86_flow.specs.Moves.{away}
 use Rattle.x86_flow.proofs.Ways.{spell_append}
+use Rattle.x86_flow.proofs.Plans.{weigh, weigh_append}
+use Rattle.x86_flow.specs.Touching.{touch_weight}
 use Rattle.x86_flow.proofs.Spelled.{IsFine, fine_load, fine_store, fine_alu_imm, fine_test, fits_up, fits_down, each_both, all_allowed, size_within}
 use Rattle.orc_asm.specs.Code.{pointer}
-use Rattle.orc_asm.specs.Rows.{base_word, rows_word, first_word, stride_word, slots_code, arrays_code, base_code, number_code, count_code, rows_code, pointer_code, counter_code, row_entry_code, stride_code, one_less_code, row_step_code, row_flow, rows_flow}
+use Rattle.orc_frame.specs.Layout.{row_slot, rows_slot}
+use Rattle.orc_frame.specs.Parts.{base_word, stride_word}
+use Rattle.orc_asm.specs.Rows.{slots_code, arrays_code, base_code, number_code, count_code, rows_code, pointer_code, counter_code, row_entry_code, stride_code, one_less_code, row_step_code, row_flow, rows_flow}
 use Rattle.orc_asm.proofs.Registers.{pointer_small}
 
 -- ---- lists of slots
@@ -19,6 +23,47 @@ use Rattle.orc_asm.proofs.Registers.{pointer_small}
 slots_count : (code : ℕ → List Ins) (each first n : ℕ) → ((k : ℕ) → length (code k) ≡ each) → length (slots_code code first n) ≡ n * each
 slots_count code each first zero h = omega arith
 slots_count code each first (suc n) h = omega (arith, length-append (slots_code code first n) (code (first + n)), slots_count code each first n h, h (first + n), suc-mul n each)
+
+-- ---- what touches no cell: words go by RSP and RDI
+
+module _ (by : ℕ → Bool) (by_stack : by 4 ≡ false) (by_block : by 7 ≡ false) where
+  abbrev pub touch : Ins → ℕ
+  touch = touch_weight by
+
+  slots_free : (code : ℕ → List Ins) (first n : ℕ) → ((k : ℕ) → weigh touch (code k) ≡ 0) → weigh touch (slots_code code first n) ≡ 0
+  slots_free code first zero h = refl
+  slots_free code first (suc n) h = omega (arith, weigh_append touch (slots_code code first n) (code (first + n)), slots_free code first n h, h (first + n))
+
+  arrays_free : (code : ℕ → List Ins) (dests sources : ℕ) → ((k : ℕ) → weigh touch (code k) ≡ 0) → weigh touch (arrays_code code dests sources) ≡ 0
+  arrays_free code dests sources h = omega (arith, weigh_append touch (slots_code code 0 dests) (slots_code code 4 sources), slots_free code 0 dests h, slots_free code 4 sources h)
+
+  abbrev one : Bool → ℕ
+  one b = if b then 1 else 0
+
+  none_4 : one (by 4) ≡ 0
+  none_4 = ap one by_stack
+
+  none_7 : one (by 7) ≡ 0
+  none_7 = ap one by_block
+
+  number_free : (two_d : Bool) → touch (number_code two_d) ≡ 0
+  number_free true = none_7
+  number_free false = refl
+
+  pub rows_free : (two_d : Bool) (dests sources : ℕ) → weigh touch (rows_code two_d dests sources) ≡ 0
+  rows_free two_d dests sources =
+      let last : weigh touch (count_code two_d) ≡ 0 = omega (arith, number_free two_d, none_4) in
+      omega (arith, weigh_append touch (arrays_code base_code dests sources) (count_code two_d), arrays_free base_code dests sources (λ k. omega (arith, none_7, none_4)), last)
+
+  pub row_entry_free : (dests sources : ℕ) → weigh touch (row_entry_code dests sources) ≡ 0
+  row_entry_free dests sources =
+      let last : weigh touch counter_code ≡ 0 = omega (arith, none_7) in
+      omega (arith, weigh_append touch (arrays_code pointer_code dests sources) counter_code, arrays_free pointer_code dests sources (λ k. omega (arith, none_4)), last)
+
+  pub row_step_free : (dests sources : ℕ) → weigh touch (row_step_code dests sources) ≡ 0
+  row_step_free dests sources =
+      let last : weigh touch one_less_code ≡ 0 = omega (arith, none_4) in
+      omega (arith, weigh_append touch (arrays_code stride_code dests sources) one_less_code, arrays_free stride_code dests sources (λ k. omega (arith, none_4, none_7)), last)
 
 slots_fine : (code : ℕ → List Ins) (first n : ℕ) → first + n ≤ 12 → ((k : ℕ) → k < 12 → Each IsFine (code k)) → Each IsFine (slots_code code first n)
 slots_fine code first zero few h = tt
@@ -61,21 +106,21 @@ module _ (dests sources : ℕ) where
 
     pub fine_rows : (two_d : Bool) → Each IsFine (rows_code two_d dests sources)
     fine_rows two_d = each_both IsFine (arrays_code base_code dests sources) (count_code two_d)
-        (arrays_fine base_code (λ k l. ((fine_word 7 (first_word k) (omega arith) (omega (arith, l)) 0 (omega arith)).0, ((fine_word 4 (base_word k) (omega arith) (omega (arith, l)) 0 (omega arith)).1, tt))))
-        (fine_number two_d, ((fine_word 4 rows_word (omega arith) (omega arith) 0 (omega arith)).1, (fine_test 0 0 (omega arith) (omega arith), tt)))
+        (arrays_fine base_code (λ k l. ((fine_word 7 (base_word k) (omega arith) (omega (arith, l)) 0 (omega arith)).0, ((fine_word 4 (row_slot k) (omega arith) (omega (arith, l)) 0 (omega arith)).1, tt))))
+        (fine_number two_d, ((fine_word 4 rows_slot (omega arith) (omega arith) 0 (omega arith)).1, (fine_test 0 0 (omega arith) (omega arith), tt)))
 
     pub fine_row_entry : Each IsFine (row_entry_code dests sources)
     fine_row_entry = each_both IsFine (arrays_code pointer_code dests sources) counter_code
-        (arrays_fine pointer_code (λ k l. ((fine_word 4 (base_word k) (omega arith) (omega (arith, l)) (pointer k) (pointer_small k l)).0, tt)))
+        (arrays_fine pointer_code (λ k l. ((fine_word 4 (row_slot k) (omega arith) (omega (arith, l)) (pointer k) (pointer_small k l)).0, tt)))
         ((fine_word 7 0 (omega arith) (omega arith) 1 (omega arith)).0, (fine_test 1 1 (omega arith) (omega arith), tt))
 
     pub fine_row_step : Each IsFine (row_step_code dests sources)
     fine_row_step = each_both IsFine (arrays_code stride_code dests sources) one_less_code
         (arrays_fine stride_code (λ k l. (
-          (fine_word 4 (base_word k) (omega arith) (omega (arith, l)) 0 (omega arith)).0,
-          ((fine_word 7 (stride_word k) (omega arith) (omega (arith, l)) 1 (omega arith)).0, (fine_add, ((fine_word 4 (base_word k) (omega arith) (omega (arith, l)) 0 (omega arith)).1, tt))),
+          (fine_word 4 (row_slot k) (omega arith) (omega (arith, l)) 0 (omega arith)).0,
+          ((fine_word 7 (stride_word k) (omega arith) (omega (arith, l)) 1 (omega arith)).0, (fine_add, ((fine_word 4 (row_slot k) (omega arith) (omega (arith, l)) 0 (omega arith)).1, tt))),
         )))
-        ((fine_word 4 rows_word (omega arith) (omega arith) 0 (omega arith)).0, (fine_alu_imm Sub 0 (pos 1) (omega arith) (fits_up 1 (omega arith)), ((fine_word 4 rows_word (omega arith) (omega arith) 0 (omega arith)).1, tt)))
+        ((fine_word 4 rows_slot (omega arith) (omega arith) 0 (omega arith)).0, (fine_alu_imm Sub 0 (pos 1) (omega arith) (fits_up 1 (omega arith)), ((fine_word 4 rows_slot (omega arith) (omega arith) 0 (omega arith)).1, tt)))
 
     -- ---- the whole
 

@@ -6,12 +6,14 @@ use Rattle.orc_program.specs.Program.{FunctionValue}
 use Rattle.orc_program.specs.Meaning.{State, row_of}
 use Rattle.x86_ins.specs.Machine.{Core, Point, Bounded}
 use Rattle.x86_ins.specs.Way.{Placed}
-use Rattle.orc_asm.specs.Subject.{Call as Arguments, rows}
-use Rattle.orc_asm.specs.RunsAs.{GoodCall}
-use Rattle.orc_asm.specs.Function.{subject_of}
-use Rattle.orc_asm.proofs.RowCells.{Arrays, call, cell_cells, cell_frame, InRow, row_or_not}
+use Rattle.orc_frame.specs.Layout.{sum_slot}
+use Rattle.orc_frame.specs.Parts.{InRunning}
+use Rattle.orc_frame.specs.Subject.{Call as Arguments, rows}
+use Rattle.orc_frame.specs.GoodCall.{GoodCall}
+use Rattle.orc_frame.specs.Function.{subject_of}
+use Rattle.orc_asm.proofs.RowCells.{Arrays, call, cell_cells, cell_frame, InRow, InRowDests, row_of_dest, row_dests, row_or_not}
 use Rattle.orc_asm.proofs.RowLines.{InRows}
-use Rattle.orc_asm.proofs.RowLoop.{rsp, Frame, Cell, stack_low, Ready, Ended}
+use Rattle.orc_asm.proofs.RowLoop.{rsp, Frame, Cell, Dests, stack_low, Ready, Ended}
 
 module _ (f : FunctionValue) (known : Arrays f) (code : Placed) (s : Point) (args : Arguments) (back : ℕ) (good : GoodCall (subject_of f) code s args back) (Kept : State → Core → Type 0) where
   abbrev low : ℕ
@@ -20,19 +22,15 @@ module _ (f : FunctionValue) (known : Arrays f) (code : Placed) (s : Point) (arg
   abbrev InFrame : ℕ → Type 0
   InFrame = Frame f known code s args back good
 
-  -- so many bytes of the frame for running sums
-  abbrev pub InRunning : ℕ → ℕ → Type 0
-  InRunning bytes a = (low + 768 ≤ a) × (a < low + 768 + bytes)
-
-  -- what a row's elements do: outside the row's cells and the running sums memory is as before
-  pub record RowDone (bytes r : ℕ) (row : r < rows (subject_of f) args) (e t : State) (c d : Core) : Type 0 where
+  -- what a row's elements do: outside the row's cells of dests and the running sums memory is as before
+  pub record RowDone (sums r : ℕ) (row : r < rows (subject_of f) args) (e t : State) (c d : Core) : Type 0 where
     pub emulated : row_of f (call f known code s args back good) r args.n e ≡ Ok t
     pub stack : d.gpr 4 ≡ low
     pub block : d.gpr 7 ≡ s.core.gpr 7
-    pub quiet : (a : ℕ) → (InRow f known code s args back good r row a → ⊥) → (InRunning bytes a → ⊥) → d.memory a ≡ c.memory a
+    pub quiet : (a : ℕ) → (InRowDests f known code s args back good r row a → ⊥) → (InRunning low sums a → ⊥) → d.memory a ≡ c.memory a
     pub agree : (a : ℕ) → (InFrame a → ⊥) → d.memory a ≡ t.memory a
     pub mapped : (a : ℕ) → InRow f known code s args back good r row a → IsMapped t.memory a
-    pub running : (a : ℕ) → InRunning bytes a → IsMapped d.memory a
+    pub running : (a : ℕ) → InRunning low sums a → IsMapped d.memory a
     pub bounded : Bounded d
     pub kept : Kept t d
 
@@ -42,50 +40,47 @@ module _ (f : FunctionValue) (known : Arrays f) (code : Placed) (s : Point) (arg
   row_frame : (r : ℕ) (row : r < rows (subject_of f) args) (a : ℕ) → InRow f known code s args back good r row a → InFrame a → ⊥
   row_frame r row a w h = cell_frame f known code s args back good a (row_cell r row a w) h
 
-  room : (low + 1024 ≡ s.core.gpr 4)
-  room = (let a = good.frame_room in omega (arith, a))
-
-  running_frame : (bytes a : ℕ) → bytes ≤ 64 → InRunning bytes a → InFrame a
-  running_frame bytes a few w = (omega (arith, room, w.1, few), omega (arith, room, w.0))
+  running_frame : (sums a : ℕ) → sums ≤ 4 → InRunning low sums a → InFrame a
+  running_frame sums a few w = (omega (arith, w.0), omega (arith, w.1, few))
 
   rows_frame : (a : ℕ) → InRows low (s.core.gpr 7) (stack_low f known code s args back good) good.block_low a → InFrame a
-  rows_frame a w = (omega (arith, room, w.1), omega (arith, room, w.0))
+  rows_frame a w = (omega (arith, w.0), omega (arith, w.1))
 
-  rows_running : (bytes a : ℕ) → bytes ≤ 64 → InRows low (s.core.gpr 7) (stack_low f known code s args back good) good.block_low a → InRunning bytes a → ⊥
-  rows_running bytes a few w h = omega (arith, w.0, h.1, few)
+  rows_running : (sums a : ℕ) → sums ≤ 4 → InRows low (s.core.gpr 7) (stack_low f known code s args back good) good.block_low a → InRunning low sums a → ⊥
+  rows_running sums a few w h = omega (arith, w.0, h.1, few)
 
-  running_or_not : (bytes a : ℕ) → InRunning bytes a ⊎ (InRunning bytes a → ⊥)
-  running_or_not bytes a = ⊎_elim (λ l. inr (λ h. omega (arith, l, h.0))) (λ l. ⊎_elim (λ u. inl (l, u)) (λ u. inr (λ h. omega (arith, u, h.1))) (cases_lt a (low + 768 + bytes))) (cases_lt a (low + 768))
+  running_or_not : (sums a : ℕ) → InRunning low sums a ⊎ (InRunning low sums a → ⊥)
+  running_or_not sums a = ⊎_elim (λ l. inr (λ h. omega (arith, l, h.0))) (λ l. ⊎_elim (λ u. inl (l, u)) (λ u. inr (λ h. omega (arith, u, h.1))) (cases_lt a (low + sum_slot sums))) (cases_lt a (low + sum_slot 0))
 
   is_mapped : (m e : Memory) (a : ℕ) → m a ≡ e a → IsMapped m a → IsMapped e a
   is_mapped m e a q h = subst (λ o. is_some o ≡ true) q h
 
-  pub row_ended : (bytes : ℕ) → bytes ≤ 64 → (r : ℕ) (row : r < rows (subject_of f) args) (e t : State) (c d : Core) → Ready f known code s args back good Kept r e c → RowDone bytes r row e t c d → Ended f known code s args back good Kept r e t c d
-  row_ended bytes few r row e t c d ready h =
+  pub row_ended : (sums : ℕ) → sums ≤ 4 → (r : ℕ) (row : r < rows (subject_of f) args) (e t : State) (c d : Core) → Ready f known code s args back good Kept r e c → RowDone sums r row e t c d → Ended f known code s args back good Kept r e t c d
+  row_ended sums few r row e t c d ready h =
       let before = ready.steady in
-      let outside : (a : ℕ) → (Cell f known code s args back good a → ⊥) → (InFrame a → ⊥) → d.memory a ≡ c.memory a = λ a nc nf. h.quiet a (λ w. nc (row_cell r row a w)) (λ w. nf (running_frame bytes a few w)) in
+      let outside : (a : ℕ) → (Dests f known code s args back good a → ⊥) → (InFrame a → ⊥) → d.memory a ≡ c.memory a = λ a nd nf. h.quiet a (λ w. nd (row_dests f known code s args back good r row a w)) (λ w. nf (running_frame sums a few w)) in
       let cell_mapped : (a : ℕ) → Cell f known code s args back good a → IsMapped t.memory a = λ a w.
       ⊎_elim
       (λ i. h.mapped a i)
       (λ n. let nf : InFrame a → ⊥ = cell_frame f known code s args back good a w in
-      is_mapped e.memory t.memory a (sym (before.agree a nf) ∙ sym (h.quiet a n (λ g. nf (running_frame bytes a few g))) ∙ h.agree a nf) (before.mapped a w))
+      is_mapped e.memory t.memory a (sym (before.agree a nf) ∙ sym (h.quiet a (λ w. n (row_of_dest f known code s args back good r row a w)) (λ g. nf (running_frame sums a few g))) ∙ h.agree a nf) (before.mapped a w))
       (row_or_not f known code s args back good r row a) in
       let frame_mapped : (a : ℕ) → InFrame a → IsMapped d.memory a = λ a w.
       ⊎_elim
       (λ g. h.running a g)
-      (λ n. is_mapped c.memory d.memory a (sym (h.quiet a (λ i. row_frame r row a i w) n)) (before.frame a w))
-      (running_or_not bytes a) in
+      (λ n. is_mapped c.memory d.memory a (sym (h.quiet a (λ i. row_frame r row a (row_of_dest f known code s args back good r row a i) w) n)) (before.frame a w))
+      (running_or_not sums a) in
       record {
         emulated = h.emulated;
         steady = record {
           stack = h.stack;
           block = h.block;
-          quiet = λ a nc nf. outside a nc nf ∙ before.quiet a nc nf;
+          quiet = λ a nd nf. outside a nd nf ∙ before.quiet a nd nf;
           agree = h.agree;
           mapped = cell_mapped;
           frame = frame_mapped;
           bounded = h.bounded;
           kept = h.kept;
         };
-        slots = λ x w. h.quiet x (λ i. row_frame r row x i (rows_frame x w)) (rows_running bytes x few w);
+        slots = λ x w. h.quiet x (λ i. row_frame r row x (row_of_dest f known code s args back good r row x i) (rows_frame x w)) (rows_running sums x few w);
       }

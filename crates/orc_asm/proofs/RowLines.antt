@@ -13,12 +13,14 @@ use Rattle.x86_ins.specs.declared.ins.Ins.{Ins}
 use Rattle.x86_ins.specs.declared.ins.Ins.TheVariants.{Load, Store}
 use Rattle.x86_ins.specs.Machine.{Core, with_gpr, with_flags, with_memory, flags_of, alu_core, alu_result, test, work, address, span, Touches}
 use Rattle.x86_flow.specs.Moves.{away}
-use Rattle.x86_flow.proofs.Flow.{Line}
+use Rattle.x86_flow.specs.Does.{Line}
 use Rattle.x86_flow.proofs.Moves.{line_append}
 use Rattle.x86_flow.proofs.Words.{load_word, store_word}
 use Rattle.x86_flow.proofs.Frame.{word_same, word_stored}
+use Rattle.orc_frame.specs.Parts.{InBlock, base_word, stride_word}
 use Rattle.orc_asm.specs.Code.{pointer}
-use Rattle.orc_asm.specs.Rows.{base_word, rows_word, first_word, stride_word, slots_code, arrays_code, base_code, number_code, count_code, rows_code, pointer_code, counter_code, row_entry_code, stride_code, one_less_code, row_step_code}
+use Rattle.orc_frame.specs.Layout.{row_slot, rows_slot}
+use Rattle.orc_asm.specs.Rows.{slots_code, arrays_code, base_code, number_code, count_code, rows_code, pointer_code, counter_code, row_entry_code, stride_code, one_less_code, row_step_code}
 use Rattle.orc_asm.proofs.Registers.{not_1, not_4, not_7, pointer_one}
 use Rattle.orc_asm.proofs.Turn.{IsSlot}
 
@@ -31,16 +33,13 @@ module _ (rsp rdi : ℕ) (stack_low : rsp + 1032 ≤ 2 ^ 47) (block_low : rdi + 
   abbrev pub InRows : ℕ → Type 0
   InRows x = (rsp + 880 ≤ x) × (x < rsp + 992)
 
-  abbrev pub InBlock : ℕ → Type 0
-  InBlock x = (rdi ≤ x) × (x < rdi + 304)
-
   abbrev InSlot : ℕ → ℕ → Type 0
-  InSlot k x = (rsp + base_word k ≤ x) × (x < rsp + base_word k + 8)
+  InSlot k x = (rsp + row_slot k ≤ x) × (x < rsp + row_slot k + 8)
 
   in_rows : (k x : ℕ) → k < 14 → InSlot k x → InRows x
   in_rows k x l h = (omega (arith, h.0), omega (arith, h.1, l))
 
-  slot_low : (k : ℕ) → k < 14 → rsp + base_word k + 8 < 2 ^ 62
+  slot_low : (k : ℕ) → k < 14 → rsp + row_slot k + 8 < 2 ^ 62
   slot_low k l = omega (arith, l, stack_low)
 
   -- what holds of each core after c
@@ -61,7 +60,7 @@ module _ (rsp rdi : ℕ) (stack_low : rsp + 1032 ≤ 2 ^ 47) (block_low : rdi + 
 
   -- the instruction touches the words of slots and the block alone
   abbrev pub TouchesFew : Ins → Core → Type 0
-  TouchesFew i u = (x : ℕ) → Touches i u x → InRows x ⊎ InBlock x
+  TouchesFew i u = (x : ℕ) → Touches i u x → InRows x ⊎ InBlock rdi x
 
   at_away : (u : Core) (r a d : ℕ) → u.gpr r ≡ a → a + d < 2 ^ 62 → address u (away r d) ≡ a + d
   at_away u r a d e w = omega (arith, e, w)
@@ -69,13 +68,13 @@ module _ (rsp rdi : ℕ) (stack_low : rsp + 1032 ≤ 2 ^ 47) (block_low : rdi + 
   byte_in : (a p j : ℕ) → p + 8 < 2 ^ 62 → a ≡ p → j < 8 → (p ≤ (a + j) % 2 ^ 64) × ((a + j) % 2 ^ 64 < p + 8)
   byte_in a p j w e l = (omega (arith, w, e, l), omega (arith, w, e, l))
 
-  touch_slot : (k : ℕ) → k < 14 → (i : Ins) (u : Core) → u.gpr 4 ≡ rsp → span i u ≡ (address u (away 4 (base_word k)), 8) → TouchesFew i u
+  touch_slot : (k : ℕ) → k < 14 → (i : Ins) (u : Core) → u.gpr 4 ≡ rsp → span i u ≡ (address u (away 4 (row_slot k)), 8) → TouchesFew i u
   touch_slot k l i u s e x t =
       let w = slot_low k l in
       let size : (span i u).1 ≡ 8 = ap (λ p. p.1) e in
-      let at : (span i u).0 ≡ rsp + base_word k = ap (λ p. p.0) e ∙ at_away u 4 rsp (base_word k) s (omega (arith, w)) in
-      let here = byte_in (span i u).0 (rsp + base_word k) t.0 w at (subst (λ n. t.0 < n) size t.1) in
-      inl (in_rows k x l (subst (λ y. rsp + base_word k ≤ y) (sym t.2) here.0, subst (λ y. y < rsp + base_word k + 8) (sym t.2) here.1))
+      let at : (span i u).0 ≡ rsp + row_slot k = ap (λ p. p.0) e ∙ at_away u 4 rsp (row_slot k) s (omega (arith, w)) in
+      let here = byte_in (span i u).0 (rsp + row_slot k) t.0 w at (subst (λ n. t.0 < n) size t.1) in
+      inl (in_rows k x l (subst (λ y. rsp + row_slot k ≤ y) (sym t.2) here.0, subst (λ y. y < rsp + row_slot k + 8) (sym t.2) here.1))
 
   touch_block : (d : ℕ) → d + 8 ≤ 304 → (i : Ins) (u : Core) → u.gpr 7 ≡ rdi → span i u ≡ (address u (away 7 d), 8) → TouchesFew i u
   touch_block d l i u s e x t =
@@ -95,28 +94,28 @@ module _ (rsp rdi : ℕ) (stack_low : rsp + 1032 ≤ 2 ^ 47) (block_low : rdi + 
   -- ---- RAX is stored to the word of a slot
 
   abbrev stored : ℕ → Core → Core
-  stored k c = with_memory c (fill 8 c.memory (rsp + base_word k) (byte_of 8 (c.gpr 0)))
+  stored k c = with_memory c (fill 8 c.memory (rsp + row_slot k) (byte_of 8 (c.gpr 0)))
 
   -- what that leaves
   record SlotStored (k : ℕ) (c : Core) : Type 0 where
-    works : work (Store 0 (away 4 (base_word k))) c ≡ Ok (stored k c)
-    holds : word (stored k c).memory (rsp + base_word k) ≡ Some (c.gpr 0)
+    works : work (Store 0 (away 4 (row_slot k))) c ≡ Ok (stored k c)
+    holds : word (stored k c).memory (rsp + row_slot k) ≡ Some (c.gpr 0)
     outside : (x : ℕ) → (InSlot k x → ⊥) → (stored k c).memory x ≡ c.memory x
     mapped : (x : ℕ) → IsMapped c.memory x → IsMapped (stored k c).memory x
 
   store_slot : (k : ℕ) → k < 14 → (c : Core) → c.gpr 4 ≡ rsp → c.gpr 0 < 2 ^ 64 → ((x : ℕ) → InRows x → IsMapped c.memory x) → SlotStored k c
   store_slot k l c e small there =
-      let a = rsp + base_word k in
+      let a = rsp + row_slot k in
       let w = slot_low k l in record {
-        works = store_word c 0 4 rsp (base_word k) e w (λ x m u. there x (in_rows k x l (m, u)));
+        works = store_word c 0 4 rsp (row_slot k) e w (λ x m u. there x (in_rows k x l (m, u)));
         holds = word_stored c.memory a (c.gpr 0) (omega (arith, w)) small;
         outside = λ x out. fill_out 8 c.memory a (byte_of 8 (c.gpr 0)) x (omega (arith, w)) (λ j s q. out (omega (arith, q), omega (arith, q, s)));
         mapped = λ x h. fill_mapped 8 c.memory a (byte_of 8 (c.gpr 0)) x h;
       }
 
   -- the word of another slot stands
-  slot_apart : (k j : ℕ) → k < 14 → j < 14 → k ≢ j → (m e : Memory) → ((x : ℕ) → (InSlot k x → ⊥) → m x ≡ e x) → word m (rsp + base_word j) ≡ word e (rsp + base_word j)
-  slot_apart k j lk lj ne m e out = word_same m e (rsp + base_word j) (omega (arith, slot_low j lj)) (λ x l u. out x (λ h. ⊎_elim (λ s. omega (arith, s, h.0, u)) (λ s. omega (arith, s, h.1, l)) (sides k j ne)))
+  slot_apart : (k j : ℕ) → k < 14 → j < 14 → k ≢ j → (m e : Memory) → ((x : ℕ) → (InSlot k x → ⊥) → m x ≡ e x) → word m (rsp + row_slot j) ≡ word e (rsp + row_slot j)
+  slot_apart k j lk lj ne m e out = word_same m e (rsp + row_slot j) (omega (arith, slot_low j lj)) (λ x l u. out x (λ h. ⊎_elim (λ s. omega (arith, s, h.0, u)) (λ s. omega (arith, s, h.1, l)) (sides k j ne)))
     where
       sides : (k j : ℕ) → k ≢ j → (suc j ≤ k) ⊎ (suc k ≤ j)
       sides k j ne = grind (arith)
@@ -126,7 +125,7 @@ module _ (rsp rdi : ℕ) (stack_low : rsp + 1032 ≤ 2 ^ 47) (block_low : rdi + 
   -- what a list leaves that writes the word of one slot, by way of RAX and RCX
   record Slotted (k v : ℕ) (c d : Core) : Type 0 where
     gpr : (r : ℕ) → r ≢ 0 → r ≢ 1 → d.gpr r ≡ c.gpr r
-    holds : word d.memory (rsp + base_word k) ≡ Some v
+    holds : word d.memory (rsp + row_slot k) ≡ Some v
     outside : (x : ℕ) → (InSlot k x → ⊥) → d.memory x ≡ c.memory x
     mapped : (x : ℕ) → IsMapped c.memory x → IsMapped d.memory x
 
@@ -141,14 +140,14 @@ module _ (rsp rdi : ℕ) (stack_low : rsp + 1032 ≤ 2 ^ 47) (block_low : rdi + 
   -- and what those of several slots leave
   record Went (new : ℕ → ℕ) (first n : ℕ) (c d : Core) : Type 0 where
     gpr : (r : ℕ) → r ≢ 0 → r ≢ 1 → d.gpr r ≡ c.gpr r
-    holds : (k : ℕ) → first ≤ k → k < first + n → word d.memory (rsp + base_word k) ≡ Some (new k)
-    others : (k : ℕ) → k < 14 → (k < first) ⊎ (first + n ≤ k) → word d.memory (rsp + base_word k) ≡ word c.memory (rsp + base_word k)
+    holds : (k : ℕ) → first ≤ k → k < first + n → word d.memory (rsp + row_slot k) ≡ Some (new k)
+    others : (k : ℕ) → k < 14 → (k < first) ⊎ (first + n ≤ k) → word d.memory (rsp + row_slot k) ≡ word c.memory (rsp + row_slot k)
     way : OnWay c d
 
   module _ (Q : Core → Ins → Type 0) (code : ℕ → List Ins) (new : ℕ → ℕ) where
     -- from each core after c at which the slot's word is still c's, its list writes it
     abbrev Writes : Core → ℕ → Type 0
-    Writes c k = (u : Core) → OnWay c u → word u.memory (rsp + base_word k) ≡ word c.memory (rsp + base_word k) → (d : Core) × Line Q (code k) u d × Slotted k (new k) u d
+    Writes c k = (u : Core) → OnWay c u → word u.memory (rsp + row_slot k) ≡ word c.memory (rsp + row_slot k) → (d : Core) × Line Q (code k) u d × Slotted k (new k) u d
 
     slots_line : (first n : ℕ) → first + n ≤ 12 → (c : Core) → c.gpr 4 ≡ rsp → c.gpr 7 ≡ rdi → ((k : ℕ) → first ≤ k → k < first + n → Writes c k) → (d : Core) × Line Q (slots_code code first n) c d × Went new first n c d
     slots_line first zero few c s b one = (c, refl, record { gpr = λ r x y. refl; holds = λ k l u. absurd (omega (arith, l, u)); others = λ k l o. refl; way = record { stack = s; block = b; outside = λ x out. refl; mapped = λ x h. h } })
@@ -163,7 +162,7 @@ module _ (rsp rdi : ℕ) (stack_low : rsp + 1032 ≤ 2 ^ 47) (block_low : rdi + 
           record {
             gpr = λ r p q. h.gpr r p q ∙ a.2.gpr r p q;
             holds = λ j l u. ⊎_elim
-                (λ e. subst (λ i. word x.0.memory (rsp + base_word i) ≡ Some (new i)) (sym e) h.holds)
+                (λ e. subst (λ i. word x.0.memory (rsp + row_slot i) ≡ Some (new i)) (sym e) h.holds)
                 (λ ne. slot_apart k j low (omega (arith, u, few)) (λ e. ne (sym e)) x.0.memory a.0.memory h.outside ∙ a.2.holds j l (omega (arith, u, ne)))
                 (cases_eq j k);
             others = λ j l o. slot_apart k j low l (λ e. ⊎_elim (λ p. omega (arith, p, e)) (λ p. omega (arith, p, e)) o) x.0.memory a.0.memory h.outside ∙ a.2.others j l (⊎_elim (λ p. inl p) (λ p. inr (omega (arith, p))) o);
@@ -174,8 +173,8 @@ module _ (rsp rdi : ℕ) (stack_low : rsp + 1032 ≤ 2 ^ 47) (block_low : rdi + 
     -- what the lists of all arrays leave
     pub record Renewed (dests sources : ℕ) (c d : Core) : Type 0 where
       pub gpr : (r : ℕ) → r ≢ 0 → r ≢ 1 → d.gpr r ≡ c.gpr r
-      pub holds : (k : ℕ) → IsSlot dests sources k → word d.memory (rsp + base_word k) ≡ Some (new k)
-      pub rows : word d.memory (rsp + rows_word) ≡ word c.memory (rsp + rows_word)
+      pub holds : (k : ℕ) → IsSlot dests sources k → word d.memory (rsp + row_slot k) ≡ Some (new k)
+      pub rows : word d.memory (rsp + rows_slot) ≡ word c.memory (rsp + rows_slot)
       pub way : OnWay c d
 
     arrays_line : (dests sources : ℕ) → dests ≤ 4 → sources ≤ 8 → (c : Core) → c.gpr 4 ≡ rsp → c.gpr 7 ≡ rdi → ((k : ℕ) → k < 12 → IsSlot dests sources k → Writes c k) → (d : Core) × Line Q (arrays_code code dests sources) c d × Renewed dests sources c d
@@ -202,8 +201,8 @@ module _ (rsp rdi : ℕ) (stack_low : rsp + 1032 ≤ 2 ^ 47) (block_low : rdi + 
   module _ (dests sources : ℕ) where
     -- what holds of a core before a row or after the last one: the words of slots, and the number of rows left
     pub record HasRows (base : ℕ → ℕ) (left : ℕ) (c : Core) : Type 0 where
-      pub bases : (k : ℕ) → IsSlot dests sources k → word c.memory (rsp + base_word k) ≡ Some (base k)
-      pub rows : word c.memory (rsp + rows_word) ≡ Some left
+      pub bases : (k : ℕ) → IsSlot dests sources k → word c.memory (rsp + row_slot k) ≡ Some (base k)
+      pub rows : word c.memory (rsp + rows_slot) ≡ Some left
       pub tests : test Ne c.flags ≡ Some (not (left == 0))
 
     -- what the lists around rows leave
@@ -228,7 +227,7 @@ module _ (rsp rdi : ℕ) (stack_low : rsp + 1032 ≤ 2 ^ 47) (block_low : rdi + 
 
   -- ---- before the first row
 
-  module _ (Q : Core → Ins → Type 0) (dests sources : ℕ) (few_dests : dests ≤ 4) (few_sources : sources ≤ 8) (apart : (x : ℕ) → InBlock x → InRows x → ⊥) where
+  module _ (Q : Core → Ins → Type 0) (dests sources : ℕ) (few_dests : dests ≤ 4) (few_sources : sources ≤ 8) (apart : (x : ℕ) → InBlock rdi x → InRows x → ⊥) where
     -- what lets Q be known at each step from c on
     abbrev pub Calmly : Core → Type 0
     Calmly c = (u : Core) (i : Ins) → OnWay c u → TouchesFew i u → Q u i
@@ -237,7 +236,7 @@ module _ (rsp rdi : ℕ) (stack_low : rsp + 1032 ≤ 2 ^ 47) (block_low : rdi + 
     calmly_on c d calmly h u i w t = calmly u i (way_on c d u h w) t
 
     -- at an instruction that touches a word of a slot, one of the block, or none
-    at_slot : (c : Core) → Calmly c → (k : ℕ) → k < 14 → (i : Ins) (u : Core) → OnWay c u → span i u ≡ (address u (away 4 (base_word k)), 8) → Q u i
+    at_slot : (c : Core) → Calmly c → (k : ℕ) → k < 14 → (i : Ins) (u : Core) → OnWay c u → span i u ≡ (address u (away 4 (row_slot k)), 8) → Q u i
     at_slot c calmly k l i u w e = calmly u i w (touch_slot k l i u w.stack e)
 
     at_block : (c : Core) → Calmly c → (d : ℕ) → d + 8 ≤ 304 → (i : Ins) (u : Core) → OnWay c u → span i u ≡ (address u (away 7 d), 8) → Q u i
@@ -250,15 +249,15 @@ module _ (rsp rdi : ℕ) (stack_low : rsp + 1032 ≤ 2 ^ 47) (block_low : rdi + 
     block_word : (c u : Core) → OnWay c u → (d v : ℕ) → d + 8 ≤ 304 → word c.memory (rdi + d) ≡ Some v → word u.memory (rdi + d) ≡ Some v
     block_word c u h d v w e = word_same u.memory c.memory (rdi + d) (omega (arith, block_low, w)) (λ x l m. h.outside x (λ r. apart x (omega (arith, l), omega (arith, m, w)) r)) ∙ e
 
-    base_line : (c : Core) (base : ℕ → ℕ) (k : ℕ) → k < 12 → Calmly c → ((x : ℕ) → InRows x → IsMapped c.memory x) → word c.memory (rdi + first_word k) ≡ Some (base k) → base k < 2 ^ 64
+    base_line : (c : Core) (base : ℕ → ℕ) (k : ℕ) → k < 12 → Calmly c → ((x : ℕ) → InRows x → IsMapped c.memory x) → word c.memory (rdi + base_word k) ≡ Some (base k) → base k < 2 ^ 64
         → (u : Core) → OnWay c u → (d : Core) × Line Q (base_code k) u d × Slotted k (base k) u d
     base_line c base k l calmly there e small u h =
         let v = base k in
         let u1 : Core = with_gpr u 0 v in
-        let loads : work (Load 0 (away 7 (first_word k))) u ≡ Ok u1 = load_word u 0 7 rdi (first_word k) v h.block (omega (arith, block_low, l)) (block_word c u h (first_word k) v (omega (arith, l)) e) in
+        let loads : work (Load 0 (away 7 (base_word k))) u ≡ Ok u1 = load_word u 0 7 rdi (base_word k) v h.block (omega (arith, block_low, l)) (block_word c u h (base_word k) v (omega (arith, l)) e) in
         let s = store_slot k (omega (arith, l)) u1 h.stack small (λ x r. h.mapped x (there x r)) in (
           stored k u1,
-          (at_block c calmly (first_word k) (omega (arith, l)) _ u h refl, (u1, loads, (at_slot c calmly k (omega (arith, l)) _ u1 (way_with c u u1 h refl refl refl) refl, (stored k u1, s.works, refl)))),
+          (at_block c calmly (base_word k) (omega (arith, l)) _ u h refl, (u1, loads, (at_slot c calmly k (omega (arith, l)) _ u1 (way_with c u u1 h refl refl refl) refl, (stored k u1, s.works, refl)))),
           record { gpr = λ r p q. change_other u.gpr 0 v r p; holds = s.holds; outside = s.outside; mapped = s.mapped },
         )
 
@@ -277,7 +276,7 @@ module _ (rsp rdi : ℕ) (stack_low : rsp + 1032 ≤ 2 ^ 47) (block_low : rdi + 
     number_calm c calmly false u w = at_none c calmly _ u w refl
 
     count_line : (two_d : Bool) (m : ℕ) (base : ℕ → ℕ) (c : Core) → Calmly c → ((x : ℕ) → InRows x → IsMapped c.memory x) → word c.memory (rdi + 8) ≡ Some m → (if two_d then m else 1) < 2 ^ 64
-        → (u : Core) → OnWay c u → ((k : ℕ) → IsSlot dests sources k → word u.memory (rsp + base_word k) ≡ Some (base k)) → (d : Core) × Line Q (count_code two_d) u d × Passed dests sources base (if two_d then m else 1) u d
+        → (u : Core) → OnWay c u → ((k : ℕ) → IsSlot dests sources k → word u.memory (rsp + row_slot k) ≡ Some (base k)) → (d : Core) × Line Q (count_code two_d) u d × Passed dests sources base (if two_d then m else 1) u d
     count_line two_d m base c calmly there word_m small u h bases =
         let v = if two_d then m else 1 in
         let u1 : Core = with_gpr u 0 v in
@@ -302,7 +301,7 @@ module _ (rsp rdi : ℕ) (stack_low : rsp + 1032 ≤ 2 ^ 47) (block_low : rdi + 
 
     -- the words of slots become the arrays' bases, and the number of rows is left
     pub rows_line : (two_d : Bool) (m : ℕ) (base : ℕ → ℕ) (c : Core) → c.gpr 4 ≡ rsp → c.gpr 7 ≡ rdi → Calmly c → ((x : ℕ) → InRows x → IsMapped c.memory x)
-        → ((k : ℕ) → IsSlot dests sources k → word c.memory (rdi + first_word k) ≡ Some (base k)) → ((k : ℕ) → IsSlot dests sources k → base k < 2 ^ 64) → word c.memory (rdi + 8) ≡ Some m → (if two_d then m else 1) < 2 ^ 64
+        → ((k : ℕ) → IsSlot dests sources k → word c.memory (rdi + base_word k) ≡ Some (base k)) → ((k : ℕ) → IsSlot dests sources k → base k < 2 ^ 64) → word c.memory (rdi + 8) ≡ Some m → (if two_d then m else 1) < 2 ^ 64
         → (d : Core) × Line Q (rows_code two_d dests sources) c d × Passed dests sources base (if two_d then m else 1) c d
     rows_line two_d m base c s b calmly there words small word_m few =
         let a = arrays_line Q base_code base dests sources few_dests few_sources c s b (λ k l t u h e. base_line c base k l calmly there (words k t) (small k t) u h) in
@@ -318,7 +317,7 @@ module _ (rsp rdi : ℕ) (stack_low : rsp + 1032 ≤ 2 ^ 47) (block_low : rdi + 
     still : (c u : Core) → c.gpr 4 ≡ rsp → c.gpr 7 ≡ rdi → u.memory ≡ c.memory → u.gpr 4 ≡ c.gpr 4 → u.gpr 7 ≡ c.gpr 7 → OnWay c u
     still c u s b m e g = record { stack = e ∙ s; block = g ∙ b; outside = λ x out. ap (λ f. f x) m; mapped = λ x h. subst (λ f. IsMapped f x) (sym m) h }
 
-    pointers_line : (base : ℕ → ℕ) (first n : ℕ) → first + n ≤ 12 → (c : Core) → c.gpr 4 ≡ rsp → c.gpr 7 ≡ rdi → Calmly c → ((k : ℕ) → first ≤ k → k < first + n → word c.memory (rsp + base_word k) ≡ Some (base k))
+    pointers_line : (base : ℕ → ℕ) (first n : ℕ) → first + n ≤ 12 → (c : Core) → c.gpr 4 ≡ rsp → c.gpr 7 ≡ rdi → Calmly c → ((k : ℕ) → first ≤ k → k < first + n → word c.memory (rsp + row_slot k) ≡ Some (base k))
         → (d : Core) × Line Q (slots_code pointer_code first n) c d × Pointed base first n c d
     pointers_line base first zero few c s b calmly words = (c, refl, record { pointers = λ k l u. absurd (omega (arith, l, u)); others = λ r h. refl; memory = refl })
     pointers_line base first (suc n) few c s b calmly words =
@@ -329,8 +328,8 @@ module _ (rsp rdi : ℕ) (stack_low : rsp + 1032 ≤ 2 ^ 47) (block_low : rdi + 
         let stack : u.gpr 4 ≡ c.gpr 4 = a.2.others 4 (λ j l m e. not_4 j (sym e)) in
         let block : u.gpr 7 ≡ c.gpr 7 = a.2.others 7 (λ j l m e. not_7 j (sym e)) in
         let d : Core = with_gpr u (pointer k) (base k) in
-        let loads : work (Load (pointer k) (away 4 (base_word k))) u ≡ Ok d = load_word u (pointer k) 4 rsp (base_word k) (base k) (stack ∙ s) (omega (arith, slot_low k low)) (ap (λ m. word m (rsp + base_word k)) a.2.memory ∙ words k (omega arith) (omega arith)) in
-        let calm : Q u (Load (pointer k) (away 4 (base_word k))) = at_slot c calmly k low _ u (still c u s b a.2.memory stack block) refl in (
+        let loads : work (Load (pointer k) (away 4 (row_slot k))) u ≡ Ok d = load_word u (pointer k) 4 rsp (row_slot k) (base k) (stack ∙ s) (omega (arith, slot_low k low)) (ap (λ m. word m (rsp + row_slot k)) a.2.memory ∙ words k (omega arith) (omega arith)) in
+        let calm : Q u (Load (pointer k) (away 4 (row_slot k))) = at_slot c calmly k low _ u (still c u s b a.2.memory stack block) refl in (
           d,
           line_append Q (slots_code pointer_code first n) (pointer_code k) c u d a.1 (calm, (d, loads, refl)),
           record {
@@ -344,7 +343,7 @@ module _ (rsp rdi : ℕ) (stack_low : rsp + 1032 ≤ 2 ^ 47) (block_low : rdi + 
         )
 
     -- the pointers become the words of slots, and the counter the number of elements
-    pub row_entry_line : (base : ℕ → ℕ) (n : ℕ) (c : Core) → c.gpr 4 ≡ rsp → c.gpr 7 ≡ rdi → Calmly c → ((k : ℕ) → IsSlot dests sources k → word c.memory (rsp + base_word k) ≡ Some (base k)) → word c.memory rdi ≡ Some n
+    pub row_entry_line : (base : ℕ → ℕ) (n : ℕ) (c : Core) → c.gpr 4 ≡ rsp → c.gpr 7 ≡ rdi → Calmly c → ((k : ℕ) → IsSlot dests sources k → word c.memory (rsp + row_slot k) ≡ Some (base k)) → word c.memory rdi ≡ Some n
         → (d : Core) × Line Q (row_entry_code dests sources) c d × RowEntered dests sources base n c d
     row_entry_line base n c s b calmly words word_n =
         let a = pointers_line base 0 dests (omega (arith, few_dests)) c s b calmly (λ k l u. words k (inl (omega (arith, u)))) in
@@ -352,7 +351,7 @@ module _ (rsp rdi : ℕ) (stack_low : rsp + 1032 ≤ 2 ^ 47) (block_low : rdi + 
         let stack_a : a.0.gpr 4 ≡ c.gpr 4 = apart_a 4 (λ k e. not_4 k (sym e)) in
         let block_a : a.0.gpr 7 ≡ c.gpr 7 = apart_a 7 (λ k e. not_7 k (sym e)) in
         let calmly_a = calmly_on c a.0 calmly (still c a.0 s b a.2.memory stack_a block_a) in
-        let z = pointers_line base 4 sources (omega (arith, few_sources)) a.0 (stack_a ∙ s) (block_a ∙ b) calmly_a (λ k l u. ap (λ m. word m (rsp + base_word k)) a.2.memory ∙ words k (inr (l, u))) in
+        let z = pointers_line base 4 sources (omega (arith, few_sources)) a.0 (stack_a ∙ s) (block_a ∙ b) calmly_a (λ k l u. ap (λ m. word m (rsp + row_slot k)) a.2.memory ∙ words k (inr (l, u))) in
         let u = z.0 in
         let apart_z : (r : ℕ) → ((k : ℕ) → r ≢ pointer k) → u.gpr r ≡ c.gpr r = λ r ne. z.2.others r (λ k l m. ne k) ∙ apart_a r ne in
         let memory : u.memory ≡ c.memory = z.2.memory ∙ a.2.memory in
@@ -384,8 +383,8 @@ module _ (rsp rdi : ℕ) (stack_low : rsp + 1032 ≤ 2 ^ 47) (block_low : rdi + 
 
     -- ---- the end of a row
 
-    stride_line : (c : Core) (base stride : ℕ → ℕ) (k : ℕ) → k < 12 → Calmly c → ((x : ℕ) → InRows x → IsMapped c.memory x) → word c.memory (rsp + base_word k) ≡ Some (base k) → word c.memory (rdi + stride_word k) ≡ Some (stride k)
-        → (u : Core) → OnWay c u → word u.memory (rsp + base_word k) ≡ word c.memory (rsp + base_word k) → (d : Core) × Line Q (stride_code k) u d × Slotted k ((base k + stride k) % 2 ^ 64) u d
+    stride_line : (c : Core) (base stride : ℕ → ℕ) (k : ℕ) → k < 12 → Calmly c → ((x : ℕ) → InRows x → IsMapped c.memory x) → word c.memory (rsp + row_slot k) ≡ Some (base k) → word c.memory (rdi + stride_word k) ≡ Some (stride k)
+        → (u : Core) → OnWay c u → word u.memory (rsp + row_slot k) ≡ word c.memory (rsp + row_slot k) → (d : Core) × Line Q (stride_code k) u d × Slotted k ((base k + stride k) % 2 ^ 64) u d
     stride_line c base stride k l calmly there base_is stride_is u h same =
         let v = base k in
         let s = stride k in
@@ -395,7 +394,7 @@ module _ (rsp rdi : ℕ) (stack_low : rsp + 1032 ≤ 2 ^ 47) (block_low : rdi + 
         let w1 = way_with c u u1 h refl refl refl in
         let w2 = way_with c u u2 h refl refl refl in
         let w3 = way_with c u u3 h refl refl refl in
-        let first : work (Load 0 (away 4 (base_word k))) u ≡ Ok u1 = load_word u 0 4 rsp (base_word k) v h.stack (omega (arith, slot_low k (omega (arith, l)))) (same ∙ base_is) in
+        let first : work (Load 0 (away 4 (row_slot k))) u ≡ Ok u1 = load_word u 0 4 rsp (row_slot k) v h.stack (omega (arith, slot_low k (omega (arith, l)))) (same ∙ base_is) in
         let second : work (Load 1 (away 7 (stride_word k))) u1 ≡ Ok u2 = load_word u1 1 7 rdi (stride_word k) s h.block (omega (arith, block_low, l)) (block_word c u h (stride_word k) s (omega (arith, l)) stride_is) in
         let fits : (v + s) % 2 ^ 64 < 2 ^ 64 = omega arith in
         let x = store_slot k (omega (arith, l)) u3 h.stack fits (λ x r. h.mapped x (there x r)) in (
@@ -405,7 +404,7 @@ module _ (rsp rdi : ℕ) (stack_low : rsp + 1032 ≤ 2 ^ 47) (block_low : rdi + 
         )
 
     one_less_line : (base : ℕ → ℕ) (left : ℕ) (c : Core) → Calmly c → ((x : ℕ) → InRows x → IsMapped c.memory x) → suc left < 2 ^ 64
-        → (u : Core) → OnWay c u → word u.memory (rsp + rows_word) ≡ Some (suc left) → ((k : ℕ) → IsSlot dests sources k → word u.memory (rsp + base_word k) ≡ Some (base k)) → (d : Core) × Line Q one_less_code u d × Passed dests sources base left u d
+        → (u : Core) → OnWay c u → word u.memory (rsp + rows_slot) ≡ Some (suc left) → ((k : ℕ) → IsSlot dests sources k → word u.memory (rsp + row_slot k) ≡ Some (base k)) → (d : Core) × Line Q one_less_code u d × Passed dests sources base left u d
     one_less_line base left c calmly there small u h rows bases =
         let u1 : Core = with_gpr u 0 (suc left) in
         let new = alu_result Sub (suc left) (wrap 64 (pos 1)) in
@@ -413,7 +412,7 @@ module _ (rsp rdi : ℕ) (stack_low : rsp + 1032 ≤ 2 ^ 47) (block_low : rdi + 
         let u2 : Core = alu_core Sub u1 0 (wrap 64 (pos 1)) in
         let w1 = way_with c u u1 h refl refl refl in
         let w2 = way_with c u u2 h refl refl refl in
-        let first : work (Load 0 (away 4 rows_word)) u ≡ Ok u1 = load_word u 0 4 rsp rows_word (suc left) h.stack (omega (arith, stack_low)) rows in
+        let first : work (Load 0 (away 4 rows_slot)) u ≡ Ok u1 = load_word u 0 4 rsp rows_slot (suc left) h.stack (omega (arith, stack_low)) rows in
         let s = store_slot 13 (omega arith) u2 h.stack (omega (arith, new_is, small)) (λ x r. h.mapped x (there x r)) in
         let d = stored 13 u2 in (
           d,
@@ -431,7 +430,7 @@ module _ (rsp rdi : ℕ) (stack_low : rsp + 1032 ≤ 2 ^ 47) (block_low : rdi + 
 
     -- the words of slots go on by the arrays' strides, and one row less is left
     pub row_step_line : (base stride : ℕ → ℕ) (left : ℕ) (c : Core) → c.gpr 4 ≡ rsp → c.gpr 7 ≡ rdi → Calmly c → ((x : ℕ) → InRows x → IsMapped c.memory x)
-        → ((k : ℕ) → IsSlot dests sources k → word c.memory (rsp + base_word k) ≡ Some (base k)) → ((k : ℕ) → IsSlot dests sources k → word c.memory (rdi + stride_word k) ≡ Some (stride k)) → word c.memory (rsp + rows_word) ≡ Some (suc left) → suc left < 2 ^ 64
+        → ((k : ℕ) → IsSlot dests sources k → word c.memory (rsp + row_slot k) ≡ Some (base k)) → ((k : ℕ) → IsSlot dests sources k → word c.memory (rdi + stride_word k) ≡ Some (stride k)) → word c.memory (rsp + rows_slot) ≡ Some (suc left) → suc left < 2 ^ 64
         → (d : Core) × Line Q (row_step_code dests sources) c d × Passed dests sources (λ k. (base k + stride k) % 2 ^ 64) left c d
     row_step_line base stride left c s b calmly there bases strides rows small =
         let a = arrays_line Q stride_code (λ k. (base k + stride k) % 2 ^ 64) dests sources few_dests few_sources c s b (λ k l t u h e. stride_line c base stride k l calmly there (bases k t) (strides k t) u h e) in

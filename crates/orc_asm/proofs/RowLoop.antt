@@ -1,5 +1,5 @@
 -- The loop over the rows, from what one row's elements do.
-use Rattle.std.proofs.Common.{◌≡◌, ℕ, suc, ◌+◌, ◌-◌, ◌*◌, ◌^◌, ◌<◌, ◌≤◌, ◌==◌, not, List, [], ◌∷◌, ◌++◌, length, Some, Ok, refl, sym, ap, ◌∙◌, subst, arith, length-append, ◌⊎◌, inl, inr, ⊎_elim}
+use Rattle.std.proofs.Common.{◌≡◌, ℕ, suc, ◌+◌, ◌*◌, ◌^◌, ◌<◌, ◌≤◌, ◌==◌, not, Bool, false, List, [], ◌∷◌, ◌++◌, length, Some, Ok, refl, sym, ap, ◌∙◌, subst, arith, length-append, ◌⊎◌, inl, inr, ⊎_elim}
 use Rattle.orc_bits.specs.Memory.{word, IsMapped}
 use Rattle.orc_program.specs.declared.program.VarKind.TheVariants as kind
 use Rattle.orc_program.specs.Program.{FunctionValue, count_of}
@@ -10,42 +10,49 @@ use Rattle.x86_ins.specs.declared.ins.Ins.TheVariants.{Jump, JumpIf}
 use Rattle.x86_ins.specs.Machine.{Core, Point, Bounded, Touches, test}
 use Rattle.x86_ins.specs.Way.{Placed}
 use Rattle.x86_flow.specs.Flow.{Flow, Repeat}
-use Rattle.x86_flow.proofs.Flow.{Line, AtJump, Does}
+use Rattle.x86_flow.specs.Does.{Line, AtJump, Does}
 use Rattle.x86_flow.proofs.Frame.{word_same}
-use Rattle.x86_flow.proofs.Plans.{weigh, counted_loop}
-use Rattle.orc_asm.specs.Subject.{Call as Arguments, rows}
-use Rattle.orc_asm.specs.RunsAs.{GoodCall, InFrame}
-use Rattle.orc_asm.specs.Function.{IsCellByte, subject_of}
+use Rattle.x86_flow.proofs.Plans.{weigh, weigh_append, counted_loop}
+use Rattle.x86_flow.specs.Touching.{touch_weight}
+use Rattle.orc_frame.specs.Subject.{Call as Arguments, InDests, rows}
+use Rattle.orc_frame.specs.Parts.{InFrame, InBlock, base_word, stride_word}
+use Rattle.orc_frame.specs.GoodCall.{GoodCall, lowered}
+use Rattle.orc_frame.specs.Function.{IsCellByte, subject_of}
 use Rattle.orc_asm.specs.Code.{pointer}
-use Rattle.orc_asm.specs.Rows.{base_word, first_word, stride_word, rows_code, row_entry_code, row_step_code, row_flow}
+use Rattle.orc_frame.specs.Layout.{row_slot}
+use Rattle.orc_asm.specs.Rows.{rows_code, row_entry_code, row_step_code, row_flow}
 use Rattle.orc_asm.proofs.Registers.{not_4, not_7}
 use Rattle.orc_asm.proofs.Keeping.{line_bounded, ins_of}
 use Rattle.orc_asm.proofs.RowsEmulated.{more_rows}
-use Rattle.orc_asm.proofs.RowCells.{Arrays, call, P, row_base, base_small, first_base, next_base, rows_small, cell_block}
-use Rattle.orc_asm.proofs.RowCounts.{fine_rows, fine_row_entry, fine_row_step, row_entry_count, row_step_count}
-use Rattle.orc_asm.proofs.RowLines.{InRows, InBlock, OnWay, TouchesFew, HasRows, rows_line, row_entry_line, row_step_line}
+use Rattle.orc_asm.proofs.RowCells.{Arrays, call, P, row_base, base_small, first_base, next_base, rows_small, dest_cell, cell_block}
+use Rattle.orc_asm.proofs.RowCounts.{fine_rows, fine_row_entry, fine_row_step, row_entry_count, row_step_count, row_entry_free, row_step_free}
+use Rattle.orc_asm.proofs.RowLines.{InRows, OnWay, TouchesFew, HasRows, rows_line, row_entry_line, row_step_line}
 
 weigh_one : (l : List Ins) → weigh (λ i. 1) l ≡ length l
 weigh_one [] = refl
 weigh_one (i ∷ l) = omega (arith, weigh_one l)
 
-weigh_none : (l : List Ins) → weigh (λ i. 0) l ≡ 0
-weigh_none [] = refl
-weigh_none (i ∷ l) = omega (arith, weigh_none l)
+-- between two lists that weigh nothing
+pub between : (v : Ins → ℕ) (a b c : List Ins) (some : ℕ) → weigh v a ≡ 0 → weigh v c ≡ 0 → weigh v b ≤ some → weigh v (a ++ (b ++ c)) ≤ some
+between v a b c some ea ec l = omega (arith, weigh_append v a (b ++ c), weigh_append v b c, ea, ec, l)
 
 module _ (f : FunctionValue) (known : Arrays f) (code : Placed) (s : Point) (args : Arguments) (back : ℕ) (good : GoodCall (subject_of f) code s args back) where
   -- the lowered RSP, and the block's address
   abbrev pub rsp : ℕ
-  rsp = s.core.gpr 4 - 1024
+  rsp = lowered s.core
 
   abbrev pub rdi : ℕ
   rdi = s.core.gpr 7
 
   abbrev pub Frame : ℕ → Type 0
-  Frame = InFrame (subject_of f) s.core
+  Frame = InFrame rsp
 
   abbrev pub Cell : ℕ → Type 0
   Cell = IsCellByte f (call f known code s args back good)
+
+  -- the addresses of dests' cells
+  abbrev pub Dests : ℕ → Type 0
+  Dests = InDests (subject_of f) args
 
   abbrev pub dests : ℕ
   dests = count_of kind.Dest f.vars
@@ -60,9 +67,9 @@ module _ (f : FunctionValue) (known : Arrays f) (code : Placed) (s : Point) (arg
   stack_low = (let a = good.frame_room in let b = good.return_low in omega (arith, a, b))
 
   in_frame : (x : ℕ) → InRows rsp rdi stack_low good.block_low x → Frame x
-  in_frame x h = (let a = good.frame_room in (omega (arith, a, h.1), omega (arith, a, h.0)))
+  in_frame x h = (omega (arith, h.0), omega (arith, h.1))
 
-  pub block_apart : (x : ℕ) → InBlock rsp rdi stack_low good.block_low x → InRows rsp rdi stack_low good.block_low x → ⊥
+  pub block_apart : (x : ℕ) → InBlock rdi x → InRows rsp rdi stack_low good.block_low x → ⊥
   block_apart x b r = (good.disjoint.block x b).1 (in_frame x r)
 
   -- Kept is what else holds between rows: of a state of emulation, and of the frame but for the words of slots
@@ -71,7 +78,7 @@ module _ (f : FunctionValue) (known : Arrays f) (code : Placed) (s : Point) (arg
     pub record Steady (e : State) (c : Core) : Type 0 where
       pub stack : c.gpr 4 ≡ rsp
       pub block : c.gpr 7 ≡ rdi
-      pub quiet : (a : ℕ) → (Cell a → ⊥) → (Frame a → ⊥) → c.memory a ≡ s.core.memory a
+      pub quiet : (a : ℕ) → (Dests a → ⊥) → (Frame a → ⊥) → c.memory a ≡ s.core.memory a
       pub agree : (a : ℕ) → (Frame a → ⊥) → c.memory a ≡ e.memory a
       pub mapped : (a : ℕ) → Cell a → IsMapped e.memory a
       pub frame : (a : ℕ) → Frame a → IsMapped c.memory a
@@ -98,7 +105,7 @@ module _ (f : FunctionValue) (known : Arrays f) (code : Placed) (s : Point) (arg
       pub steady : Steady e c
       pub has : HasRows rsp rdi stack_low good.block_low dests sources (slot_base r) left c
 
-    module _ (Q : Core → Ins → Type 0) (calmly : (u : Core) (i : Ins) → u.gpr 4 ≡ rsp → ((a : ℕ) → (Cell a → ⊥) → (Frame a → ⊥) → u.memory a ≡ s.core.memory a) → ((a : ℕ) → Touches i u a → Frame a ⊎ InBlock rsp rdi stack_low good.block_low a) → Q u i)
+    module _ (Q : Core → Ins → Type 0) (calmly : (u : Core) (i : Ins) → u.gpr 4 ≡ rsp → ((a : ℕ) → (Dests a → ⊥) → (Frame a → ⊥) → u.memory a ≡ s.core.memory a) → ((a : ℕ) → Touches i u a → Frame a ⊎ InBlock rdi a) → Q u i)
         (kept_on : (e : State) (c d : Core) → Kept e c → ((x : ℕ) → (InRows rsp rdi stack_low good.block_low x → ⊥) → d.memory x ≡ c.memory x) → Kept e d) where
       on_way : (e : State) (c u : Core) → Steady e c → OnWay rsp rdi stack_low good.block_low c u → Bounded u → Steady e u
       on_way e c u h w b = record {
@@ -120,12 +127,12 @@ module _ (f : FunctionValue) (known : Arrays f) (code : Placed) (s : Point) (arg
       block_word e c h d v w q =
           let low = good.block_low in
           word_same c.memory s.core.memory (rdi + d) (omega (arith, low, w))
-          (λ x l u. let b : InBlock rsp rdi stack_low low x = (omega (arith, l), omega (arith, u, w)) in h.quiet x (λ t. cell_block f known code s args back good x t b) (λ t. (good.disjoint.block x b).1 t))
+          (λ x l u. let b : InBlock rdi x = (omega (arith, l), omega (arith, u, w)) in h.quiet x (λ t. cell_block f known code s args back good x (dest_cell f known code s args back good x t) b) (λ t. (good.disjoint.block x b).1 t))
           ∙ q
 
       -- the words of slots after the elements
-      slot_word : (c d : Core) → ((x : ℕ) → InRows rsp rdi stack_low good.block_low x → d.memory x ≡ c.memory x) → (k v : ℕ) → k < 14 → word c.memory (rsp + base_word k) ≡ Some v → word d.memory (rsp + base_word k) ≡ Some v
-      slot_word c d same k v l q = word_same d.memory c.memory (rsp + base_word k) (omega (arith, stack_low, l)) (λ x a b. same x (omega (arith, a), omega (arith, b, l))) ∙ q
+      slot_word : (c d : Core) → ((x : ℕ) → InRows rsp rdi stack_low good.block_low x → d.memory x ≡ c.memory x) → (k v : ℕ) → k < 14 → word c.memory (rsp + row_slot k) ≡ Some v → word d.memory (rsp + row_slot k) ≡ Some v
+      slot_word c d same k v l q = word_same d.memory c.memory (rsp + row_slot k) (omega (arith, stack_low, l)) (λ x a b. same x (omega (arith, a), omega (arith, b, l))) ∙ q
 
       slot_few : (k : ℕ) → P f known code s args back good k → k < 12
       slot_few k (inl h) = (let a = known.few.dests in omega (arith, h, a))
@@ -137,7 +144,7 @@ module _ (f : FunctionValue) (known : Arrays f) (code : Placed) (s : Point) (arg
           let e = start s.core.memory in
           let a = rows_line rsp rdi stack_low good.block_low Q dests sources known.few.dests known.few.sources block_apart f.two_d args.m args.base c h.stack h.block (calm e c h)
           (λ y i. h.frame y (in_frame y i))
-          (λ k p. block_word e c h (first_word k) (args.base k) (in_block k (slot_few k p)) (ap (λ t. word s.core.memory t) (assoc rdi k) ∙ good.reads.bases k p))
+          (λ k p. block_word e c h (base_word k) (args.base k) (in_block k (slot_few k p)) (good.reads.bases k p))
           (base_small f known code s args back good)
           (block_word e c h 8 args.m (omega arith) good.reads.m)
           (few_rows (rows (subject_of f) args) (rows_small f known code s args back good)) in
@@ -152,11 +159,8 @@ module _ (f : FunctionValue) (known : Arrays f) (code : Placed) (s : Point) (arg
             },
           )
         where
-          in_block : (k : ℕ) → k < 12 → first_word k + 8 ≤ 304
+          in_block : (k : ℕ) → k < 12 → base_word k + 8 ≤ 304
           in_block k l = omega (arith, l)
-
-          assoc : (a k : ℕ) → a + first_word k ≡ a + 16 + 16 * k
-          assoc a k = omega arith
 
           few_rows : (m : ℕ) → m < 2 ^ 31 → m < 2 ^ 64
           few_rows m l = omega (arith, l)
@@ -187,7 +191,7 @@ module _ (f : FunctionValue) (known : Arrays f) (code : Placed) (s : Point) (arg
           let a = row_step_line rsp rdi stack_low good.block_low Q dests sources known.few.dests known.few.sources block_apart (slot_base r) args.stride left d x.steady.stack x.steady.block (calm t d x.steady)
           (λ y i. x.steady.frame y (in_frame y i))
           (λ k p. slot_word c d slots k (slot_base r k) (few_more k (slot_few k p)) (h.has.bases k p))
-          (λ k p. block_word t d x.steady (stride_word k) (args.stride k) (in_block k (slot_few k p)) (ap (λ t. word s.core.memory t) (assoc rdi k) ∙ good.reads.strides k p))
+          (λ k p. block_word t d x.steady (stride_word k) (args.stride k) (in_block k (slot_few k p)) (good.reads.strides k p))
           (slot_word c d slots 13 (suc left) (omega arith) h.has.rows)
           (few_left left r (rows (subject_of f) args) h.all (rows_small f known code s args back good)) in
           let v = a.0 in
@@ -212,22 +216,19 @@ module _ (f : FunctionValue) (known : Arrays f) (code : Placed) (s : Point) (arg
           in_block : (k : ℕ) → k < 12 → stride_word k + 8 ≤ 304
           in_block k l = omega (arith, l)
 
-          assoc : (a k : ℕ) → a + stride_word k ≡ a + 24 + 16 * k
-          assoc a k = omega arith
-
           few_left : (left r m : ℕ) → suc left + r ≡ m → m < 2 ^ 31 → suc left < 2 ^ 64
           few_left left r m e l = omega (arith, e, l)
 
           one_more : (left r m : ℕ) → suc left + r ≡ m → left + suc r ≡ m
           one_more left r m e = omega (arith, e)
 
-      -- elements does a row's elements in at most so many instructions
-      module _ (elements : Flow) (each : ℕ)
-          (does : (r : ℕ) (e : State) (c : Core) → r < rows (subject_of f) args → Ready r e c → (t : State) × (done : List Ins) × (d : Core) × Does Q elements c done d × Ended r e t c d × (length done ≤ each)) where
+      -- elements does a row's elements in at most so many instructions, of which so many go by the registers `by`
+      module _ (elements : Flow) (each : ℕ) (by : ℕ → Bool) (by_stack : by 4 ≡ false) (by_block : by 7 ≡ false) (some : ℕ)
+          (does : (r : ℕ) (e : State) (c : Core) → r < rows (subject_of f) args → Ready r e c → (t : State) × (done : List Ins) × (d : Core) × Does Q elements c done d × Ended r e t c d × (length done ≤ each) × (weigh (touch_weight by) done ≤ some)) where
         abbrev per_row : ℕ
         per_row = each + 5 * (dests + sources) + 5
 
-        one_row : (r left : ℕ) (e : State) (c : Core) → At r (suc left) e c → (t : State) × (done : List Ins) × (d : Core) × Does Q (row_flow elements dests sources) c done d × At (suc r) left t d × (length done ≤ per_row)
+        one_row : (r left : ℕ) (e : State) (c : Core) → At r (suc left) e c → (t : State) × (done : List Ins) × (d : Core) × Does Q (row_flow elements dests sources) c done d × At (suc r) left t d × (length done ≤ per_row) × (weigh (touch_weight by) done ≤ some)
         one_row r left e c h =
             let a = enter r (suc left) e c h in
             let b = does r e a.0 (below left r (rows (subject_of f) args) h.all) a.2 in
@@ -240,6 +241,7 @@ module _ (f : FunctionValue) (known : Arrays f) (code : Placed) (s : Point) (arg
               (first, b.1 ++ last, a.0, (a.1, refl), (b.1, last, b.2, b.3, (z.1, refl), refl), refl),
               z.2,
               omega (arith, length-append first (b.1 ++ last), length-append b.1 last, row_entry_count dests sources, row_step_count dests sources, b.5),
+              between (touch_weight by) first b.1 last some (row_entry_free by by_stack by_block dests sources) (row_step_free by by_stack by_block dests sources) b.6,
             )
           where
             below : (left r m : ℕ) → suc left + r ≡ m → r < m
@@ -254,17 +256,18 @@ module _ (f : FunctionValue) (known : Arrays f) (code : Placed) (s : Point) (arg
         jumps : (m : ℕ) (c : Core) → Left m c → AtJump Q c
         jumps m c h = (λ q rel. calmly c (JumpIf q rel) h.at.steady.stack h.at.steady.quiet (λ a t. absurd (omega (arith, t.1))), λ rel. calmly c (Jump rel) h.at.steady.stack h.at.steady.quiet (λ a t. absurd (omega (arith, t.1))))
 
-        turn : (m : ℕ) (c : Core) → Left (suc m) c → (done : List Ins) × (d : Core) × Does Q (row_flow elements dests sources) c done d × Left m d × (weigh (λ i. 1) done ≤ per_row) × (weigh (λ i. 0) done ≤ 0)
+        turn : (m : ℕ) (c : Core) → Left (suc m) c → (done : List Ins) × (d : Core) × Does Q (row_flow elements dests sources) c done d × Left m d × (weigh (λ i. 1) done ≤ per_row) × (weigh (touch_weight by) done ≤ some)
         turn m c h =
             let x = one_row h.r m h.e c h.at in
-            (x.1, x.2, x.3, record { r = suc h.r; e = x.0; at = x.4 }, omega (arith, weigh_one x.1, x.5), omega (arith, weigh_none x.1))
+            (x.1, x.2, x.3, record { r = suc h.r; e = x.0; at = x.4 }, omega (arith, weigh_one x.1, x.5), x.6)
 
         -- all rows are done
         pub rows_done : (e : State) (c : Core) → At 0 (rows (subject_of f) args) e c
             → (t : State) × (done : List Ins) × (d : Core) × Does Q (Repeat Ne (row_flow elements dests sources)) c done d × At (rows (subject_of f) args) 0 t d × (length done ≤ 1 + rows (subject_of f) args * (2 + (each + 5 * (dests + sources) + 5)))
+            × (weigh (touch_weight by) done ≤ rows (subject_of f) args * some)
         rows_done e c h =
             let m = rows (subject_of f) args in
-            let x = counted_loop Q Ne (row_flow elements dests sources) Left (λ i. 1) (λ i. 0) per_row 0 (λ q rel. refl, λ rel. refl) (λ q rel. refl, λ rel. refl) jumps (λ n c h. h.at.has.tests) turn m c (record { r = 0; e = e; at = h }) in
+            let x = counted_loop Q Ne (row_flow elements dests sources) Left (λ i. 1) (touch_weight by) per_row some (λ q rel. refl, λ rel. refl) (λ q rel. refl, λ rel. refl) jumps (λ n c h. h.at.has.tests) turn m c (record { r = 0; e = e; at = h }) in
             let last = x.3 in
             let all : last.r ≡ m = omega (arith, last.at.all) in
-            (last.e, x.0, x.1, x.2, subst (λ r. At r 0 last.e x.1) all last.at, omega (arith, x.4, weigh_one x.0))
+            (last.e, x.0, x.1, x.2, subst (λ r. At r 0 last.e x.1) all last.at, omega (arith, x.4, weigh_one x.0), x.5)

@@ -11,7 +11,8 @@ use Rattle.x86_flow.proofs.Spelled.{all_spelled}
 use Rattle.x86_flow.specs.Moves.{away}
 use Rattle.orc_asm.specs.declared.rows.SlotCode.{SlotCode}
 use Rattle.orc_asm.specs.declared.rows.SlotCode.TheVariants as for_slot
-use Rattle.orc_asm.specs.Rows.{rows_word, slot_code, slots_code, arrays_code, number_code, rows_code, row_entry_code, row_step_code, turns_flow, row_flow}
+use Rattle.orc_frame.specs.Layout.{rows_slot}
+use Rattle.orc_asm.specs.Rows.{slot_code, slots_code, arrays_code, number_code, rows_code, row_entry_code, row_step_code, turns_flow, row_flow}
 use Rattle.orc_asm.proofs.RowCounts.{fine_rows, fine_row_entry, fine_row_step, row_bytes, loop_bytes}
 
 pub slots_none : (base : List Ins) (what : SlotCode) (first : ℕ) → base ≡ base ++ slots_code (slot_code what) first 0
@@ -31,17 +32,17 @@ two a b c i j p q = q ∙ ap (λ l. l ++ j ∷ []) p ∙ append_assoc a (i ∷ [
 three : (a b c d : List Ins) (i j k : Ins) → b ≡ a ++ i ∷ [] → c ≡ b ++ j ∷ [] → d ≡ c ++ k ∷ [] → d ≡ a ++ i ∷ j ∷ k ∷ []
 three a b c d i j k p q r = r ∙ ap (λ l. l ++ k ∷ []) (two a b c i j p q) ∙ append_assoc a (i ∷ j ∷ []) (k ∷ [])
 
-pub rows_whole : (base a b c d : List Ins) (two_d : Bool) (dests sources : ℕ) → base ≡ [] → a ≡ base ++ arrays_code (slot_code for_slot.Base) dests sources → b ≡ a ++ number_code two_d ∷ [] → c ≡ b ++ Store 0 (away 4 rows_word) ∷ [] → d ≡ c ++ Test 0 0 ∷ [] → d ≡ rows_code two_d dests sources
+pub rows_whole : (base a b c d : List Ins) (two_d : Bool) (dests sources : ℕ) → base ≡ [] → a ≡ base ++ arrays_code (slot_code for_slot.Base) dests sources → b ≡ a ++ number_code two_d ∷ [] → c ≡ b ++ Store 0 (away 4 rows_slot) ∷ [] → d ≡ c ++ Test 0 0 ∷ [] → d ≡ rows_code two_d dests sources
 rows_whole base a b c d two_d dests sources n p q r s =
-    three a b c d (number_code two_d) (Store 0 (away 4 rows_word)) (Test 0 0) q r s ∙ ap (λ l. l ++ number_code two_d ∷ Store 0 (away 4 rows_word) ∷ Test 0 0 ∷ []) (p ∙ ap (λ l. l ++ arrays_code (slot_code for_slot.Base) dests sources) n)
+    three a b c d (number_code two_d) (Store 0 (away 4 rows_slot)) (Test 0 0) q r s ∙ ap (λ l. l ++ number_code two_d ∷ Store 0 (away 4 rows_slot) ∷ Test 0 0 ∷ []) (p ∙ ap (λ l. l ++ arrays_code (slot_code for_slot.Base) dests sources) n)
 
 pub entry_whole : (base a b c : List Ins) (dests sources : ℕ) → base ≡ [] → a ≡ base ++ arrays_code (slot_code for_slot.Pointer) dests sources → b ≡ a ++ Load 1 (away 7 0) ∷ [] → c ≡ b ++ Test 1 1 ∷ [] → c ≡ row_entry_code dests sources
 entry_whole base a b c dests sources n p q r =
     two a b c (Load 1 (away 7 0)) (Test 1 1) q r ∙ ap (λ l. l ++ Load 1 (away 7 0) ∷ Test 1 1 ∷ []) (p ∙ ap (λ l. l ++ arrays_code (slot_code for_slot.Pointer) dests sources) n)
 
-pub step_whole : (base a b c d : List Ins) (dests sources : ℕ) → base ≡ [] → a ≡ base ++ arrays_code (slot_code for_slot.Stride) dests sources → b ≡ a ++ Load 0 (away 4 rows_word) ∷ [] → c ≡ b ++ AluImm Sub 0 (pos 1) ∷ [] → d ≡ c ++ Store 0 (away 4 rows_word) ∷ [] → d ≡ row_step_code dests sources
+pub step_whole : (base a b c d : List Ins) (dests sources : ℕ) → base ≡ [] → a ≡ base ++ arrays_code (slot_code for_slot.Stride) dests sources → b ≡ a ++ Load 0 (away 4 rows_slot) ∷ [] → c ≡ b ++ AluImm Sub 0 (pos 1) ∷ [] → d ≡ c ++ Store 0 (away 4 rows_slot) ∷ [] → d ≡ row_step_code dests sources
 step_whole base a b c d dests sources n p q r s =
-    three a b c d (Load 0 (away 4 rows_word)) (AluImm Sub 0 (pos 1)) (Store 0 (away 4 rows_word)) q r s ∙ ap (λ l. l ++ Load 0 (away 4 rows_word) ∷ AluImm Sub 0 (pos 1) ∷ Store 0 (away 4 rows_word) ∷ []) (p ∙ ap (λ l. l ++ arrays_code (slot_code for_slot.Stride) dests sources) n)
+    three a b c d (Load 0 (away 4 rows_slot)) (AluImm Sub 0 (pos 1)) (Store 0 (away 4 rows_slot)) q r s ∙ ap (λ l. l ++ Load 0 (away 4 rows_slot) ∷ AluImm Sub 0 (pos 1) ∷ Store 0 (away 4 rows_slot) ∷ []) (p ∙ ap (λ l. l ++ arrays_code (slot_code for_slot.Stride) dests sources) n)
 
 -- ---- bytes
 

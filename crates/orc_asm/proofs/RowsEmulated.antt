@@ -5,8 +5,8 @@ use Rattle.orc_program.specs.declared.program.VarKind.TheVariants as kind
 use Rattle.orc_program.specs.declared.call.Call.{Call}
 use Rattle.orc_program.specs.Program.{FunctionValue, places_of}
 use Rattle.orc_program.specs.Meaning.{State, go_on, row_of, rows_of, rows, start, ended, emulate, sums_of}
-use Rattle.orc_asm.specs.Subject.{End}
-use Rattle.orc_asm.specs.Function.{end_of}
+use Rattle.orc_frame.specs.Subject.{End}
+use Rattle.orc_frame.specs.Function.{end_of}
 
 -- one row more
 pub more_rows : (f : FunctionValue) (call : Call) (r : ℕ) (s e t : State) → rows_of f call r s ≡ Ok e → row_of f call r call.n e ≡ Ok t → rows_of f call (suc r) s ≡ Ok t

@@ -12,7 +12,8 @@ use Rattle.x86_ins.specs.Way.{Each}
 use Rattle.x86_flow.specs.Flow.{size}
 use Rattle.x86_flow.specs.Moves.{away}
 use Rattle.x86_flow.proofs.Spelled.{IsFine, fine_alu_imm, fits_up, each_both, size_within, fine_load_code, fine_store_code, fine_vec_load, fine_vec_store}
-use Rattle.orc_asm.specs.Code.{Action, IsRule, Source, FromArray, FromPattern, Target, ToArray, ToSum, Plan, pointer, pattern_slot, sum_slot, source_code, sources_code, sum_code, result_code, results_code, action_code, actions_code, advance_code, turn_code}
+use Rattle.orc_frame.specs.Layout.{pattern_slot, sum_slot}
+use Rattle.orc_asm.specs.Code.{Action, IsRule, Source, FromArray, FromPattern, Target, ToArray, ToSum, Plan, pointer, source_code, sources_code, sum_code, result_code, results_code, action_code, actions_code, advance_code, turn_code}
 use Rattle.orc_asm.proofs.Cost.{weights}
 use Rattle.orc_asm.proofs.Registers.{pointer_small}
 use Rattle.orc_asm.proofs.Vectored.{fine_rule}

@@ -13,7 +13,7 @@ use Rattle.orc_program.specs.Meaning.{place_at, no_place}
 use Rattle.orc_program.specs.Slots.{slot_of, slots, size_of_slot, call_of, place_with}
 use Rattle.orc_program.specs.Kept.{is_function, has_few, most_of}
 use Rattle.orc_program.proofs.Sizes.{both, kept_of}
-use Rattle.orc_asm.specs.Subject.{Call}
+use Rattle.orc_frame.specs.Subject.{Call}
 use Rattle.orc_asm.proofs.Places.{place_again, before_less}
 use Rattle.orc_asm.proofs.Turn.{IsSlot}
 

@@ -3,8 +3,8 @@ use Rattle.std.proofs.Common.{ℕ, List}
 use Rattle.orc_bits.specs.Memory.{Memory}
 use Rattle.x86_ins.specs.Machine.{Point}
 use Rattle.x86_ins.specs.Way.{Placed, Moment}
-use Rattle.orc_asm.specs.Subject.{Call, Subject}
-use Rattle.orc_asm.specs.RunsAs.{Returns, Promise, RunsWith, RunsInsideWith, RunsAs, RunsInside, RunsFully, no_promise, quiet, wide}
+use Rattle.orc_frame.specs.Subject.{Call, Subject}
+use Rattle.orc_asm.specs.RunsAs.{Returns, Promise, RunsWith, RunsInsideWith, RunsAs, RunsInside, RunsQuietly, RunsFully, no_promise, quiet, wide}
 
 returns_with : (f : Subject) (A B : List Moment → Point → Type 0) → ((way : List Moment) (t : Point) → A way t → B way t) →
     (code : Placed) (s : Point) (small : Memory) (call : Call) (back : ℕ) → Returns f A code s small call back → Returns f B code s small call back
@@ -38,8 +38,11 @@ runs_as f bytes h = runs_with f no_promise bytes (weaker f _ no_promise (λ s sm
 pub runs_inside : (f : Subject) (bytes : List ℕ) → RunsFully f bytes → RunsInside f bytes
 runs_inside f bytes h = weaker f _ no_promise (λ s small call way t p. tt) bytes h
 
-pub runs_quiet : (f : Subject) (bytes : List ℕ) → RunsFully f bytes → RunsInsideWith f (quiet f) bytes
-runs_quiet f bytes h = weaker f _ (quiet f) (λ s small call way t p. p.0) bytes h
+pub runs_quietly : (f : Subject) (bytes : List ℕ) → RunsFully f bytes → RunsQuietly f bytes
+runs_quietly f bytes h = weaker f _ (quiet f) (λ s small call way t p. p.0) bytes h
+
+pub quietly_as : (f : Subject) (bytes : List ℕ) → RunsQuietly f bytes → RunsAs f bytes
+quietly_as f bytes h = runs_with f no_promise bytes (weaker f _ no_promise (λ s small call way t p. tt) bytes h)
 
 pub runs_wide : (f : Subject) (bytes : List ℕ) → RunsFully f bytes → RunsWith f (wide f) bytes
 runs_wide f bytes h = runs_with f (wide f) bytes (weaker f _ (wide f) (λ s small call way t p. p.1) bytes h)

@@ -14,6 +14,8 @@ use Rattle.x86_ins.specs.declared.ins.Ins.TheVariants.{Ret}
 use Rattle.x86_ins.specs.Spelling.{IsAllowed, spelling, has_spelling}
 use Rattle.x86_ins.specs.Way.{Each}
 use Rattle.x86_flow.specs.Flow.{Flow, flat, size, spell_all, loop_code, with_return}
+use Rattle.x86_flow.specs.Touching.{AreOwn}
+use Rattle.x86_flow.proofs.Plans.{weigh}
 use Rattle.x86_flow.proofs.Spelled.{all_allowed, each_both}
 use Rattle.x86_flow.proofs.Spelled.{all_spelled as fine_spelled}
 use Rattle.orc_frame.specs.declared.frame.Layout.{Layout}
@@ -21,7 +23,9 @@ use Rattle.orc_frame.specs.Layout.{layout_of}
 use Rattle.orc_frame.specs.Frame.{Prepares, Finishes}
 use Rattle.orc_frame.proofs.Facts.{Facts, facts}
 use Rattle.orc_frame.proofs.Apart.{length-acc_sizes_of}
-use Rattle.orc_asm.specs.Function.{RunsAs, first_unbuilt}
+use Rattle.orc_frame.specs.Function.{subject_of}
+use Rattle.orc_asm.specs.RunsAs.{quiet}
+use Rattle.orc_asm.specs.Function.{RunsQuietly, first_unbuilt}
 use Rattle.orc_asm.specs.Code.{Action, AreActions, Plan, IsReady, IsTurn, patterns_in, plan_with, turn_code}
 use Rattle.orc_asm.specs.Rows.{turns_flow, rows_flow, whole_flow}
 use Rattle.orc_asm.proofs.Numbered.{patterns_are, sizes_are}
@@ -34,7 +38,9 @@ use Rattle.orc_asm.proofs.Fits.{small_with, some_size, slot_size}
 use Rattle.orc_asm.proofs.Acts.{AreDirect, are_direct}
 use Rattle.orc_asm.proofs.Knows.{all_movable, all_fit, all_ready, weights_within}
 use Rattle.orc_asm.proofs.RowCounts.{size_both, loop_bytes, loop_allowed, rows_bytes, rows_allowed}
+use Rattle.orc_asm.proofs.RowPath.{cell_weight, own_free}
 use Rattle.orc_asm.proofs.RowRuns.{AreShort, runs}
+use Rattle.orc_asm.proofs.Inside.{lift, quiet_lifts}
 use Rattle.orc_asm.proofs.Parts.{Done, parts}
 
 pub ok_map : {A E : Type 0} (r : Result A E) (P Q : A → Type 0) → ((x : A) → P x → Q x) → IfOk r P → IfOk r Q
@@ -80,11 +86,13 @@ module _ (f : FunctionValue) (h : is_function f ≡ true) (built : first_unbuilt
 pub record Lists (f : FunctionValue) (l : Layout) (first turn last : List Ins) : Type 0 where
   pub layout : l ≡ layout_of f
   pub prepares : Prepares l first
+  pub first_own : AreOwn first
   pub first_allowed : Each IsAllowed first
   pub first_bytes : size first ≤ 11 * length first
   pub first_short : length first ≤ 8 + 8 * length l.patterns.items + 3 * length l.acc_sizes.items
   pub turn_is : IsTurn f 1 turn
   pub finishes : Finishes l last
+  pub last_own : AreOwn last
   pub last_allowed : Each IsAllowed last
   pub last_bytes : size last ≤ 11 * length last
   pub last_short : length last ≤ 7 + 13 * length l.acc_sizes.items
@@ -152,19 +160,27 @@ module _ (f : FunctionValue) (h : is_function f ≡ true) (built : first_unbuilt
         turn_few = omega (arith, turn_count plan small.actions, weights_few f h built actions x.turn_is.1);
       }
 
-  code_runs : RunsAs f (spell_all (with_return flow))
+  -- the lists around the rows touch no cell
+  pub first_free : weigh cell_weight first ≡ 0
+  first_free = own_free first x.first_own
+
+  pub last_free : weigh cell_weight last ≡ 0
+  last_free = own_free last x.last_own
+
+  code_runs : RunsQuietly f (spell_all (with_return flow))
   code_runs =
       let d : Done f actions = done f h built actions x.turn_is.1 in
-      runs f d.arrays first (turns_flow list) last (length list) short
+      lift (subject_of f) (quiet (subject_of f)) (quiet_lifts (subject_of f)) (spell_all (with_return flow))
+      (runs f d.arrays first (turns_flow list) last (length list) (weigh cell_weight list) short (λ s args u i. Unit {0}) (λ code s args back good u i t. tt)
       (λ code s args back good. parts f actions d code s args back good first last (subst (λ y. Prepares y first) x.layout x.prepares) (subst (λ y. Finishes y last) x.layout x.finishes))
-      allowed
+      allowed)
 
-  pub whole_runs : (bytes : List ℕ) (two_d : Bool) (d s : ℕ) → two_d ≡ f.two_d → d ≡ dests → s ≡ sources → bytes ≡ spell_all (with_return (whole_flow first (turns_flow turn) last two_d d s)) → RunsAs f bytes × HasCodeLength bytes
+  pub whole_runs : (bytes : List ℕ) (two_d : Bool) (d s : ℕ) → two_d ≡ f.two_d → d ≡ dests → s ≡ sources → bytes ≡ spell_all (with_return (whole_flow first (turns_flow turn) last two_d d s)) → RunsQuietly f bytes × HasCodeLength bytes
   whole_runs bytes two_d d s a b c e =
       let is : bytes ≡ spell_all (with_return flow) =
       e ∙ ap (λ r. spell_all (with_return (whole_flow first (turns_flow turn) last r d s))) a ∙ ap₂ (λ d s. spell_all (with_return (whole_flow first (turns_flow turn) last f.two_d d s))) b c
       ∙ ap (λ t. spell_all (with_return (whole_flow first (turns_flow t) last f.two_d dests sources))) x.turn_is.2 in
-      (subst (RunsAs f) (sym is) code_runs, subst HasCodeLength (sym is) code_length)
+      (subst (RunsQuietly f) (sym is) code_runs, subst HasCodeLength (sym is) code_length)
 
 -- in whole slices
 pub list_slices : (f : FunctionValue) (l : Layout) (first turn last a b c : List Ins) → a ≡ first → b ≡ turn → c ≡ last → Lists f l first turn last → Lists f l a b c

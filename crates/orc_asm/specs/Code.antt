@@ -1,5 +1,5 @@
 -- The code of a function: the compiler's plan.
-use Rattle.std.specs.Prelude.{◌≡◌, ℕ, zero, suc, ◌+◌, ◌*◌, ◌/◌, ◌<◌, ◌≤◌, ◌==◌, true, false, if◌then◌else◌, pos, List, [], ◌∷◌, ◌++◌, length, get_or, Option, Some, None}
+use Rattle.std.specs.Prelude.{◌≡◌, ℕ, zero, suc, ◌+◌, ◌*◌, ◌/◌, ◌<◌, ◌≤◌, ◌==◌, Bool, true, false, if◌then◌else◌, pos, List, [], ◌∷◌, ◌++◌, length, get_or, Option, Some, None}
 use Rattle.x86_ins.specs.declared.ins.AluOp.TheVariants.{Add, Sub}
 use Rattle.x86_ins.specs.declared.ins.Ins.{Ins}
 use Rattle.x86_ins.specs.declared.ins.Ins.TheVariants.{AluImm, VecLoad, VecStore}
@@ -17,7 +17,8 @@ use Rattle.orc_program.specs.declared.program.Pattern.{Pattern}
 use Rattle.orc_program.specs.Program.{FunctionValue, var_at, is_of, count_of, count_before}
 use Rattle.orc_program.specs.Checks.{same_pattern, number_in, way_of, pattern_with, patterns_of}
 use Rattle.orc_program.specs.Slots.{slot_of, size_of_slot}
-use Rattle.x86_flow.specs.Moves.{IsWidth, away, load_code, store_code}
+use Rattle.x86_flow.specs.Moves.{IsWidth, away, load_far_code, store_either_code}
+use Rattle.orc_frame.specs.Layout.{pattern_slot, sum_slot}
 use Rattle.sse_laws.specs.Meets.{Meets, is_sum}
 use Rattle.sse_acc.specs.Sums.{AddsUp}
 
@@ -75,46 +76,64 @@ pointer (suc (suc (suc (suc k)))) = 8 + k
 
 -- ---- so many elements at once
 
--- the 16 bytes of a pattern and of a running sum, so far from RSP
-abbrev pub pattern_slot : ℕ → ℕ
-pattern_slot j = 16 * j
-
-abbrev pub sum_slot : ℕ → ℕ
-sum_slot g = 768 + 16 * g
-
--- a source goes to a vector register
-abbrev pub source_code : ℕ → (ℕ → ℕ) → ℕ → Source → List Ins
-source_code count size x (FromArray k) = load_code (count * size k) x (pointer k)
-source_code count size x (FromPattern j) = VecLoad Movdqu x (away 4 (pattern_slot j)) ∷ []
+-- a source goes to a vector register; the cells of slot k are `far k` bytes behind its pointer
+abbrev pub source_far_code : ℕ → (ℕ → ℕ) → (ℕ → ℕ) → ℕ → Source → List Ins
+source_far_code count size far x (FromArray k) = load_far_code (count * size k) x (pointer k) (far k)
+source_far_code count size far x (FromPattern j) = VecLoad Movdqu x (away 4 (pattern_slot j)) ∷ []
 
 -- the first source goes to XMM0, and the second to XMM1
-abbrev pub sources_code : ℕ → (ℕ → ℕ) → List Source → List Ins
-sources_code count size [] = []
-sources_code count size (s ∷ []) = source_code count size 0 s
-sources_code count size (s ∷ t ∷ more) = source_code count size 0 s ++ source_code count size 1 t
+abbrev pub sources_far_code : ℕ → (ℕ → ℕ) → (ℕ → ℕ) → List Source → List Ins
+sources_far_code count size far [] = []
+sources_far_code count size far (s ∷ []) = source_far_code count size far 0 s
+sources_far_code count size far (s ∷ t ∷ more) = source_far_code count size far 0 s ++ source_far_code count size far 1 t
 
 -- a running sum goes to XMM2
 abbrev pub sum_code : List Target → List Ins
 sum_code (ToSum g ∷ more) = VecLoad Movdqu 2 (away 4 (sum_slot g)) ∷ []
 sum_code other = []
 
--- a result comes from a vector register, and a running sum from XMM2
-abbrev pub result_code : ℕ → (ℕ → ℕ) → ℕ → Target → List Ins
-result_code count size x (ToArray k) = store_code (count * size k) x (pointer k)
-result_code count size x (ToSum g) = VecStore Movdqu 2 (away 4 (sum_slot g)) ∷ []
+-- a result comes from a vector register, for some slots by aligned stores, and a running sum from XMM2
+abbrev pub result_far_code : ℕ → (ℕ → ℕ) → (ℕ → ℕ) → (ℕ → Bool) → ℕ → Target → List Ins
+result_far_code count size far aligned x (ToArray k) = store_either_code (aligned k) (count * size k) x (pointer k) (far k)
+result_far_code count size far aligned x (ToSum g) = VecStore Movdqu 2 (away 4 (sum_slot g)) ∷ []
 
 -- the first result comes from XMM0, and after it a second one from XMM1
+abbrev pub results_far_code : ℕ → (ℕ → ℕ) → (ℕ → ℕ) → (ℕ → Bool) → List Target → List Ins
+results_far_code count size far aligned [] = []
+results_far_code count size far aligned (t ∷ []) = result_far_code count size far aligned 0 t
+results_far_code count size far aligned (t ∷ u ∷ more) = result_far_code count size far aligned 0 t ++ result_far_code count size far aligned 1 u
+
+abbrev pub action_far_code : ℕ → (ℕ → ℕ) → (ℕ → ℕ) → (ℕ → Bool) → Action → List Ins
+action_far_code count size far aligned a = sources_far_code count size far a.sources ++ (sum_code a.to ++ (a.rule ++ results_far_code count size far aligned a.to))
+
+abbrev pub actions_far_code : ℕ → (ℕ → ℕ) → (ℕ → ℕ) → (ℕ → Bool) → List Action → List Ins
+actions_far_code count size far aligned [] = []
+actions_far_code count size far aligned (a ∷ rest) = action_far_code count size far aligned a ++ actions_far_code count size far aligned rest
+
+-- the same where the cells are at the pointers
+abbrev pub at_pointer : ℕ → ℕ
+at_pointer k = 0
+
+abbrev pub unaligned : ℕ → Bool
+unaligned k = false
+
+abbrev pub source_code : ℕ → (ℕ → ℕ) → ℕ → Source → List Ins
+source_code count size = source_far_code count size at_pointer
+
+abbrev pub sources_code : ℕ → (ℕ → ℕ) → List Source → List Ins
+sources_code count size = sources_far_code count size at_pointer
+
+abbrev pub result_code : ℕ → (ℕ → ℕ) → ℕ → Target → List Ins
+result_code count size = result_far_code count size at_pointer unaligned
+
 abbrev pub results_code : ℕ → (ℕ → ℕ) → List Target → List Ins
-results_code count size [] = []
-results_code count size (t ∷ []) = result_code count size 0 t
-results_code count size (t ∷ u ∷ more) = result_code count size 0 t ++ result_code count size 1 u
+results_code count size = results_far_code count size at_pointer unaligned
 
 abbrev pub action_code : ℕ → (ℕ → ℕ) → Action → List Ins
-action_code count size a = sources_code count size a.sources ++ (sum_code a.to ++ (a.rule ++ results_code count size a.to))
+action_code count size = action_far_code count size at_pointer unaligned
 
 abbrev pub actions_code : ℕ → (ℕ → ℕ) → List Action → List Ins
-actions_code count size [] = []
-actions_code count size (a ∷ rest) = action_code count size a ++ actions_code count size rest
+actions_code count size = actions_far_code count size at_pointer unaligned
 
 -- ---- a turn
 
@@ -123,8 +142,20 @@ abbrev pub advance_code : (ℕ → ℕ) → ℕ → ℕ → ℕ → List Ins
 advance_code size count first zero = []
 advance_code size count first (suc n) = advance_code size count first n ++ AluImm Add (pointer (first + n)) (pos (count * size (first + n))) ∷ []
 
+-- so many blocks of `count` elements each, one behind another, with the pointers at the first
+abbrev pub block_far : Plan → ℕ → ℕ → ℕ
+block_far p lag k = lag * p.size k
+
+abbrev pub blocks_code : Plan → (ℕ → Bool) → ℕ → ℕ → List Ins
+blocks_code p aligned count zero = []
+blocks_code p aligned count (suc b) = blocks_code p aligned count b ++ actions_far_code count p.size (block_far p (b * count)) aligned p.actions
+
 abbrev pub turn_code : Plan → ℕ → List Ins
 turn_code p count = actions_code count p.size p.actions ++ (advance_code p.size count 0 p.dests ++ (advance_code p.size count 4 p.sources ++ AluImm Sub 1 (pos count) ∷ []))
+
+-- a turn of so many blocks: the pointers and the counter go on once
+abbrev pub blocks_turn_code : Plan → (ℕ → Bool) → ℕ → ℕ → List Ins
+blocks_turn_code p aligned count b = blocks_code p aligned count b ++ (advance_code p.size (b * count) 0 p.dests ++ (advance_code p.size (b * count) 4 p.sources ++ AluImm Sub 1 (pos (b * count)) ∷ []))
 
 -- ---- from a function to its plan
 

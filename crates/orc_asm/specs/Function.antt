@@ -1,71 +1,23 @@
--- Functions of the language as calls see them, and which of them are built.
-use Rattle.std.specs.Prelude.{◌≡◌, ℕ, ◌+◌, Bool, true, not, ◌&&◌, ◌||◌, if◌then◌else◌, List, [], ◌∷◌, Option, Some, None, Result, Ok, Err, slice_index}
-use Rattle.std.specs.List.{list_all, count_by, sum_by}
-use Rattle.orc_bits.specs.Memory.{Memory}
+-- What is promised of a function's code, and which functions are built.
+use Rattle.std.specs.Prelude.{◌≡◌, ℕ, Bool, not, ◌&&◌, if◌then◌else◌, List, [], ◌∷◌, Option, Some, None}
+use Rattle.std.specs.List.{list_all}
 use Rattle.orc_program.specs.declared.program.Var.{Var}
 use Rattle.orc_program.specs.declared.program.VarKind.TheVariants as kind
 use Rattle.orc_program.specs.declared.program.Operand.{Operand}
 use Rattle.orc_program.specs.declared.program.Insn.{Insn}
-use Rattle.orc_program.specs.declared.call.Call.{Call}
-use Rattle.orc_program.specs.Program.{FunctionValue, count_of, operand_is}
-use Rattle.orc_program.specs.Meaning.{Gap, emulate}
-use Rattle.orc_program.specs.Good.{IsByte, GoodArrays, byte_at}
-use Rattle.orc_program.specs.Need.{steps, lanes, turns}
-use Rattle.orc_program.specs.Slots.{call_of, size_of_slot}
+use Rattle.orc_program.specs.Program.{FunctionValue, operand_is}
+use Rattle.orc_frame.specs.Function.{subject_of}
 use Rattle.orc_asm.specs.declared.refusal.AsmError.{AsmError}
 use Rattle.orc_asm.specs.declared.refusal.AsmError.TheVariants as refusal
-use Rattle.orc_asm.specs.Subject.{End, Subject}
 use Rattle.orc_asm.specs.RunsAs as runs
-
--- ---- a function as calls see it
-
--- the end that emulation reached, none at a gap
-abbrev pub end_of : Result (Memory × List ℕ) Gap → Option End
-end_of (Ok e) = Some (record { memory = e.0; sums = slice_index e.1 })
-end_of (Err g) = None
-
-abbrev pub is_array_operand : List Var → Operand → Bool
-is_array_operand vars o = operand_is kind.Dest vars o || operand_is kind.Source vars o
-
--- how many operands of an instruction are arrays
-abbrev pub array_operands : List Var → Insn → ℕ
-array_operands vars insn = count_by (is_array_operand vars) insn.results.items + count_by (is_array_operand vars) insn.sources.items
-
--- the address is that of a byte of a cell
-pub record IsCellByte (f : FunctionValue) (call : Call) (a : ℕ) : Type 0 where
-  pub place : ℕ
-  pub row : ℕ
-  pub element : ℕ
-  pub byte : ℕ
-  pub cell : IsByte f call place row element byte
-  pub here : a ≡ byte_at f call place row element byte
-
--- the bytes of the frame below RSP
-abbrev pub frame_size : ℕ
-frame_size = 1024
-
-abbrev pub subject_of : FunctionValue → Subject
-subject_of f = record {
-  dests = count_of kind.Dest f.vars;
-  sources = count_of kind.Source f.vars;
-  params = count_of kind.Param f.vars;
-  accs = count_of kind.Accumulator f.vars;
-  two_d = f.two_d;
-  size = size_of_slot f.vars;
-  facts = λ call. true;
-  cells = λ call a. IsCellByte f (call_of f call.n call.m call.base call.stride call.param) a;
-  good = λ call mem. GoodArrays f (call_of f call.n call.m call.base call.stride call.param) mem;
-  emulate = λ call mem. end_of (emulate f (call_of f call.n call.m call.base call.stride call.param) mem);
-  frame = frame_size;
-  steps = steps f;
-  lanes = lanes f;
-  turns = turns (lanes f);
-  operands = sum_by (array_operands f.vars) f.insns;
-}
 
 -- each good call of the code returns as the function means
 abbrev pub RunsAs : FunctionValue → List ℕ → Type 0
 RunsAs f bytes = runs.RunsAs (subject_of f) bytes
+
+-- so does each call of the code whose memory, cut down to the parts, makes a good call, and in every state on the way all bytes but those of dests' cells, of accumulators' words and of the frame are as at the start
+abbrev pub RunsQuietly : FunctionValue → List ℕ → Type 0
+RunsQuietly f bytes = runs.RunsQuietly (subject_of f) bytes
 
 -- ---- what is built
 

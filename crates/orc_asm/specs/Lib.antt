@@ -1,5 +1,5 @@
-pub mod Subject
 pub mod RunsAs
 pub mod Function
 pub mod Code
 pub mod Rows
+pub mod Regions

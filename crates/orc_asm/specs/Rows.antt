@@ -1,5 +1,5 @@
 -- The code of a function's rows: the compiler's plan.
-use Rattle.std.specs.Prelude.{ℕ, zero, suc, ◌+◌, ◌*◌, Bool, if◌then◌else◌, pos, List, [], ◌∷◌, ◌++◌}
+use Rattle.std.specs.Prelude.{ℕ, zero, suc, ◌+◌, Bool, if◌then◌else◌, pos, List, [], ◌∷◌, ◌++◌}
 use Rattle.x86_ins.specs.declared.ins.AluOp.TheVariants.{Add, Sub}
 use Rattle.x86_ins.specs.declared.ins.Cond.TheVariants.{Ne}
 use Rattle.x86_ins.specs.declared.ins.Ins.{Ins}
@@ -8,24 +8,9 @@ use Rattle.x86_flow.specs.Flow.{Flow, Plain, Chain, Repeat}
 use Rattle.x86_flow.specs.Moves.{away}
 use Rattle.orc_asm.specs.declared.rows.SlotCode.{SlotCode}
 use Rattle.orc_asm.specs.declared.rows.SlotCode.TheVariants as for_slot
+use Rattle.orc_frame.specs.Layout.{row_slot, rows_slot}
+use Rattle.orc_frame.specs.Parts.{base_word, stride_word}
 use Rattle.orc_asm.specs.Code.{pointer}
-
--- ---- words of the frame: of each array slot the base of its row, and the number of rows that are left
-
--- how far above RSP the word of an array slot stands
-abbrev pub base_word : ℕ → ℕ
-base_word k = 880 + 8 * k
-
-abbrev pub rows_word : ℕ
-rows_word = 984
-
--- ---- words of the block: of each array slot the base and the stride
-
-abbrev pub first_word : ℕ → ℕ
-first_word k = 16 + 16 * k
-
-abbrev pub stride_word : ℕ → ℕ
-stride_word k = 24 + 16 * k
 
 -- ---- lists
 
@@ -42,14 +27,14 @@ arrays_code code dests sources = slots_code code 0 dests ++ slots_code code 4 so
 
 -- the base of an array becomes that of its row
 abbrev pub base_code : ℕ → List Ins
-base_code k = Load 0 (away 7 (first_word k)) ∷ Store 0 (away 4 (base_word k)) ∷ []
+base_code k = Load 0 (away 7 (base_word k)) ∷ Store 0 (away 4 (row_slot k)) ∷ []
 
 -- the number of rows: the block's where the function has rows, and else 1
 abbrev pub number_code : Bool → Ins
 number_code two_d = if two_d then Load 0 (away 7 8) else MovImm 0 1
 
 abbrev pub count_code : Bool → List Ins
-count_code two_d = number_code two_d ∷ Store 0 (away 4 rows_word) ∷ Test 0 0 ∷ []
+count_code two_d = number_code two_d ∷ Store 0 (away 4 rows_slot) ∷ Test 0 0 ∷ []
 
 abbrev pub rows_code : Bool → ℕ → ℕ → List Ins
 rows_code two_d dests sources = arrays_code base_code dests sources ++ count_code two_d
@@ -58,7 +43,7 @@ rows_code two_d dests sources = arrays_code base_code dests sources ++ count_cod
 
 -- the pointer of an array is loaded
 abbrev pub pointer_code : ℕ → List Ins
-pointer_code k = Load (pointer k) (away 4 (base_word k)) ∷ []
+pointer_code k = Load (pointer k) (away 4 (row_slot k)) ∷ []
 
 -- the counter is loaded, and whether there are elements
 abbrev pub counter_code : List Ins
@@ -69,11 +54,11 @@ row_entry_code dests sources = arrays_code pointer_code dests sources ++ counter
 
 -- an array's row goes on by its stride
 abbrev pub stride_code : ℕ → List Ins
-stride_code k = Load 0 (away 4 (base_word k)) ∷ Load 1 (away 7 (stride_word k)) ∷ Alu Add 0 1 ∷ Store 0 (away 4 (base_word k)) ∷ []
+stride_code k = Load 0 (away 4 (row_slot k)) ∷ Load 1 (away 7 (stride_word k)) ∷ Alu Add 0 1 ∷ Store 0 (away 4 (row_slot k)) ∷ []
 
 -- one row less is left, and whether it was the last
 abbrev pub one_less_code : List Ins
-one_less_code = Load 0 (away 4 rows_word) ∷ AluImm Sub 0 (pos 1) ∷ Store 0 (away 4 rows_word) ∷ []
+one_less_code = Load 0 (away 4 rows_slot) ∷ AluImm Sub 0 (pos 1) ∷ Store 0 (away 4 rows_slot) ∷ []
 
 abbrev pub row_step_code : ℕ → ℕ → List Ins
 row_step_code dests sources = arrays_code stride_code dests sources ++ one_less_code

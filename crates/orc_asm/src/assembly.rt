@@ -5,7 +5,7 @@ ghost use Rattle.std.specs.List.{list_all};
 ghost use Rattle.orc_program.specs.declared.program.VarKind.TheVariants as kind;
 ghost use Rattle.orc_program.specs.Program.{count_of};
 ghost use Rattle.orc_program.specs.Kept.{is_function};
-ghost use Rattle.orc_asm.specs.Function.{RunsAs, is_direct, is_built, first_unbuilt, IsRefusal};
+ghost use Rattle.orc_asm.specs.Function.{RunsAs, RunsQuietly, is_direct, is_built, first_unbuilt, IsRefusal};
 ghost use Rattle.orc_asm.specs.Code.{patterns_in, IsReady, IsTurn};
 
 use crate::arrays::count_of;
@@ -19,9 +19,12 @@ use orc_program::{Function, Insn, Operand, Var, VarKind, patterns};
 use std::alloc::{AllocError, Global};
 use x86_ins::{AluOp, Ins, InsList};
 
-/// Code that does in every good call what the function means, in at most as many steps as are stated. It has 1 to 1,048,576 bytes.
+/// Code that does in every good call what the function means, in at most as many steps as are stated. It does so inside any larger memory
+/// too, and on the way changes no byte but those of dests' cells, of accumulators' words and of the frame. It has 1 to 1,048,576 bytes.
+#[tactic(auto, using(crate::proofs::Weaker::quietly_as))]
 pub fn assemble(alloc: Global, f: &Function) -> Result<Code, AsmError>
     ensures runs { IfOk result (λ code. RunsAs f.now code) }
+    ensures inside { IfOk result (λ code. RunsQuietly f.now code) }
     ensures bytes { IfOk result (λ code. (1 ≤ length code) × (length code ≤ 1048576)) }
     ensures built { OnOk result (first_unbuilt f.now ≡ None) }
     ensures refusal { IfErr result (λ e. IsRefusal f.now e) }
@@ -65,7 +68,7 @@ fn first_unbuilt(f: &Function) -> Option<u32>
 /// The code of a function that is built: rows of turns, and before and after them what the frame wants.
 fn code_of(alloc: Global, f: &Function) -> Result<Code, AllocError>
     requires { first_unbuilt f.now ≡ None }
-    ensures runs { IfOk result (λ code. RunsAs f.now code) }
+    ensures inside { IfOk result (λ code. RunsQuietly f.now code) }
     ensures bytes { IfOk result (λ code. (1 ≤ length code) × (length code ≤ 1048576)) }
 {
     let counts = counts_of(f);

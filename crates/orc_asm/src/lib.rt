@@ -1,9 +1,10 @@
-//! Code of functions: good calls, and code that runs as emulation says.
+//! Code of functions, which runs as emulation says in good calls and inside larger memories.
 #![tactic(auto)]
 
 mod arrays;
 mod assembly;
 mod lists;
+mod loops;
 mod operands;
 mod refusal;
 mod rows;

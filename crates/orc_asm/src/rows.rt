@@ -4,7 +4,8 @@ ghost use Rattle.std.specs.Prelude.{◌≡◌, ◌<◌, ◌≤◌, ◌+◌, ◌+
 ghost use Rattle.x86_ins.specs.Spelling.{has_spelling};
 ghost use Rattle.x86_flow.specs.Flow.{flat, size, spell_all, with_return};
 ghost use Rattle.x86_flow.specs.Moves.{away};
-ghost use Rattle.orc_asm.specs.Rows.{base_word, slot_code, slots_code, arrays_code, base_code, stride_code, number_code, rows_code, row_entry_code, row_step_code, turns_flow, row_flow, whole_flow};
+ghost use Rattle.orc_frame.specs.Layout.{row_slot};
+ghost use Rattle.orc_asm.specs.Rows.{slot_code, slots_code, arrays_code, base_code, stride_code, number_code, rows_code, row_entry_code, row_step_code, turns_flow, row_flow, whole_flow};
 
 use crate::lists::{BLOCK, COUNTER, STACK, pointer};
 use orc_bits::Code;
@@ -30,7 +31,7 @@ pub enum SlotCode {
 /// The word of an array slot in the frame, which holds the base of its row.
 fn base_at(slot: usize) -> Addr
     requires { slot < 12 }
-    ensures { result ≡ away 4 (base_word slot) }
+    ensures { result ≡ away 4 (row_slot slot) }
 {
     away(STACK, 880 + 8 * slot)
 }

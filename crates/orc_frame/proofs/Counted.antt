@@ -20,7 +20,8 @@ use Rattle.orc_program.specs.declared.program.Operand.{Operand}
 use Rattle.orc_program.specs.declared.program.Operand.TheVariants as operand
 use Rattle.orc_frame.specs.declared.frame.Layout.{Layout}
 use Rattle.orc_frame.specs.Layout.{frame_size, pattern_slot, sum_slot, saved_slot, block_slot, index_in}
-use Rattle.orc_frame.specs.Frame.{IsLayout, saved, param_word, sum_word, pattern_at, acc_size}
+use Rattle.orc_frame.specs.Parts.{param_word, sum_word}
+use Rattle.orc_frame.specs.Frame.{IsLayout, saved, pattern_at, acc_size}
 use Rattle.orc_frame.specs.Code.{joined, slot, twice_code, repeated, constant_code, spread_code, spread_to_code, is_narrow, param_code, fill_code, pattern_code, save_code, clear_code, prologue_code, add_down_code, total_code, to_rax_code, sum_code, store_code, restore_code, epilogue_code}
 use Rattle.orc_frame.proofs.Facts.{Facts, facts}
 use Rattle.orc_frame.proofs.Fills.{IsKnown, repeated_small}

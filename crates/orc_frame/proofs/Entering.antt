@@ -9,13 +9,14 @@ use Rattle.x86_ins.specs.declared.ins.Ins.TheVariants.{AluImm, Store}
 use Rattle.x86_ins.specs.Machine.{Core, alu_core, alu_result}
 use Rattle.x86_ins.specs.Way.{Each}
 use Rattle.x86_ins.proofs.Bounds.{work_bounded}
-use Rattle.x86_flow.proofs.Flow.{Line}
+use Rattle.x86_flow.specs.Does.{Line}
 use Rattle.x86_flow.proofs.Moves.{line_append}
 use Rattle.x86_flow.proofs.Frame.{word_value}
 use Rattle.x86_flow.proofs.Spelled.{fits_up}
 use Rattle.orc_frame.specs.declared.frame.Layout.{Layout}
 use Rattle.orc_frame.specs.Layout.{frame_size, pattern_slot, sum_slot, saved_slot, block_slot}
-use Rattle.orc_frame.specs.Frame.{IsLayout, InFrame, saved, pattern_at, pattern_byte, number_of, Enters, AfterEntry, Prepared, Prepares}
+use Rattle.orc_frame.specs.Parts.{InFrame}
+use Rattle.orc_frame.specs.Frame.{IsLayout, saved, pattern_at, pattern_byte, number_of, Enters, AfterEntry, Prepared, Prepares}
 use Rattle.orc_frame.specs.Code.{joined, slot, save_code, pattern_code, clear_code, constant_code, fill_code, prologue_code}
 use Rattle.orc_frame.proofs.Facts.{Facts, facts}
 use Rattle.orc_frame.proofs.Writes.{Wrote, joined_line}

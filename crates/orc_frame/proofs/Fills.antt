@@ -16,7 +16,7 @@ use Rattle.x86_ins.specs.Way.{Each}
 use Rattle.x86_ins.specs.Machine.{Core, Bounded, with_gpr, with_xmm, with_memory, address, access, save, work}
 use Rattle.x86_ins.proofs.Bounds.{work_bounded}
 use Rattle.x86_flow.specs.Moves.{away}
-use Rattle.x86_flow.proofs.Flow.{Line}
+use Rattle.x86_flow.specs.Does.{Line}
 use Rattle.x86_flow.proofs.Moves.{line_append}
 use Rattle.x86_flow.proofs.Words.{store_word, load_word}
 use Rattle.x86_flow.proofs.Frame.{word_same}
@@ -25,7 +25,8 @@ use Rattle.x86_flow.proofs.Spelled.{fits_up}
 use Rattle.orc_program.specs.declared.program.Operand.{Operand}
 use Rattle.orc_program.specs.declared.program.Operand.TheVariants as operand
 use Rattle.orc_frame.specs.Layout.{frame_size, index_in}
-use Rattle.orc_frame.specs.Frame.{InFrame, InBlock, block_size, param_word, pattern_byte, number_of, period}
+use Rattle.orc_frame.specs.Parts.{InFrame, InBlock, block_size, param_word}
+use Rattle.orc_frame.specs.Frame.{pattern_byte, number_of, period}
 use Rattle.orc_frame.specs.Code.{slot, twice_code, constant_code, repeated, spread_code, spread_to_code, is_narrow, param_code, fill_code}
 use Rattle.orc_frame.proofs.Writes.{Wrote, filled, byte_in, line_bounded}
 use Rattle.orc_frame.proofs.Bytes.{repeated_byte, spread_byte}

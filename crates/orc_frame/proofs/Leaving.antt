@@ -14,7 +14,7 @@ use Rattle.x86_ins.specs.declared.ins.Ins.TheVariants.{VecLoad, ToGpr, AluImm, S
 use Rattle.x86_ins.specs.Vectors.{after, all_simd}
 use Rattle.x86_ins.specs.Machine.{Core, with_gpr, with_xmm, with_memory, address, access, alu_core, alu_result, work}
 use Rattle.x86_flow.specs.Moves.{away, loads_code}
-use Rattle.x86_flow.proofs.Flow.{Line}
+use Rattle.x86_flow.specs.Does.{Line}
 use Rattle.x86_flow.proofs.Moves.{line_append}
 use Rattle.x86_flow.proofs.Words.{Loads, store_word, loads_line}
 use Rattle.x86_flow.proofs.Frame.{word_value, word_same}
@@ -23,7 +23,8 @@ use Rattle.sse_acc.specs.Sums.{sum_of}
 use Rattle.sse_acc.proofs.Totals.{sum_below-same}
 use Rattle.orc_frame.specs.declared.frame.Layout.{Layout}
 use Rattle.orc_frame.specs.Layout.{frame_size, sum_slot, saved_slot}
-use Rattle.orc_frame.specs.Frame.{IsLayout, InFrame, InBlock, InSums, sum_word, saved, acc_size, Ends, AfterRows, Finished, Finishes}
+use Rattle.orc_frame.specs.Parts.{InFrame, InBlock, InSums, sum_word}
+use Rattle.orc_frame.specs.Frame.{IsLayout, saved, acc_size, Ends, AfterRows, Finished, Finishes}
 use Rattle.orc_frame.specs.Code.{joined, slot, add_down_code, total_code, to_rax_code, sum_code, store_code, restore_code, epilogue_code}
 use Rattle.orc_frame.proofs.Facts.{Facts, facts}
 use Rattle.orc_frame.proofs.Writes.{Wrote, filled, byte_in, joined_line}

@@ -12,3 +12,4 @@ pub mod Grown
 pub mod Reach
 pub mod Reduced
 pub mod Writes
+pub mod Addresses

@@ -5,10 +5,11 @@ use Rattle.x86_ins.specs.declared.ins.Ins.{Ins}
 use Rattle.x86_ins.specs.declared.ins.Ins.TheVariants.{Vec, VecImm, Shuffle, VecLoad, VecStore, FromGpr, ToGpr, Move, Load, Store, Store8, Store16, Load8, Load16, MovImm, Alu, AluImm, Test, Shift, Imul, Lea, Push, Pop, Jump, JumpIf, Ret}
 use Rattle.x86_ins.specs.Machine.{Core, Touches, address, moved, move_size}
 use Rattle.x86_ins.specs.Way.{Each}
-use Rattle.x86_flow.proofs.Flow.{Line}
+use Rattle.x86_flow.specs.Does.{Line}
 use Rattle.orc_frame.specs.Layout.{frame_size}
 use Rattle.x86_flow.specs.Moves.{away}
-use Rattle.orc_frame.specs.Frame.{InFrame, InBlock, block_size, saved}
+use Rattle.orc_frame.specs.Parts.{InFrame, InBlock, block_size}
+use Rattle.orc_frame.specs.Frame.{saved}
 use Rattle.orc_frame.specs.Code.{slot}
 
 -- so many bytes at an address are of the frame or of the block

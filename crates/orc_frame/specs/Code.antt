@@ -14,7 +14,8 @@ use Rattle.orc_program.specs.declared.program.Operand.{Operand}
 use Rattle.orc_program.specs.declared.program.Operand.TheVariants as operand
 use Rattle.orc_frame.specs.declared.frame.Layout.{Layout}
 use Rattle.orc_frame.specs.Layout.{index_in, frame_size}
-use Rattle.orc_frame.specs.Frame.{saved, pattern_at, acc_size, param_word, sum_word}
+use Rattle.orc_frame.specs.Parts.{param_word, sum_word}
+use Rattle.orc_frame.specs.Frame.{saved, pattern_at, acc_size}
 
 -- the first n of lists, one behind another
 abbrev pub joined : (ℕ → List Ins) → ℕ → List Ins

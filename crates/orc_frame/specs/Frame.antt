@@ -10,37 +10,15 @@ use Rattle.orc_program.specs.Kept.{is_function}
 use Rattle.orc_program.specs.Program.{FunctionValue}
 use Rattle.x86_ins.specs.declared.ins.Ins.{Ins}
 use Rattle.x86_ins.specs.Machine.{Core, Bounded, Touches}
-use Rattle.x86_flow.proofs.Flow.{Line}
+use Rattle.x86_flow.specs.Does.{Line}
 use Rattle.sse_acc.specs.Sums.{sum_of}
 use Rattle.orc_frame.specs.declared.frame.Layout.{Layout}
 use Rattle.orc_frame.specs.Layout.{frame_size, pattern_slot, sum_slot, saved_slot, block_slot, layout_of, index_in}
+use Rattle.orc_frame.specs.Parts.{InFrame, InBlock, InSums, block_size, param_word, sum_word}
 
 -- the layout is that of some function
 abbrev pub IsLayout : Layout → Type 0
 IsLayout l = (f : FunctionValue) × (is_function f ≡ true) × (l ≡ layout_of f)
-
--- ---- addresses
-
--- rsp is the lowered RSP
-abbrev pub InFrame : ℕ → ℕ → Type 0
-InFrame rsp x = (rsp ≤ x) × (x < rsp + frame_size)
-
--- the bytes of the argument block, and the displacements in it of the words of parameter j and of accumulator g
-abbrev pub block_size : ℕ
-block_size = 304
-
-abbrev pub InBlock : ℕ → ℕ → Type 0
-InBlock rdi x = (rdi ≤ x) × (x < rdi + block_size)
-
-abbrev pub param_word : ℕ → ℕ
-param_word j = 208 + 8 * j
-
-abbrev pub sum_word : ℕ → ℕ
-sum_word g = 272 + 8 * g
-
--- the words of so many accumulators
-abbrev pub InSums : ℕ → ℕ → ℕ → Type 0
-InSums rdi count x = (rdi + sum_word 0 ≤ x) × (x < rdi + sum_word count)
 
 -- ---- registers and numbers
 

@@ -2,7 +2,7 @@
 //!
 //! [`layout`] gives each number of a function its slot there. [`prologue`] gives the code that lowers RSP, saves registers, fills the
 //! patterns and clears the running sums; [`epilogue`] gives the code that stores each accumulator's word, restores registers and raises
-//! RSP. `specs/Frame` says what both do from every core.
+//! RSP. `specs/Frame` says what both do from every core, and `specs/GoodCall` what a good call of a function's code is.
 #![tactic(auto)]
 
 mod frame;

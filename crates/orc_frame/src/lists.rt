@@ -5,6 +5,7 @@ ghost use Rattle.x86_ins.specs.declared.ins.Ins.TheVariants.{AluImm};
 ghost use Rattle.x86_ins.specs.Spelling.{IsAllowed};
 ghost use Rattle.x86_ins.specs.Way.{Each};
 ghost use Rattle.x86_flow.specs.Flow.{size};
+ghost use Rattle.x86_flow.specs.Touching.{AreOwn};
 ghost use Rattle.orc_frame.specs.Layout.{frame_size};
 ghost use Rattle.orc_frame.specs.Frame.{IsLayout, Prepares, Finishes};
 ghost use Rattle.orc_frame.specs.Code.{IsWhole, joined, save_code, pattern_code, clear_code, store_code, restore_code, prologue_code, epilogue_code};
@@ -21,6 +22,7 @@ const FRAME: i32 = 1024;
 pub fn prologue(alloc: Global, l: &Layout) -> Result<InsList, AllocError>
     requires { IsLayout l.now }
     ensures prepares { IfOk result (λ list. Prepares l.now list) }
+    ensures own { IfOk result (λ list. AreOwn list) }
     ensures allowed { IfOk result (λ list. Each IsAllowed list) }
     ensures bytes { IfOk result (λ list. size list ≤ 11 * length list) }
     ensures short { IfOk result (λ list. length list ≤ 8 + 8 * length l.now.patterns.items + 3 * length l.now.acc_sizes.items) }
@@ -32,6 +34,7 @@ pub fn prologue(alloc: Global, l: &Layout) -> Result<InsList, AllocError>
 pub fn epilogue(alloc: Global, l: &Layout) -> Result<InsList, AllocError>
     requires { IsLayout l.now }
     ensures finishes { IfOk result (λ list. Finishes l.now list) }
+    ensures own { IfOk result (λ list. AreOwn list) }
     ensures allowed { IfOk result (λ list. Each IsAllowed list) }
     ensures bytes { IfOk result (λ list. size list ≤ 11 * length list) }
     ensures short { IfOk result (λ list. length list ≤ 7 + 13 * length l.now.acc_sizes.items) }

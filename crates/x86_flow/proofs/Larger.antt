@@ -1,5 +1,5 @@
 -- A run without a trap is the same in a larger memory.
-use Rattle.std.proofs.Common.{◌≡◌, ℕ, zero, suc, ◌+◌, ◌%◌, ◌^◌, ◌==◌, Bool, true, false, ◌&&◌, if◌then◌else◌, pos, List, [], ◌∷◌, get_or, Option, Some, None, Result, Ok, Err, is_some, refl, sym, ap, ◌∙◌, subst, arith, ⊎_elim, true≢false}
+use Rattle.std.proofs.Common.{◌≡◌, ℕ, zero, suc, ◌+◌, ◌%◌, ◌^◌, ◌==◌, Bool, true, false, ◌&&◌, if◌then◌else◌, pos, List, [], ◌∷◌, length, ◌<◌, get_or, Option, Some, None, Result, Ok, Err, is_some, refl, sym, ap, ◌∙◌, subst, arith, ⊎_elim, true≢false}
 use Rattle.std.proofs.lemmas.Bool.{cases_eq}
 use Rattle.orc_bits.specs.Lanes.{from_bytes, byte_of}
 use Rattle.x86_ins.specs.declared.ins.MoveOp.{MoveOp}
@@ -9,8 +9,8 @@ use Rattle.x86_ins.specs.declared.ins.Ins.TheVariants.{Vec, VecImm, Shuffle, Vec
 use Rattle.x86_ins.specs.declared.state.Trap.{Trap}
 use Rattle.x86_ins.specs.declared.state.Why.TheVariants as why
 use Rattle.orc_bits.specs.Memory.{Memory, bind, put, read, value, word, number, fill, store, all_mapped}
-use Rattle.x86_ins.specs.Machine.{Core, Point, with_gpr, with_xmm, with_memory, address, access, save, move_size, moved, below_stack, work, at, jump_if, return_to, test, effect}
-use Rattle.x86_ins.specs.Way.{Placed, Step, Moment, Way}
+use Rattle.x86_ins.specs.Machine.{Core, Point, with_gpr, with_xmm, with_memory, address, access, save, move_size, moved, below_stack, work, at, jump_if, return_to, test, effect, span, Touches}
+use Rattle.x86_ins.specs.Way.{Placed, Step, Moment, Way, Each}
 use Rattle.orc_bits.proofs.Memories.{put_other, put_same, bind_some, none_some, store_there, store_fills}
 use Rattle.x86_ins.proofs.Bounds.{access_ok, aligned_ok, ok_one, ok_err}
 
@@ -76,6 +76,19 @@ fill_apart (suc n) m b a f x t e =
     let two = all_last n m a t in
     put_other (fill n b a f) ((a + n) % 2 ^ 64) (f n) x (λ q. is_none (m x) (ap (λ y. is_some (m y)) q ∙ two.1) e) ∙ fill_apart n m b a f x two.0 e
 
+-- a store leaves two memories alike where they were
+fill_alike : (n : ℕ) (m b : Memory) (a : ℕ) (f : ℕ → ℕ) (x : ℕ) → b x ≡ m x → fill n b a f x ≡ fill n m a f x
+unfolding fill
+fill_alike zero m b a f x h = h
+fill_alike (suc n) m b a f x h =
+    let y = (a + n) % 2 ^ 64 in
+    let one = fill n b a f in
+    let two = fill n m a f in
+    ⊎_elim
+    (λ e. ap (put one y (f n)) e ∙ put_same one y (f n) ∙ sym (ap (put two y (f n)) e ∙ put_same two y (f n)))
+    (λ ne. put_other one y (f n) x ne ∙ fill_alike n m b a f x h ∙ sym (put_other two y (f n) x ne))
+    (cases_eq x y)
+
 all_stored : (n : ℕ) (m : Memory) (a : ℕ) (f : ℕ → ℕ) (end : Memory) → store n m a f ≡ Some end → all_mapped n m a ≡ true
 all_stored n m a f end e = go (all_mapped n m a) refl
   where
@@ -88,6 +101,7 @@ pub record Larger (c d : Core) (b : Memory) (next : Core → Result Core Trap) :
   pub after : Memory
   pub does : next (with_memory c b) ≡ Ok (with_memory d after)
   pub sub : Sub d.memory after
+  pub agree : (a : ℕ) → b a ≡ c.memory a → after a ≡ d.memory a
   pub rest : (a : ℕ) → c.memory a ≡ None → after a ≡ b a
   pub unmapped : (a : ℕ) → c.memory a ≡ None → d.memory a ≡ None
 
@@ -96,6 +110,7 @@ same_memory c d u b next s m e n = record {
   after = b;
   does = n ∙ ap (λ x. Ok (with_memory x b)) e;
   sub = subst (λ x. Sub x b) (sym m ∙ ap (λ x. x.memory) e) s;
+  agree = λ a h. h ∙ ap (λ f. f a) (sym m ∙ ap (λ x. x.memory) e);
   rest = λ a h. refl;
   unmapped = λ a h. ap (λ f. f a) (ap (λ x. x.memory) (sym e) ∙ m) ∙ h;
 }
@@ -120,6 +135,7 @@ saves i n c d a f go b s m k w e =
       after = fill n b a f;
       does = w b ∙ ap (λ o. access n b a o go) (store_there n b a f (mapped_larger n c.memory b a s all)) ∙ ap (λ y. Ok y) (k x.0 (fill n b a f)) ∙ ap (λ y. Ok (with_memory y (fill n b a f))) x.2;
       sub = subst (λ y. Sub y (fill n b a f)) same (fill_larger n c.memory b a f s);
+      agree = λ x h. fill_alike n c.memory b a f x h ∙ ap (λ y. y x) same;
       rest = λ x h. fill_apart n c.memory b a f x all h;
       unmapped = λ x h. ap (λ y. y x) (sym same) ∙ fill_apart n c.memory c.memory a f x all h ∙ h;
     }
@@ -142,7 +158,7 @@ work_larger (VecLoad op r p) c d b s e = vec_load op e
         over : (t : Bool) → (address c p % 16 == 0) ≡ t → Larger c d b (work (VecLoad move.Movdqa r p))
         over true h =
             let g = goes move.Movdqa (aligned_ok move.Movdqa (address c p) _ d e) in
-            record { after = g.after; does = ap (λ t. if t then loaded move.Movdqa (with_memory c b) else Err (record { at = address c p; why = why.Misaligned })) h ∙ g.does; sub = g.sub; rest = g.rest; unmapped = g.unmapped }
+            record { after = g.after; does = ap (λ t. if t then loaded move.Movdqa (with_memory c b) else Err (record { at = address c p; why = why.Misaligned })) h ∙ g.does; sub = g.sub; agree = g.agree; rest = g.rest; unmapped = g.unmapped }
         over false h = absurd (ok_err (sym (ap (λ t. if t then loaded move.Movdqa c else Err (record { at = address c p; why = why.Misaligned })) h) ∙ e))
     vec_load move.Movdqu e = goes move.Movdqu e
     vec_load move.Movq e = goes move.Movq e
@@ -164,6 +180,7 @@ work_larger (VecStore op r p) c d b s e = vec_store op e
           after = fill n b a f;
           does = ap (λ o. access n b a o (λ mem. with_memory c mem)) (store_there n b a f (mapped_larger n c.memory b a s all)) ∙ ap (λ y. Ok (with_memory y (fill n b a f))) x.2;
           sub = subst (λ y. Sub y (fill n b a f)) same (fill_larger n c.memory b a f s);
+          agree = λ x h. fill_alike n c.memory b a f x h ∙ ap (λ y. y x) same;
           rest = λ x h. fill_apart n c.memory b a f x all h;
           unmapped = λ x h. ap (λ y. y x) (sym same) ∙ fill_apart n c.memory c.memory a f x all h ∙ h;
         }
@@ -174,7 +191,7 @@ work_larger (VecStore op r p) c d b s e = vec_store op e
         over : (t : Bool) → (address c p % 16 == 0) ≡ t → Larger c d b (work (VecStore move.Movdqa r p))
         over true h =
             let g = goes move.Movdqa (aligned_ok move.Movdqa (address c p) _ d e) in
-            record { after = g.after; does = ap (λ t. if t then stored move.Movdqa (with_memory c b) else Err (record { at = address c p; why = why.Misaligned })) h ∙ g.does; sub = g.sub; rest = g.rest; unmapped = g.unmapped }
+            record { after = g.after; does = ap (λ t. if t then stored move.Movdqa (with_memory c b) else Err (record { at = address c p; why = why.Misaligned })) h ∙ g.does; sub = g.sub; agree = g.agree; rest = g.rest; unmapped = g.unmapped }
         over false h = absurd (ok_err (sym (ap (λ t. if t then stored move.Movdqa c else Err (record { at = address c p; why = why.Misaligned })) h) ∙ e))
     vec_store move.Movdqu e = goes move.Movdqu e
     vec_store move.Movq e = goes move.Movq e
@@ -212,6 +229,7 @@ pub record LargerPoint (c : Core) (t : Point) (b : Memory) (next : Core → Resu
   pub after : Memory
   pub does : next (with_memory c b) ≡ Ok (big t after)
   pub sub : Sub t.core.memory after
+  pub agree : (a : ℕ) → b a ≡ c.memory a → after a ≡ t.core.memory a
   pub rest : (a : ℕ) → c.memory a ≡ None → after a ≡ b a
   pub unmapped : (a : ℕ) → c.memory a ≡ None → t.core.memory a ≡ None
 
@@ -246,6 +264,7 @@ plain_larger i c rip t b s e =
       after = l.after;
       does = ap (λ o. at o rip) l.does ∙ ap (λ u. Ok (big u l.after)) x.2;
       sub = subst (λ u. Sub u.memory l.after) same l.sub;
+      agree = λ a h. l.agree a h ∙ ap (λ u. u.memory a) same;
       rest = l.rest;
       unmapped = λ a h. ap (λ u. u.memory a) (sym same) ∙ l.unmapped a h;
     }
@@ -255,6 +274,7 @@ here_larger c d rip t b next s m e n = record {
   after = b;
   does = n ∙ ap (λ u. Ok (big u b)) e;
   sub = subst (λ x. Sub x b) (sym m ∙ ap (λ u. u.core.memory) e) s;
+  agree = λ a h. h ∙ ap (λ f. f a) (sym m ∙ ap (λ u. u.core.memory) e);
   rest = λ a h. refl;
   unmapped = λ a h. ap (λ u. u.core.memory a) (sym e) ∙ ap (λ f. f a) m ∙ h;
 }
@@ -304,41 +324,96 @@ effect_larger (Lea d a) c rip t b w e = plain_larger (Lea d a) c rip t b w e
 effect_larger (Push s) c rip t b w e = plain_larger (Push s) c rip t b w e
 effect_larger (Pop d) c rip t b w e = plain_larger (Pop d) c rip t b w e
 
--- the moments of two ways, with a larger memory in the second
-abbrev pub Alike : List Moment → List Moment → Type 0
-Alike [] [] = Unit {0}
-Alike (m ∷ ms) (n ∷ ns) = ((b : Memory) × (n.point ≡ big m.point b) × Sub m.point.core.memory b) × (n.ins ≡ m.ins) × Alike ms ns
-Alike [] (n ∷ ns) = ⊥
-Alike (m ∷ ms) [] = ⊥
+-- a point q of a run in a larger memory beside the point p of the run in a smaller one; `small` and `large` are the memories at the start
+pub record Beside (small large : Memory) (p q : Point) : Type 0 where
+  -- all but memory is the same
+  pub same : q ≡ big p q.core.memory
+  pub sub : Sub p.core.memory q.core.memory
+  -- where the two memories agreed they still do
+  pub agree : (a : ℕ) → large a ≡ small a → q.core.memory a ≡ p.core.memory a
+  -- where the smaller one had no byte it still has none, and the larger one is as at the start
+  pub none : (a : ℕ) → small a ≡ None → p.core.memory a ≡ None
+  pub rest : (a : ℕ) → small a ≡ None → q.core.memory a ≡ large a
 
-pub record LargerWay (code : Placed) (s : Point) (way : List Moment) (t : Point) (b : Memory) : Type 0 where
+-- two ways of such points, by the same instructions
+abbrev pub Alike : Memory → Memory → List Moment → List Moment → Type 0
+Alike small large [] [] = Unit {0}
+Alike small large (m ∷ ms) (n ∷ ns) = Beside small large m.point n.point × (n.ins ≡ m.ins) × Alike small large ms ns
+Alike small large [] (n ∷ ns) = ⊥
+Alike small large (m ∷ ms) [] = ⊥
+
+-- the run from a point beside s
+pub record LargerWay (small large : Memory) (code : Placed) (way : List Moment) (t q : Point) : Type 0 where
   pub more : List Moment
-  pub after : Memory
-  pub runs : Way code (big s b) more (big t after)
-  pub alike : Alike way more
-  pub sub : Sub t.core.memory after
-  pub rest : (a : ℕ) → s.core.memory a ≡ None → after a ≡ b a
+  pub end : Point
+  pub runs : Way code q more end
+  pub alike : Alike small large way more
+  pub beside : Beside small large t end
 
-pub way_larger : (code : Placed) (s : Point) (way : List Moment) (t : Point) (b : Memory) → Sub s.core.memory b → Way code s way t → LargerWay code s way t b
-way_larger code s [] t b sub w = record {
-  more = [];
-  after = b;
-  runs = ap (λ x. big x b) w;
-  alike = tt;
-  sub = subst (λ x. Sub x.core.memory b) w sub;
-  rest = λ a h. refl;
-}
-way_larger code s (m ∷ ms) t b sub w =
+way_beside : (small large : Memory) (code : Placed) (s : Point) (way : List Moment) (t : Point) (b : Memory) → Beside small large s (big s b) → Way code s way t → LargerWay small large code way t (big s b)
+way_beside small large code s [] t b h w = record { more = []; end = big s b; runs = refl; alike = tt; beside = subst (λ x. Beside small large x (big s b)) w h }
+way_beside small large code s (m ∷ ms) t b h w =
     let u = w.1 in
     let step = w.2 in
-    let l = effect_larger m.ins s.core ((s.rip + step.size) % 2 ^ 64) u b sub step.done in
-    let r = way_larger code u ms t l.after l.sub w.3 in
+    let l = effect_larger m.ins s.core ((s.rip + step.size) % 2 ^ 64) u b h.sub step.done in
+    let next : Beside small large u (big u l.after) = record { same = refl; sub = l.sub; agree = λ a e. l.agree a (h.agree a e); none = λ a e. l.unmapped a (h.none a e); rest = λ a e. l.rest a (h.none a e) ∙ h.rest a e } in
+    let r = way_beside small large code u ms t l.after next w.3 in
     let big_step : Step code (big s b) m.ins (big u l.after) = record { size = step.size; inside = step.inside; decoded = step.decoded; done = l.does } in
     record {
       more = record { point = big s b; ins = m.ins } ∷ r.more;
-      after = r.after;
+      end = r.end;
       runs = (refl, big u l.after, big_step, r.runs);
-      alike = ((b, ap (λ x. big x b) (sym w.0), subst (λ x. Sub x.core.memory b) (sym w.0) sub), refl, r.alike);
-      sub = r.sub;
-      rest = λ a h. r.rest a (l.unmapped a h) ∙ l.rest a h;
+      alike = (subst (λ x. Beside small large x (big s b)) (sym w.0) h, refl, r.alike);
+      beside = r.beside;
     }
+
+pub way_larger : (code : Placed) (s : Point) (way : List Moment) (t : Point) (b : Memory) → Sub s.core.memory b → Way code s way t → LargerWay s.core.memory b code way t (big s b)
+way_larger code s way t b sub w = way_beside s.core.memory b code s way t b (record { same = refl; sub = sub; agree = λ a e. e; none = λ a e. e; rest = λ a e. refl }) w
+
+-- ---- what two such ways have alike
+
+pub alike_length : (small large : Memory) (ms ns : List Moment) → Alike small large ms ns → length ns ≡ length ms
+alike_length small large [] [] a = refl
+alike_length small large [] (n ∷ ns) a = absurd a
+alike_length small large (m ∷ ms) [] a = absurd a
+alike_length small large (m ∷ ms) (n ∷ ns) a = ap suc (alike_length small large ms ns a.2)
+
+pub alike_each : (small large : Memory) (P Q : Moment → Type 0) → ((m n : Moment) → Beside small large m.point n.point → n.ins ≡ m.ins → P m → Q n) → (ms ns : List Moment) → Alike small large ms ns → Each P ms → Each Q ns
+alike_each small large P Q f [] [] a h = tt
+alike_each small large P Q f [] (n ∷ ns) a h = absurd a
+alike_each small large P Q f (m ∷ ms) [] a h = absurd a
+alike_each small large P Q f (m ∷ ms) (n ∷ ns) a h = (f m n a.0 a.1 h.0, alike_each small large P Q f ms ns a.2 h.1)
+
+-- the same bytes are touched
+span_same : (i : Ins) (c : Core) (b : Memory) → span i (with_memory c b) ≡ span i c
+span_same (VecLoad op d a) c b = refl
+span_same (VecStore op s a) c b = refl
+span_same (Load d a) c b = refl
+span_same (Store s a) c b = refl
+span_same (Store8 s a) c b = refl
+span_same (Store16 s a) c b = refl
+span_same (Load8 d a) c b = refl
+span_same (Load16 d a) c b = refl
+span_same (Push s) c b = refl
+span_same (Pop d) c b = refl
+span_same Ret c b = refl
+span_same (Vec op d s) c b = refl
+span_same (VecImm op d n) c b = refl
+span_same (Shuffle op d s o) c b = refl
+span_same (FromGpr wide d s) c b = refl
+span_same (ToGpr wide d s) c b = refl
+span_same (Move d s) c b = refl
+span_same (MovImm d v) c b = refl
+span_same (Alu op d s) c b = refl
+span_same (AluImm op d v) c b = refl
+span_same (Test x y) c b = refl
+span_same (Shift op d n) c b = refl
+span_same (Imul d s) c b = refl
+span_same (Lea d a) c b = refl
+span_same (Jump rel) c b = refl
+span_same (JumpIf q rel) c b = refl
+
+pub beside_touches : (small large : Memory) (p q : Point) (i j : Ins) (a : ℕ) → Beside small large p q → j ≡ i → Touches j q.core a → Touches i p.core a
+beside_touches small large p q i j a h e t =
+    let same : span j q.core ≡ span i p.core = ap (λ k. span k q.core) e ∙ ap (λ u. span i u.core) h.same ∙ span_same i p.core q.core.memory in
+    subst (λ x. (k : ℕ) × (k < x.1) × (a ≡ (x.0 + k) % 2 ^ 64)) same t

@@ -2,7 +2,9 @@ pub mod Ways
 pub mod Flow
 pub mod Unique
 pub mod Plans
+pub mod Touching
 pub mod Moves
+pub mod Counting
 pub mod Larger
 pub mod Frame
 pub mod Ends
@@ -10,3 +12,5 @@ pub mod Words
 pub mod Spelled
 pub mod Returning
 pub mod Appends
+pub mod Trees
+pub mod Shapes

@@ -1,5 +1,5 @@
 -- Bytes between memory and a vector register, and lists one after another.
-use Rattle.std.proofs.Common.{◌≡◌, ◌≢◌, ℕ, zero, suc, ◌+◌, ◌*◌, ◌%◌, ◌/◌, ◌^◌, ◌<◌, ◌≤◌, nat_lt, Bool, true, false, if◌then◌else◌, List, [], ◌∷◌, ◌++◌, get_or, Some, Result, Ok, refl, sym, ap, ◌∙◌, subst, arith, lit<, inl, inr}
+use Rattle.std.proofs.Common.{◌≡◌, ◌≢◌, ℕ, zero, suc, ◌+◌, ◌*◌, ◌%◌, ◌/◌, ◌^◌, ◌<◌, ◌≤◌, ◌==◌, nat_lt, Bool, true, false, if◌then◌else◌, List, [], ◌∷◌, ◌++◌, get_or, Some, Result, Ok, Err, refl, sym, ap, ◌∙◌, subst, arith, lit<, inl, inr}
 use Rattle.std.proofs.lemmas.Bool.Decides.{nat_tests}
 use Rattle.orc_bits.specs.Lanes.{lane, from_bytes, byte_of, AreBytes}
 use Rattle.orc_bits.proofs.LaneLaws.{lane_law, lane_one, from_byte, AreBytes-from_bytes, change_other, change_same}
@@ -9,10 +9,14 @@ use Rattle.x86_ins.specs.declared.ins.Ins.{Ins}
 use Rattle.x86_ins.specs.declared.ins.Ins.TheVariants.{VecLoad, VecStore, FromGpr, ToGpr, Load8, Load16, Store8, Store16}
 use Rattle.orc_bits.specs.Memory.{Memory, bind, read, number, fill, IsMapped}
 use Rattle.x86_ins.specs.declared.state.Trap.{Trap}
-use Rattle.x86_ins.specs.Machine.{Core, with_gpr, with_xmm, with_memory, address, access, aligned, move_size, load, save, work}
+use Rattle.x86_ins.specs.Machine.{Core, with_gpr, with_xmm, with_memory, address, access, aligned, move_size, load, save, work, span}
 use Rattle.orc_bits.proofs.Memories.{fill_in, fill_out, all_there, store_there}
-use Rattle.x86_flow.specs.Moves.{here, IsWidth, load_code, store_code}
-use Rattle.x86_flow.proofs.Flow.{Line}
+use Rattle.x86_ins.specs.declared.state.Why.TheVariants as why
+use Rattle.x86_flow.specs.Moves.{away, IsWidth, load_far_code, store_far_code, aligned_store_far_code, store_either_code, load_code, store_code}
+use Rattle.x86_flow.specs.Does.{Line}
+use Rattle.x86_flow.specs.Touching.{base_of, touch_weight}
+use Rattle.x86_flow.proofs.Plans.{weigh}
+use Rattle.x86_flow.proofs.Touching.{Touching}
 
 pub line_append : (Q : Core → Ins → Type 0) (a b : List Ins) (c u d : Core) → Line Q a c u → Line Q b u d → Line Q (a ++ b) c d
 line_append Q [] b c u d x y = subst (λ v. Line Q b v d) (sym x) y
@@ -108,8 +112,8 @@ pub record Stored (width x p : ℕ) (c d : Core) : Type 0 where
   pub gpr : (r : ℕ) → r ≢ 0 → d.gpr r ≡ c.gpr r
   pub xmm : d.xmm ≡ c.xmm
 
-at_base : (c : Core) (r p : ℕ) → c.gpr r ≡ p → p + 16 < 2 ^ 63 → address c (here r) ≡ p
-at_base c r p e low = omega (arith, e, low)
+at_base : (c : Core) (r d p : ℕ) → c.gpr r + d ≡ p → p + 16 < 2 ^ 63 → address c (away r d) ≡ p
+at_base c r d p e low = omega (arith, e, low)
 
 move_fits : (op : MoveOp) → move_size op ≤ 16
 move_fits move.Movdqa = omega arith
@@ -117,9 +121,13 @@ move_fits move.Movdqu = omega arith
 move_fits move.Movq = omega arith
 move_fits move.Movd = omega arith
 
--- the operation asks for no alignment
-abbrev IsFree : MoveOp → Type 0
-IsFree op = (a : ℕ) (o : Result Core Trap) → aligned op a o ≡ o
+-- the operation may be done at this address
+abbrev IsFree : MoveOp → ℕ → Type 0
+IsFree op a = (o : Result Core Trap) → aligned op a o ≡ o
+
+-- as each is at a multiple of 16
+at_sixteen : (a p : ℕ) → a ≡ p → p % 16 ≡ 0 → IsFree move.Movdqa a
+at_sixteen a p e m o = ap (λ q. if q % 16 == 0 then o else Err (record { at = q; why = why.Misaligned })) e ∙ ap (λ z. if z == 0 then o else Err (record { at = p; why = why.Misaligned })) m ∙ ap (λ q. aligned move.Movdqu q o) (sym e)
 
 byte_below : (n v j : ℕ) → j < n → byte_of n v j ≡ v / 256 ^ j % 256
 byte_below n v j l = let t : nat_lt j n ≡ true = grind (arith, nat_tests) in ap (λ b. if b then v / 256 ^ j % 256 else 0) t
@@ -131,25 +139,29 @@ byte_small n v j = go (nat_lt j n)
     go true = omega arith
     go false = lit< tt
 
-module _ (Q : Core → Ins → Type 0) (c : Core) (keeps : (u : Core) (i : Ins) → u.memory ≡ c.memory → ((r : ℕ) → r ≢ 0 → u.gpr r ≡ c.gpr r) → Q u i) where
+module _ (Q : Core → Ins → Type 0) (c : Core) where
+  -- what lets Q be known at each step: the memory and all registers but RAX are as before, and the instruction touches at most these bytes, by this register
+  abbrev pub Keeps : ℕ → ℕ → ℕ → Type 0
+  Keeps r p width = (u : Core) (i : Ins) → u.memory ≡ c.memory → ((q : ℕ) → q ≢ 0 → u.gpr q ≡ c.gpr q) → Touching r p width i u → Q u i
+
   abbrev Loads : ℕ → List Ins → ℕ → (ℕ → ℕ) → Type 0
   Loads width code x z = (d : Core) × Line Q code c d × Loaded width x z c d
 
   -- by way of RAX
-  load_narrow : (n x r p : ℕ) (z : ℕ → ℕ) (i : Ins) → ((u : Core) → work i u ≡ load n u (address u (here r)) (λ v. with_gpr u 0 v)) → n ≤ 4 → c.gpr r ≡ p → p + 16 < 2 ^ 63 → ((j : ℕ) → j < n → c.memory (p + j) ≡ Some (z j)) → ((j : ℕ) → j < n → number (front n z) / 256 ^ j % 256 ≡ z j % 256)
+  load_narrow : (n x r far p : ℕ) (z : ℕ → ℕ) (i : Ins) → Keeps r p n → base_of i ≡ Some r → ((u : Core) → span i u ≡ (address u (away r far), n)) → ((u : Core) → work i u ≡ load n u (address u (away r far)) (λ v. with_gpr u 0 v)) → n ≤ 4 → c.gpr r + far ≡ p → p + 16 < 2 ^ 63 → ((j : ℕ) → j < n → c.memory (p + j) ≡ Some (z j)) → ((j : ℕ) → j < n → number (front n z) / 256 ^ j % 256 ≡ z j % 256)
       → Loads n (i ∷ FromGpr false x 0 ∷ []) x z
-  load_narrow n x r p z i is_load few e low h digits =
+  load_narrow n x r far p z i keeps by bytes is_load few e low h digits =
       let v = number (front n z) in
       let c1 : Core = with_gpr c 0 v in
       let new : List ℕ = from_bytes (byte_of 4 v) in
       let d : Core = with_xmm c1 x new in
       let loads : work i c ≡ Ok c1 =
-      is_load c ∙ ap (λ a. load n c a (λ v. with_gpr c 0 v)) (at_base c r p e low)
+      is_load c ∙ ap (λ a. load n c a (λ v. with_gpr c 0 v)) (at_base c r far p e low)
       ∙ ap (λ o. access n c.memory p (bind o (λ bs. Some (number bs))) (λ v. with_gpr c 0 v)) (read_front n c.memory p z (omega (arith, low, few)) h) in
       let other : (y : ℕ) → y ≢ 0 → c1.gpr y ≡ c.gpr y = λ y ne. change_other c.gpr 0 v y ne in
       let is_new : d.xmm x ≡ new = change_same c.xmm x new in (
         d,
-        (keeps c _ refl (λ y ne. refl), (c1, loads, (keeps c1 _ refl other, (d, refl, refl)))),
+        (keeps c _ refl (λ y ne. refl) (inr (by, bytes c ∙ ap (λ a. (a, n)) (at_base c r far p e low))), (c1, loads, (keeps c1 _ refl other (inl refl), (d, refl, refl)))),
         record {
           memory = refl;
           gpr = other;
@@ -162,19 +174,19 @@ module _ (Q : Core → Ins → Type 0) (c : Core) (keeps : (u : Core) (i : Ins) 
       )
 
   -- at once
-  load_vector : (op : MoveOp) (x r p : ℕ) (z : ℕ → ℕ) → IsFree op → c.gpr r ≡ p → p + 16 < 2 ^ 63 → ((j : ℕ) → j < move_size op → c.memory (p + j) ≡ Some (z j)) → Loads (move_size op) (VecLoad op x (here r) ∷ []) x z
-  load_vector op x r p z free e low h =
+  load_vector : (op : MoveOp) (x r far p : ℕ) (z : ℕ → ℕ) → Keeps r p (move_size op) → IsFree op (address c (away r far)) → c.gpr r + far ≡ p → p + 16 < 2 ^ 63 → ((j : ℕ) → j < move_size op → c.memory (p + j) ≡ Some (z j)) → Loads (move_size op) (VecLoad op x (away r far) ∷ []) x z
+  load_vector op x r far p z keeps free e low h =
       let n = move_size op in
       let few = move_fits op in
       let new : List ℕ = from_bytes (λ j. get_or (front n z) j 0) in
       let d : Core = with_xmm c x new in
-      let loads : work (VecLoad op x (here r)) c ≡ Ok d =
-      free _ _
-      ∙ ap (λ a. access n c.memory a (read n c.memory a) (λ bs. with_xmm c x (from_bytes (λ j. get_or bs j 0)))) (at_base c r p e low)
+      let loads : work (VecLoad op x (away r far)) c ≡ Ok d =
+      free _
+      ∙ ap (λ a. access n c.memory a (read n c.memory a) (λ bs. with_xmm c x (from_bytes (λ j. get_or bs j 0)))) (at_base c r far p e low)
       ∙ ap (λ o. access n c.memory p o (λ bs. with_xmm c x (from_bytes (λ j. get_or bs j 0)))) (read_front n c.memory p z (omega (arith, low, few)) h) in
       let is_new : d.xmm x ≡ new = change_same c.xmm x new in (
         d,
-        (keeps c _ refl (λ y ne. refl), (d, loads, refl)),
+        (keeps c _ refl (λ y ne. refl) (inr (refl, ap (λ a. (a, n)) (at_base c r far p e low))), (d, loads, refl)),
         record {
           memory = refl;
           gpr = λ y ne. refl;
@@ -185,23 +197,23 @@ module _ (Q : Core → Ins → Type 0) (c : Core) (keeps : (u : Core) (i : Ins) 
       )
 
   -- bytes are loaded; two of them make a number, whose low byte is the first where that is a byte
-  pub load_line : (width x r p : ℕ) (z : ℕ → ℕ) → IsWidth width → c.gpr r ≡ p → p + 16 < 2 ^ 63 → ((j : ℕ) → j < width → c.memory (p + j) ≡ Some (z j)) → (width ≡ 2 → z 0 < 256) → (d : Core) × Line Q (load_code width x r) c d × Loaded width x z c d
-  load_line width x r p z is e low =
-      each_width (λ n. ((j : ℕ) → j < n → c.memory (p + j) ≡ Some (z j)) → (n ≡ 2 → z 0 < 256) → Loads n (load_code n x r) x z)
-      (λ h s. load_narrow 1 x r p z (Load8 0 (here r)) (λ u. refl) (omega arith) e low h (one_byte z))
-      (λ h s. load_narrow 2 x r p z (Load16 0 (here r)) (λ u. refl) (omega arith) e low h (two_bytes z (s refl)))
-      (λ h s. load_vector move.Movd x r p z (λ a o. refl) e low h)
-      (λ h s. load_vector move.Movq x r p z (λ a o. refl) e low h)
-      (λ h s. load_vector move.Movdqu x r p z (λ a o. refl) e low h)
-      width is
+  pub load_line_at : (width x r far p : ℕ) (z : ℕ → ℕ) → Keeps r p width → IsWidth width → c.gpr r + far ≡ p → p + 16 < 2 ^ 63 → ((j : ℕ) → j < width → c.memory (p + j) ≡ Some (z j)) → (width ≡ 2 → z 0 < 256) → (d : Core) × Line Q (load_far_code width x r far) c d × Loaded width x z c d
+  load_line_at width x r far p z keeps is e low =
+      each_width (λ n. Keeps r p n → ((j : ℕ) → j < n → c.memory (p + j) ≡ Some (z j)) → (n ≡ 2 → z 0 < 256) → Loads n (load_far_code n x r far) x z)
+      (λ k h s. load_narrow 1 x r far p z (Load8 0 (away r far)) k refl (λ u. refl) (λ u. refl) (omega arith) e low h (one_byte z))
+      (λ k h s. load_narrow 2 x r far p z (Load16 0 (away r far)) k refl (λ u. refl) (λ u. refl) (omega arith) e low h (two_bytes z (s refl)))
+      (λ k h s. load_vector move.Movd x r far p z k (λ o. refl) e low h)
+      (λ k h s. load_vector move.Movq x r far p z k (λ o. refl) e low h)
+      (λ k h s. load_vector move.Movdqu x r far p z k (λ o. refl) e low h)
+      width is keeps
 
   abbrev Stores : ℕ → List Ins → ℕ → ℕ → Type 0
   Stores width code x p = (d : Core) × Line Q code c d × Stored width x p c d
 
   -- by way of RAX
-  store_narrow : (n x r p : ℕ) (i : Ins) → ((u : Core) → work i u ≡ save n u (address u (here r)) (byte_of n (u.gpr 0)) (λ mem. with_memory u mem)) → n ≤ 4 → r ≢ 0 → c.gpr r ≡ p → p + 16 < 2 ^ 63 → ((j : ℕ) → j < n → IsMapped c.memory (p + j)) → ((j : ℕ) → j < n → byte_of n (lane 4 0 (c.xmm x)) j ≡ get_or (c.xmm x) j 0)
+  store_narrow : (n x r far p : ℕ) (i : Ins) → Keeps r p n → base_of i ≡ Some r → ((u : Core) → span i u ≡ (address u (away r far), n)) → ((u : Core) → work i u ≡ save n u (address u (away r far)) (byte_of n (u.gpr 0)) (λ mem. with_memory u mem)) → n ≤ 4 → r ≢ 0 → c.gpr r + far ≡ p → p + 16 < 2 ^ 63 → ((j : ℕ) → j < n → IsMapped c.memory (p + j)) → ((j : ℕ) → j < n → byte_of n (lane 4 0 (c.xmm x)) j ≡ get_or (c.xmm x) j 0)
       → Stores n (ToGpr false 0 x ∷ i ∷ []) x p
-  store_narrow n x r p i is_store few ne e low h digits =
+  store_narrow n x r far p i keeps by bytes is_store few ne e low h digits =
       let v = lane 4 0 (c.xmm x) in
       let c1 : Core = with_gpr c 0 v in
       let f = byte_of n v in
@@ -209,31 +221,79 @@ module _ (Q : Core → Ins → Type 0) (c : Core) (keeps : (u : Core) (i : Ins) 
       let d : Core = with_memory c1 (fill n c.memory p f) in
       let other : (y : ℕ) → y ≢ 0 → c1.gpr y ≡ c.gpr y = λ y ne. change_other c.gpr 0 v y ne in
       let stores : work i c1 ≡ Ok d =
-      is_store c1 ∙ ap (λ a. save n c1 a f (λ mem. with_memory c1 mem)) (at_base c1 r p (other r ne ∙ e) low)
+      is_store c1 ∙ ap (λ a. save n c1 a f (λ mem. with_memory c1 mem)) (at_base c1 r far p (ap (λ t. t + far) (other r ne) ∙ e) low)
       ∙ ap (λ o. access n c.memory p o (λ mem. with_memory c1 mem)) (store_there n c.memory p f there) in
-      (d, (keeps c _ refl (λ y n. refl), (c1, refl, (keeps c1 _ refl other, (d, stores, refl)))), record { memory = fill_is n c.memory p f (λ j. get_or (c.xmm x) j 0) (omega (arith, low, few)) digits; gpr = other; xmm = refl })
+      (d, (keeps c _ refl (λ y n. refl) (inl refl), (c1, refl, (keeps c1 _ refl other (inr (by, bytes c1 ∙ ap (λ a. (a, n)) (at_base c1 r far p (ap (λ t. t + far) (other r ne) ∙ e) low))), (d, stores, refl)))), record { memory = fill_is n c.memory p f (λ j. get_or (c.xmm x) j 0) (omega (arith, low, few)) digits; gpr = other; xmm = refl })
 
   -- at once
-  store_vector : (op : MoveOp) (x r p : ℕ) → IsFree op → c.gpr r ≡ p → p + 16 < 2 ^ 63 → ((j : ℕ) → j < move_size op → IsMapped c.memory (p + j)) → Stores (move_size op) (VecStore op x (here r) ∷ []) x p
-  store_vector op x r p free e low h =
+  store_vector : (op : MoveOp) (x r far p : ℕ) → Keeps r p (move_size op) → IsFree op (address c (away r far)) → c.gpr r + far ≡ p → p + 16 < 2 ^ 63 → ((j : ℕ) → j < move_size op → IsMapped c.memory (p + j)) → Stores (move_size op) (VecStore op x (away r far) ∷ []) x p
+  store_vector op x r far p keeps free e low h =
       let n = move_size op in
       let few = move_fits op in
       let f : ℕ → ℕ = λ j. get_or (c.xmm x) j 0 in
       let there = all_there n c.memory p (omega (arith, low, few)) h in
       let d : Core = with_memory c (fill n c.memory p f) in
-      let stores : work (VecStore op x (here r)) c ≡ Ok d =
-      free _ _
-      ∙ ap (λ a. save n c a f (λ mem. with_memory c mem)) (at_base c r p e low)
+      let stores : work (VecStore op x (away r far)) c ≡ Ok d =
+      free _
+      ∙ ap (λ a. save n c a f (λ mem. with_memory c mem)) (at_base c r far p e low)
       ∙ ap (λ o. access n c.memory p o (λ mem. with_memory c mem)) (store_there n c.memory p f there) in
-      (d, (keeps c _ refl (λ y n. refl), (d, stores, refl)), record { memory = fill_is n c.memory p f f (omega (arith, low, few)) (λ j l. refl); gpr = λ y n. refl; xmm = refl })
+      (d, (keeps c _ refl (λ y n. refl) (inr (refl, ap (λ a. (a, n)) (at_base c r far p e low))), (d, stores, refl)), record { memory = fill_is n c.memory p f f (omega (arith, low, few)) (λ j l. refl); gpr = λ y n. refl; xmm = refl })
 
   -- bytes are stored
+  pub store_line_at : (width x r far p : ℕ) → Keeps r p width → IsWidth width → r ≢ 0 → c.gpr r + far ≡ p → p + 16 < 2 ^ 63 → ((j : ℕ) → j < width → IsMapped c.memory (p + j)) → ((j : ℕ) → get_or (c.xmm x) j 0 < 256) → (d : Core) × Line Q (store_far_code width x r far) c d × Stored width x p c d
+  store_line_at width x r far p keeps is ne e low h small =
+      each_width (λ n. Keeps r p n → ((j : ℕ) → j < n → IsMapped c.memory (p + j)) → Stores n (store_far_code n x r far) x p)
+      (λ k h. store_narrow 1 x r far p (Store8 0 (away r far)) k refl (λ u. refl) (λ u. refl) (omega arith) ne e low h (low_byte (c.xmm x) small))
+      (λ k h. store_narrow 2 x r far p (Store16 0 (away r far)) k refl (λ u. refl) (λ u. refl) (omega arith) ne e low h (low_bytes (c.xmm x) small))
+      (λ k h. store_vector move.Movd x r far p k (λ o. refl) e low h)
+      (λ k h. store_vector move.Movq x r far p k (λ o. refl) e low h)
+      (λ k h. store_vector move.Movdqu x r far p k (λ o. refl) e low h)
+      width is keeps h
+
+  -- a whole register is stored at a multiple of 16
+  pub aligned_store_line : (x r far p : ℕ) → Keeps r p 16 → c.gpr r + far ≡ p → p + 16 < 2 ^ 63 → p % 16 ≡ 0 → ((j : ℕ) → j < 16 → IsMapped c.memory (p + j)) → (d : Core) × Line Q (aligned_store_far_code x r far) c d × Stored 16 x p c d
+  aligned_store_line x r far p keeps e low m h = store_vector move.Movdqa x r far p keeps (at_sixteen (address c (away r far)) p (at_base c r far p e low) m) e low h
+
+  -- in the one way or the other, the aligned one for whole registers at multiples of 16
+  pub store_either_line : (aligned : Bool) (width x r far p : ℕ) → (aligned ≡ true → (width ≡ 16) × (p % 16 ≡ 0)) → Keeps r p width → IsWidth width → r ≢ 0 → c.gpr r + far ≡ p → p + 16 < 2 ^ 63 → ((j : ℕ) → j < width → IsMapped c.memory (p + j)) → ((j : ℕ) → get_or (c.xmm x) j 0 < 256)
+      → (d : Core) × Line Q (store_either_code aligned width x r far) c d × Stored width x p c d
+  store_either_line false width x r far p at_16 keeps is ne e low h small = store_line_at width x r far p keeps is ne e low h small
+  store_either_line true width x r far p at_16 keeps is ne e low h small =
+      let whole : width ≡ 16 = (at_16 refl).0 in
+      let s = aligned_store_line x r far p (subst (λ n. Keeps r p n) whole keeps) e low (at_16 refl).1 (subst (λ n. (j : ℕ) → j < n → IsMapped c.memory (p + j)) whole h) in
+      (s.0, s.1, subst (λ n. Stored n x p c s.0) (sym whole) s.2)
+
+-- the same where Q asks nothing of what is touched
+module _ (Q : Core → Ins → Type 0) (c : Core) (keeps : (u : Core) (i : Ins) → u.memory ≡ c.memory → ((r : ℕ) → r ≢ 0 → u.gpr r ≡ c.gpr r) → Q u i) where
+  pub load_line : (width x r p : ℕ) (z : ℕ → ℕ) → IsWidth width → c.gpr r ≡ p → p + 16 < 2 ^ 63 → ((j : ℕ) → j < width → c.memory (p + j) ≡ Some (z j)) → (width ≡ 2 → z 0 < 256) → (d : Core) × Line Q (load_code width x r) c d × Loaded width x z c d
+  load_line width x r p z is e = load_line_at Q c width x r 0 p z (λ u i m g t. keeps u i m g) is (omega (arith, e))
+
   pub store_line : (width x r p : ℕ) → IsWidth width → r ≢ 0 → c.gpr r ≡ p → p + 16 < 2 ^ 63 → ((j : ℕ) → j < width → IsMapped c.memory (p + j)) → ((j : ℕ) → get_or (c.xmm x) j 0 < 256) → (d : Core) × Line Q (store_code width x r) c d × Stored width x p c d
-  store_line width x r p is ne e low h small =
-      each_width (λ n. ((j : ℕ) → j < n → IsMapped c.memory (p + j)) → Stores n (store_code n x r) x p)
-      (λ h. store_narrow 1 x r p (Store8 0 (here r)) (λ u. refl) (omega arith) ne e low h (low_byte (c.xmm x) small))
-      (λ h. store_narrow 2 x r p (Store16 0 (here r)) (λ u. refl) (omega arith) ne e low h (low_bytes (c.xmm x) small))
-      (λ h. store_vector move.Movd x r p (λ a o. refl) e low h)
-      (λ h. store_vector move.Movq x r p (λ a o. refl) e low h)
-      (λ h. store_vector move.Movdqu x r p (λ a o. refl) e low h)
-      width is h
+  store_line width x r p is ne e = store_line_at Q c width x r 0 p (λ u i m g t. keeps u i m g) is ne (omega (arith, e))
+
+-- ---- a move of cells touches memory once
+
+pub load_weight : (by : ℕ → Bool) (width x r d : ℕ) → IsWidth width → weigh (touch_weight by) (load_far_code width x r d) ≤ 1
+load_weight by width x r d is = each_width (λ w. weigh (touch_weight by) (load_far_code w x r d) ≤ 1) (once (by r)) (once (by r)) (once (by r)) (once (by r)) (once (by r)) width is
+  where
+    once : (b : Bool) → (if b then 1 else 0) + 0 ≤ 1
+    once true = omega arith
+    once false = omega arith
+
+pub store_weight : (by : ℕ → Bool) (width x r d : ℕ) → IsWidth width → weigh (touch_weight by) (store_far_code width x r d) ≤ 1
+store_weight by width x r d is = each_width (λ w. weigh (touch_weight by) (store_far_code w x r d) ≤ 1) (narrow (by r)) (narrow (by r)) (wide (by r)) (wide (by r)) (wide (by r)) width is
+  where
+    narrow : (b : Bool) → 0 + ((if b then 1 else 0) + 0) ≤ 1
+    narrow true = omega arith
+    narrow false = omega arith
+
+    wide : (b : Bool) → (if b then 1 else 0) + 0 ≤ 1
+    wide true = omega arith
+    wide false = omega arith
+
+pub aligned_store_weight : (by : ℕ → Bool) (x r d : ℕ) → weigh (touch_weight by) (aligned_store_far_code x r d) ≤ 1
+aligned_store_weight by x r d = once (by r)
+  where
+    once : (b : Bool) → (if b then 1 else 0) + 0 ≤ 1
+    once true = omega arith
+    once false = omega arith

@@ -8,7 +8,8 @@ use Rattle.x86_ins.specs.Spelling.{IsAllowed, spelling}
 use Rattle.x86_ins.specs.Way.{Placed, Step, Moment, Way, Each}
 use Rattle.x86_flow.specs.Flow.{Flow, flat, spell_all, size, with_return}
 use Rattle.x86_flow.proofs.Ways.{way_append, HasAt, has_all, has_front, has_back, step_at}
-use Rattle.x86_flow.proofs.Flow.{Does, Leads, flow_leads, each_append, listed_length}
+use Rattle.x86_flow.specs.Does.{Does}
+use Rattle.x86_flow.proofs.Flow.{Leads, flow_leads, each_append, listed, listed_append, listed_length}
 
 -- where a return from d goes
 abbrev pub returned : Core → ℕ → Point
@@ -17,6 +18,7 @@ returned d back = record { core = with_gpr d 4 (moved (d.gpr 4) (pos 8)); rip = 
 pub record Back (Q : Core → Ins → Type 0) (code : Placed) (c : Core) (done : List Ins) (d : Core) (back : ℕ) : Type 0 where
   pub way : List Moment
   pub runs : Way code (record { core = c; rip = code.start }) way (returned d back)
+  pub list : listed way ≡ done ++ Ret ∷ []
   pub count : length way ≡ length done + 1
   pub each : Each (λ m. Q m.point.core m.ins) way
 
@@ -42,6 +44,7 @@ returns Q t start allowed low c d done does last back word_is =
     record {
       way = leads.way ++ m ∷ [];
       runs = subst (λ x. Way code x (leads.way ++ m ∷ []) (returned d back)) first (way_append code leads.way (m ∷ []) _ u (returned d back) leads.runs (refl, returned d back, step, refl));
+      list = listed_append leads.way (m ∷ []) ∙ ap (λ l. l ++ Ret ∷ []) leads.list;
       count = omega (arith, length-append leads.way (m ∷ []), sym (listed_length leads.way) ∙ ap length leads.list);
       each = each_append _ leads.way (m ∷ []) leads.each (last, tt);
     }

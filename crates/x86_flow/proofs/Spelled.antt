@@ -1,18 +1,19 @@
 -- Instructions of lists are allowed, and have few bytes.
-use Rattle.std.proofs.Common.{◌≡◌, ℕ, zero, suc, ◌+◌, ◌*◌, ◌%◌, ◌^◌, ◌<◌, ◌≤◌, ◌==◌, Bool, true, false, if◌then◌else◌, ℤ, pos, negsuc, List, [], ◌∷◌, ◌++◌, length, All, IsTrue, refl, arith, rules, length-append}
+use Rattle.std.proofs.Common.{◌≡◌, ℕ, zero, suc, ◌+◌, ◌*◌, ◌%◌, ◌^◌, ◌<◌, ◌≤◌, ◌==◌, nat_lt, Bool, true, false, if◌then◌else◌, ℤ, pos, negsuc, List, [], ◌∷◌, ◌++◌, length, All, IsTrue, refl, arith, rules, length-append}
 use Rattle.std.specs.Int.{w32}
 use Rattle.std.specs.Int.RustNames.{FitsSigned}
 use Rattle.x86_ins.specs.declared.ins.Addr.{Addr}
 use Rattle.x86_ins.specs.declared.ins.VecOp.{VecOp}
 use Rattle.x86_ins.specs.declared.ins.AluOp.{AluOp}
+use Rattle.x86_ins.specs.declared.ins.ShiftOp.{ShiftOp}
 use Rattle.x86_ins.specs.declared.ins.MoveOp.{MoveOp}
-use Rattle.x86_ins.specs.declared.ins.MoveOp.TheVariants.{Movdqu, Movq, Movd}
+use Rattle.x86_ins.specs.declared.ins.MoveOp.TheVariants.{Movdqa, Movdqu, Movq, Movd}
 use Rattle.x86_ins.specs.declared.ins.Ins.{Ins}
-use Rattle.x86_ins.specs.declared.ins.Ins.TheVariants.{Vec, VecLoad, VecStore, FromGpr, ToGpr, Load, Store, Load8, Load16, Store8, Store16, MovImm, AluImm, Test}
-use Rattle.x86_ins.specs.Spelling.{IsAllowed, has_spelling, spelling, rex_bits, rex, m_reg, m_mem, sib, dword, byte, is_small, reg_form, mem_form, plus_form, bare_rex, top, vec_byte, load_prefix, load_byte, store_prefix, store_byte, alu_digit}
+use Rattle.x86_ins.specs.declared.ins.Ins.TheVariants.{Vec, VecLoad, VecStore, FromGpr, ToGpr, Move, Load, Store, Load8, Load16, Store8, Store16, MovImm, Alu, AluImm, Shift, Test}
+use Rattle.x86_ins.specs.Spelling.{IsAllowed, has_spelling, spelling, rex_bits, rex, m_reg, m_mem, sib, dword, byte, is_small, reg_form, mem_form, plus_form, bare_rex, top, vec_byte, has_38, vec_opcode, load_prefix, load_byte, store_prefix, store_byte, alu_byte, alu_digit, shift_digit}
 use Rattle.x86_ins.specs.Way.{Each}
 use Rattle.x86_flow.specs.Flow.{spell_all, size}
-use Rattle.x86_flow.specs.Moves.{here, away, IsWidth, load_code, store_code, stores_code, loads_code}
+use Rattle.x86_flow.specs.Moves.{away, IsWidth, load_far_code, store_far_code, aligned_store_far_code, load_code, store_code, stores_code, loads_code}
 use Rattle.x86_flow.proofs.Moves.{each_width}
 
 pub fits_up : (n : ℕ) → n < 2 ^ 31 → FitsSigned w32 (pos n)
@@ -49,7 +50,7 @@ unfolding mem_form
 form_short pre opcode wide reg at p o =
     omega (arith, p, o, rex_short wide (top reg) (top at.base), mem_short reg at, length-append pre (rex wide reg at.base ++ (opcode ++ m_mem reg at)), length-append (rex wide reg at.base) (opcode ++ m_mem reg at), length-append opcode (m_mem reg at))
 
-both_short : (pre opcode : List ℕ) (wide : Bool) (reg rm : ℕ) → length pre ≤ 1 → length opcode ≤ 2 → length (reg_form pre wide opcode reg rm) ≤ 5
+both_short : (pre opcode : List ℕ) (wide : Bool) (reg rm : ℕ) → length pre ≤ 1 → length opcode ≤ 3 → length (reg_form pre wide opcode reg rm) ≤ 6
 unfolding reg_form
 both_short pre opcode wide reg rm p o =
     omega (arith, p, o, rex_short wide (top reg) (top rm), length-append pre (rex wide reg rm ++ (opcode ++ m_reg reg rm)), length-append (rex wide reg rm) (opcode ++ m_reg reg rm), length-append opcode (m_reg reg rm))
@@ -63,7 +64,11 @@ pub record IsFine (i : Ins) : Type 0 where
 
 pub fine_vec : (op : VecOp) (d s : ℕ) → d < 16 → s < 16 → IsFine (Vec op d s)
 unfolding spelling
-fine_vec op d s h g = record { allowed = ((h, g), refl); short = omega (arith, both_short (0x66 ∷ []) (0x0f ∷ vec_byte op ∷ []) false d s (omega arith) (omega arith)) }
+fine_vec op d s h g = record { allowed = ((h, g), refl); short = omega (arith, both_short (0x66 ∷ []) (vec_opcode op) false d s (omega arith) (few (has_38 op))) }
+  where
+    few : (t : Bool) → length (if t then 0x0f ∷ 0x38 ∷ vec_byte op ∷ [] else 0x0f ∷ vec_byte op ∷ []) ≤ 3
+    few true = omega arith
+    few false = omega arith
 
 pub fine_vec_load : (op : MoveOp) (d : ℕ) (at : Addr) → d < 16 → at.base < 16 → FitsSigned w32 at.disp → IsFine (VecLoad op d at)
 unfolding spelling
@@ -121,6 +126,23 @@ pub fine_test : (a b : ℕ) → a < 16 → b < 16 → IsFine (Test a b)
 unfolding spelling
 fine_test a b h g = record { allowed = ((h, g), refl); short = omega (arith, both_short [] (0x85 ∷ []) true b a (omega arith) (omega arith)) }
 
+pub fine_alu : (op : AluOp) (d s : ℕ) → d < 16 → s < 16 → IsFine (Alu op d s)
+unfolding spelling
+fine_alu op d s h g = record { allowed = ((h, g), refl); short = omega (arith, both_short [] (alu_byte op ∷ []) true d s (omega arith) (omega arith)) }
+
+pub fine_move : (d s : ℕ) → d < 16 → s < 16 → IsFine (Move d s)
+unfolding spelling
+fine_move d s h g = record { allowed = ((h, g), refl); short = omega (arith, both_short [] (0x8b ∷ []) true d s (omega arith) (omega arith)) }
+
+pub fine_shift : (op : ShiftOp) (d n : ℕ) → d < 16 → n < 64 → IsFine (Shift op d n)
+unfolding spelling
+fine_shift op d n h l =
+    let form = reg_form [] true (0xc1 ∷ []) (shift_digit op) d in
+    record { allowed = ((h, omega (arith, l)), lt_yes n 64 l); short = omega (arith, both_short [] (0xc1 ∷ []) true (shift_digit op) d (omega arith) (omega arith), length-append form (n ∷ [])) }
+  where
+    lt_yes : (a b : ℕ) → a < b → nat_lt a b ≡ true
+    lt_yes a b h = grind (arith)
+
 -- RAX becomes 0
 pub fine_zero : IsFine (MovImm 0 0)
 unfolding spelling plus_form
@@ -148,29 +170,38 @@ pub size_within : (is : List Ins) → Each IsFine is → size is ≤ 11 * length
 size_within [] h = omega arith
 size_within (i ∷ is) h = omega (arith, h.0.short, size_within is h.1, length-append (spelling i) (spell_all is))
 
-pub fine_load_code : (width x r : ℕ) → IsWidth width → x < 16 → r < 16 → Each IsFine (load_code width x r)
-fine_load_code width x r is g e =
+pub fine_load_far : (width x r d : ℕ) → IsWidth width → x < 16 → r < 16 → d < 2 ^ 31 → Each IsFine (load_far_code width x r d)
+fine_load_far width x r d is g e l =
     let from_rax = fine_from_gpr false x 0 g (omega arith) in
-    let zero_far = fits_up 0 (omega arith) in
-    each_width (λ n. Each IsFine (load_code n x r))
-    (fine_load_8 0 (here r) (omega arith) e zero_far, (from_rax, tt))
-    (fine_load_16 0 (here r) (omega arith) e zero_far, (from_rax, tt))
-    (fine_vec_load Movd x (here r) g e zero_far, tt)
-    (fine_vec_load Movq x (here r) g e zero_far, tt)
-    (fine_vec_load Movdqu x (here r) g e zero_far, tt)
+    let fits = fits_up d l in
+    each_width (λ n. Each IsFine (load_far_code n x r d))
+    (fine_load_8 0 (away r d) (omega arith) e fits, (from_rax, tt))
+    (fine_load_16 0 (away r d) (omega arith) e fits, (from_rax, tt))
+    (fine_vec_load Movd x (away r d) g e fits, tt)
+    (fine_vec_load Movq x (away r d) g e fits, tt)
+    (fine_vec_load Movdqu x (away r d) g e fits, tt)
+    width is
+
+pub fine_load_code : (width x r : ℕ) → IsWidth width → x < 16 → r < 16 → Each IsFine (load_code width x r)
+fine_load_code width x r is g e = fine_load_far width x r 0 is g e (omega arith)
+
+pub fine_store_far : (width x r d : ℕ) → IsWidth width → x < 16 → r < 16 → d < 2 ^ 31 → Each IsFine (store_far_code width x r d)
+fine_store_far width x r d is g e l =
+    let to_rax = fine_to_gpr false 0 x (omega arith) g in
+    let fits = fits_up d l in
+    each_width (λ n. Each IsFine (store_far_code n x r d))
+    (to_rax, (fine_store_8 0 (away r d) (omega arith) e fits, tt))
+    (to_rax, (fine_store_16 0 (away r d) (omega arith) e fits, tt))
+    (fine_vec_store Movd x (away r d) g e fits, tt)
+    (fine_vec_store Movq x (away r d) g e fits, tt)
+    (fine_vec_store Movdqu x (away r d) g e fits, tt)
     width is
 
 pub fine_store_code : (width x r : ℕ) → IsWidth width → x < 16 → r < 16 → Each IsFine (store_code width x r)
-fine_store_code width x r is g e =
-    let to_rax = fine_to_gpr false 0 x (omega arith) g in
-    let zero_far = fits_up 0 (omega arith) in
-    each_width (λ n. Each IsFine (store_code n x r))
-    (to_rax, (fine_store_8 0 (here r) (omega arith) e zero_far, tt))
-    (to_rax, (fine_store_16 0 (here r) (omega arith) e zero_far, tt))
-    (fine_vec_store Movd x (here r) g e zero_far, tt)
-    (fine_vec_store Movq x (here r) g e zero_far, tt)
-    (fine_vec_store Movdqu x (here r) g e zero_far, tt)
-    width is
+fine_store_code width x r is g e = fine_store_far width x r 0 is g e (omega arith)
+
+pub fine_aligned_store : (x r d : ℕ) → x < 16 → r < 16 → d < 2 ^ 31 → Each IsFine (aligned_store_far_code x r d)
+fine_aligned_store x r d g e l = (fine_vec_store Movdqa x (away r d) g e (fits_up d l), tt)
 
 pub load_short : (width x r : ℕ) → length (load_code width x r) ≤ 2
 load_short width x r =

@@ -9,11 +9,11 @@ use Rattle.x86_ins.specs.declared.ins.Ins.{Ins}
 use Rattle.x86_ins.specs.declared.ins.Ins.TheVariants.{Load, Store}
 use Rattle.x86_ins.specs.Machine.{Core, with_gpr, with_memory, address, access, save, load, work}
 use Rattle.x86_flow.specs.Moves.{away, stores_code, loads_code}
-use Rattle.x86_flow.proofs.Flow.{Line}
+use Rattle.x86_flow.specs.Does.{Line}
 use Rattle.x86_flow.proofs.Moves.{line_append}
 use Rattle.x86_flow.proofs.Frame.{word_stored, word_apart}
 
-at_away : (c : Core) (r a d : ℕ) → c.gpr r ≡ a → a + d < 2 ^ 62 → address c (away r d) ≡ a + d
+pub at_away : (c : Core) (r a d : ℕ) → c.gpr r ≡ a → a + d < 2 ^ 62 → address c (away r d) ≡ a + d
 at_away c r a d e w = omega (arith, e, w)
 
 -- one word

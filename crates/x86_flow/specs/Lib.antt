@@ -1,2 +1,5 @@
 pub mod Flow
+pub mod Does
 pub mod Moves
+pub mod Touching
+pub mod Tree

@@ -49,6 +49,29 @@ pub fn put_loop(code: &mut Vec<u8>, cond: Cond, turn: &[u8]) -> Result<(), Alloc
     )
 }
 
+/// Appends a choice between bytes: the first where the condition holds, and else the second.
+pub fn put_choice(code: &mut Vec<u8>, cond: Cond, yes: &[u8], no: &[u8]) -> Result<(), AllocError>
+    requires yes { length yes.now < 2000000000 }
+    requires no { length no.now < 2000000000 }
+    ensures { OnOk result (code.new.items ≡ code.old.items ++ (spelling (JumpIf cond (pos (length no.now + 5))) ++ (no.now ++ (spelling (Jump (pos (length yes.now))) ++ yes.now)))) }
+{
+    put(
+        code,
+        &Ins::JumpIf {
+            cond,
+            rel: ahead(no.len()),
+        },
+    )?;
+    code.extend_from_slice(no)?;
+    put(
+        code,
+        &Ins::Jump {
+            rel: yes.len() as i32,
+        },
+    )?;
+    code.extend_from_slice(yes)
+}
+
 /// The condition that holds where this one doesn't.
 pub fn opposite(cond: Cond) -> Cond
     ensures { result ≡ opposite cond }

@@ -2,7 +2,7 @@
 
 ghost use Rattle.std.specs.Prelude.{◌≡◌, ◌<◌, ◌+◌, ◌++◌, ◌^◌, OnOk, pos, false};
 ghost use Rattle.x86_ins.specs.declared.ins.Ins.TheVariants.{FromGpr, ToGpr};
-ghost use Rattle.x86_flow.specs.Moves.{IsWidth, away, load_code, store_code};
+ghost use Rattle.x86_flow.specs.Moves.{IsWidth, away, load_far_code, store_far_code, aligned_store_far_code, load_code, store_code};
 
 use std::alloc::AllocError;
 use x86_ins::{Addr, Gpr, Ins, InsList, MoveOp, Xmm};
@@ -51,12 +51,19 @@ fn to_scratch(src: Xmm) -> Ins
     }
 }
 
-/// Adds what loads `width` bytes, 1, 2, 4, 8 or 16, from the address in `base` to the low end of `dst`, whose other bytes become 0.
-pub fn push_load(list: &mut InsList, width: usize, dst: Xmm, base: Gpr) -> Result<(), AllocError>
-    requires { IsWidth width }
-    ensures { OnOk result (list.new ≡ list.old ++ load_code width dst base) }
+/// Adds what loads `width` bytes, 1, 2, 4, 8 or 16, that are `far` bytes behind the address in `base`, to the low end of `dst`, whose other bytes become 0.
+pub fn push_load_far(
+    list: &mut InsList,
+    width: usize,
+    dst: Xmm,
+    base: Gpr,
+    far: usize,
+) -> Result<(), AllocError>
+    requires width { IsWidth width }
+    requires far { far < 2 ^ 31 }
+    ensures { OnOk result (list.new ≡ list.old ++ load_far_code width dst base far) }
 {
-    let at = away(base, 0);
+    let at = away(base, far);
     match width {
         1 => {
             list.push(Ins::Load8 { dst: SCRATCH, at })?;
@@ -84,12 +91,27 @@ pub fn push_load(list: &mut InsList, width: usize, dst: Xmm, base: Gpr) -> Resul
     }
 }
 
-/// Adds what stores the low `width` bytes, 1, 2, 4, 8 or 16, of `src` from the address in `base` on.
-pub fn push_store(list: &mut InsList, width: usize, src: Xmm, base: Gpr) -> Result<(), AllocError>
+/// Adds what loads `width` bytes, 1, 2, 4, 8 or 16, from the address in `base` to the low end of `dst`, whose other bytes become 0.
+pub fn push_load(list: &mut InsList, width: usize, dst: Xmm, base: Gpr) -> Result<(), AllocError>
     requires { IsWidth width }
-    ensures { OnOk result (list.new ≡ list.old ++ store_code width src base) }
+    ensures { OnOk result (list.new ≡ list.old ++ load_code width dst base) }
 {
-    let at = away(base, 0);
+    push_load_far(list, width, dst, base, 0)
+}
+
+/// Adds what stores the low `width` bytes, 1, 2, 4, 8 or 16, of `src` from `far` bytes behind the address in `base` on.
+pub fn push_store_far(
+    list: &mut InsList,
+    width: usize,
+    src: Xmm,
+    base: Gpr,
+    far: usize,
+) -> Result<(), AllocError>
+    requires width { IsWidth width }
+    requires far { far < 2 ^ 31 }
+    ensures { OnOk result (list.new ≡ list.old ++ store_far_code width src base far) }
+{
+    let at = away(base, far);
     match width {
         1 => {
             list.push(to_scratch(src))?;
@@ -115,4 +137,29 @@ pub fn push_store(list: &mut InsList, width: usize, src: Xmm, base: Gpr) -> Resu
             at,
         }),
     }
+}
+
+/// Adds what stores the low `width` bytes, 1, 2, 4, 8 or 16, of `src` from the address in `base` on.
+pub fn push_store(list: &mut InsList, width: usize, src: Xmm, base: Gpr) -> Result<(), AllocError>
+    requires { IsWidth width }
+    ensures { OnOk result (list.new ≡ list.old ++ store_code width src base) }
+{
+    push_store_far(list, width, src, base, 0)
+}
+
+/// Stores all of `src` from `far` bytes behind the address in `base` on, which has to be a multiple of 16.
+pub fn push_aligned_store(
+    list: &mut InsList,
+    src: Xmm,
+    base: Gpr,
+    far: usize,
+) -> Result<(), AllocError>
+    requires { far < 2 ^ 31 }
+    ensures { OnOk result (list.new ≡ list.old ++ aligned_store_far_code src base far) }
+{
+    list.push(Ins::VecStore {
+        op: MoveOp::Movdqa,
+        src,
+        at: away(base, far),
+    })
 }

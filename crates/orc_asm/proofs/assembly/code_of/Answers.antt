@@ -13,18 +13,20 @@ whole_code-requires-clause-turn_spelled c = spelled_turn c.args.f.now c.counts_o
 pub whole_code-requires-clause-few : goal.whole_code-requires-clause-few
 whole_code-requires-clause-few c = turn_fits c.args.f.now c.counts_of-counts.ensures.kept c.requires c.as_slice-2.result.now (subst (IsTurn c.args.f.now 1) (sym c.as_slice-2.ensures) c.in_ok-turn.ensures)
 
-pub returns-clause-runs : goal.returns-clause-runs
-returns-clause-runs c = ok_map c.whole_code.result _ _
+pub returns-clause-inside : goal.returns-clause-inside
+returns-clause-inside c = ok_map c.whole_code.result _ _
     (λ code e. (whole_runs c.args.f.now c.counts_of-counts.ensures.kept c.requires c.layout-layout.result c.as_slice.result.now c.as_slice-2.result.now c.as_slice-3.result.now
     (list_slices c.args.f.now c.layout-layout.result _ _ _ c.as_slice.result.now c.as_slice-2.result.now c.as_slice-3.result.now c.as_slice.ensures c.as_slice-2.ensures c.as_slice-3.ensures
     (record {
       layout = c.layout-layout.ensures.value;
       prepares = c.in_ok-first.ensures.prepares;
+      first_own = c.in_ok-first.ensures.own;
       first_allowed = c.in_ok-first.ensures.allowed;
       first_bytes = c.in_ok-first.ensures.bytes;
       first_short = c.in_ok-first.ensures.short;
       turn_is = c.in_ok-turn.ensures;
       finishes = c.in_ok-last.ensures.finishes;
+      last_own = c.in_ok-last.ensures.own;
       last_allowed = c.in_ok-last.ensures.allowed;
       last_bytes = c.in_ok-last.ensures.bytes;
       last_short = c.in_ok-last.ensures.short;
@@ -39,11 +41,13 @@ returns-clause-bytes c = ok_map c.whole_code.result _ _
     (record {
       layout = c.layout-layout.ensures.value;
       prepares = c.in_ok-first.ensures.prepares;
+      first_own = c.in_ok-first.ensures.own;
       first_allowed = c.in_ok-first.ensures.allowed;
       first_bytes = c.in_ok-first.ensures.bytes;
       first_short = c.in_ok-first.ensures.short;
       turn_is = c.in_ok-turn.ensures;
       finishes = c.in_ok-last.ensures.finishes;
+      last_own = c.in_ok-last.ensures.own;
       last_allowed = c.in_ok-last.ensures.allowed;
       last_bytes = c.in_ok-last.ensures.bytes;
       last_short = c.in_ok-last.ensures.short;

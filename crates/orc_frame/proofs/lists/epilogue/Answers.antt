@@ -2,6 +2,7 @@ use Rattle.x86_flow.proofs.Spelled.{all_allowed, size_within}
 use Rattle.orc_frame.proofs.Facts.{whole}
 use Rattle.orc_frame.proofs.Leaving.{epilogue_finishes}
 use Rattle.orc_frame.proofs.Counted.{epilogue_few, ok_map}
+use Rattle.orc_frame.proofs.Addresses.{epilogue_own}
 use Rattle.orc_frame.proofs.lists.epilogue.Goals as goal
 
 pub epilogue_list-requires : goal.epilogue_list-requires
@@ -18,3 +19,6 @@ returns-clause-bytes c = ok_map c.epilogue_list.result _ _ (λ list e. size_with
 
 pub returns-clause-short : goal.returns-clause-short
 returns-clause-short c = ok_map c.epilogue_list.result _ _ (λ list e. (epilogue_few c.args.l.now list c.requires e).count) c.epilogue_list.ensures
+
+pub returns-clause-own : goal.returns-clause-own
+returns-clause-own c = ok_map c.epilogue_list.result _ _ (λ list e. epilogue_own c.args.l.now list e) c.epilogue_list.ensures

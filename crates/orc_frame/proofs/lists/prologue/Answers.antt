@@ -2,6 +2,7 @@ use Rattle.x86_flow.proofs.Spelled.{all_allowed, size_within}
 use Rattle.orc_frame.proofs.Facts.{whole}
 use Rattle.orc_frame.proofs.Entering.{prologue_prepares}
 use Rattle.orc_frame.proofs.Counted.{prologue_few, ok_map}
+use Rattle.orc_frame.proofs.Addresses.{prologue_own}
 use Rattle.orc_frame.proofs.lists.prologue.Goals as goal
 
 pub prologue_list-requires : goal.prologue_list-requires
@@ -18,3 +19,6 @@ returns-clause-bytes c = ok_map c.prologue_list.result _ _ (λ list e. size_with
 
 pub returns-clause-short : goal.returns-clause-short
 returns-clause-short c = ok_map c.prologue_list.result _ _ (λ list e. (prologue_few c.args.l.now list c.requires e).count) c.prologue_list.ensures
+
+pub returns-clause-own : goal.returns-clause-own
+returns-clause-own c = ok_map c.prologue_list.result _ _ (λ list e. prologue_own c.args.l.now list e) c.prologue_list.ensures
