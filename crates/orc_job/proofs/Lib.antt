@@ -2,3 +2,4 @@ pub mod Each
 pub mod Unless
 pub mod Faults
 pub mod Keeping
+mod Again

@@ -9,6 +9,7 @@ use Rattle.serde_json.specs.Find.{get, as_number, as_u64, as_i64, as_str, as_arr
 use Rattle.orc_bits.specs.declared.parts.Part.{Part}
 use Rattle.orc_program.specs.declared.call.Place.{Place}
 use Rattle.orc_program.specs.Words.{is_name}
+use Rattle.orc_program.specs.Kept.{is_size}
 
 infixl 10 ◌>>=◌
 abbrev pub ◌>>=◌ : {A B : Type 0} → Option A → (A → Option B) → Option B
@@ -67,6 +68,14 @@ place_in d = do
   base ← part_in (codes "base") whole d
   stride ← part_in (codes "stride") signed d
   Some record { base = base; stride = stride }
+
+-- the size of an element
+abbrev pub if_size : ℕ → Option ℕ
+if_size n = if is_size n then Some n else None
+
+-- the size of an array's elements
+unfoldable pub size_in : Data → Option ℕ
+size_in d = part_in (codes "size") whole d >>= if_size
 
 -- the lowest address of a job's memory, and the greatest end
 abbrev pub lowest : ℕ

@@ -6,6 +6,9 @@ use Rattle.orc_bits.specs.Parts.{layout, Overlaps}
 use Rattle.orc_job.specs.declared.error.JobError.{JobError}
 use Rattle.orc_job.specs.declared.error.JobError.TheVariants as refusal
 use Rattle.orc_job.specs.declared.job.Job.{Job}
+use Rattle.orc_job.specs.declared.error.Field.TheVariants as field
+use Rattle.orc_job.specs.Forms.{size_in, few_in}
+use Rattle.orc_job.specs.Fields.{field_at}
 use Rattle.orc_job.specs.Limits.{job_of}
 
 -- the value of a JSON text
@@ -27,3 +30,8 @@ IsReading bytes r = (HasNoValue bytes × (r ≡ Err refusal.NotJson)) ⊎ ((d : 
 -- bytes have one answer
 abbrev pub OneReading : Type 0
 OneReading = (bytes : List ℕ) (r s : Result Job JobError) → IsReading bytes r → IsReading bytes s → r ≡ s
+
+-- the answer to bytes where the sizes of elements are asked for: the refusal of the job; else the sizes, or BadField where an array has none
+abbrev pub IsSizing : List ℕ → Result (List ℕ) JobError → Type 0
+IsSizing bytes r = ((e : JobError) × IsReading bytes (Err e) × (r ≡ Err e))
+    ⊎ ((j : Job) × IsReading bytes (Ok j) × ((d : Data) × HasValue bytes d × (r ≡ field_at field.Arrays (few_in 12 size_in) d)))

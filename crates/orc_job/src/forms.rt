@@ -2,7 +2,7 @@
 
 ghost use Rattle.std.specs.Prelude.{◌≡◌, ◌^◌, codes};
 ghost use Rattle.serde_json.specs.View.{view};
-ghost use Rattle.orc_job.specs.Forms.{whole, below, signed, wrapped, name_in, bytes_in, part_in, place_in, if_within, segment_in};
+ghost use Rattle.orc_job.specs.Forms.{whole, below, signed, wrapped, name_in, bytes_in, part_in, size_in, place_in, if_within, segment_in};
 ghost use Rattle.orc_job.specs.Told.{Formed};
 
 use hex::FromHexError;
@@ -85,6 +85,30 @@ fn stride_in(value: &Value) -> Option<i64>
     match value.get("stride") {
         Some(inner) => signed_in(inner),
         None => None,
+    }
+}
+
+/// The number beside an array's `size`.
+fn size_number(value: &Value) -> Option<u64>
+    ensures { result ≡ part_in (codes "size") whole (view value.now) }
+{
+    match value.get("size") {
+        Some(inner) => whole_in(inner),
+        None => None,
+    }
+}
+
+/// The size of an array's elements: 1, 2, 4 or 8 bytes.
+#[tactic(auto, unfolding(crate::specs::Forms::size_in))]
+pub fn size_in(value: &Value) -> Option<u8>
+    ensures { result ≡ size_in (view value.now) }
+{
+    match size_number(value)? {
+        1 => Some(1),
+        2 => Some(2),
+        4 => Some(4),
+        8 => Some(8),
+        _ => None,
     }
 }
 

@@ -8,12 +8,15 @@ mod lists;
 mod outcome;
 mod printing;
 mod reading;
+mod sizing;
 
 pub use error::{Field, JobError};
 pub use job::{Job, fit};
+pub use lists::Sizes;
 pub use outcome::{EndLine, Outcome};
 pub use printing::print_result;
 pub use reading::{one_reading, read_job};
+pub use sizing::read_sizes;
 
 #[cfg(test)]
 mod tests;

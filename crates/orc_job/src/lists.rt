@@ -2,15 +2,19 @@
 
 ghost use Rattle.std.specs.Prelude.{◌≡◌, ◌≤◌, length, option_map};
 ghost use Rattle.serde_json.specs.View.{view, items_view};
-ghost use Rattle.orc_job.specs.Forms.{wrapped, place_in, segment_in, each, list_in, few_in};
+ghost use Rattle.orc_job.specs.Forms.{wrapped, place_in, segment_in, size_in, each, list_in, few_in};
 ghost use Rattle.orc_job.specs.Told.{Formed};
 
-use crate::forms::{Unformed, place_in, segment_in, wrapped_in};
+use crate::forms::{Unformed, place_in, segment_in, size_in, wrapped_in};
+use arrayvec::ArrayVec;
 use orc_bits::Parts;
 use orc_program::{Params, Places};
 use serde_json::Value;
 use sqlite_items::Items;
 use std::alloc::Global;
+
+/// The sizes of arrays' elements in bytes.
+pub type Sizes = ArrayVec<u8, 12>;
 
 /// The places of these values.
 fn each_place(values: &[Value]) -> Option<Places>
@@ -36,6 +40,32 @@ pub fn places_in(value: &Value) -> Option<Places>
         return None;
     }
     each_place(values)
+}
+
+/// The sizes of these values' elements.
+fn each_size(values: &[Value]) -> Option<Sizes>
+    requires { length values.now ≤ 12 }
+    ensures { option_map (λ ns. ns.items) result ≡ each size_in (items_view values.now) }
+{
+    let mut sizes = Sizes::new();
+    let mut left = values;
+    while let [value, rest @ ..] = left {
+        sizes.push(size_in(value)?);
+        left = rest;
+    }
+    Some(sizes)
+}
+
+/// The sizes of the elements of at most 12 arrays.
+#[tactic(auto, using(crate::proofs::Each::few, crate::proofs::Each::many))]
+pub fn sizes_in(value: &Value) -> Option<Sizes>
+    ensures { option_map (λ ns. ns.items) result ≡ few_in 12 size_in (view value.now) }
+{
+    let values = value.as_array()?;
+    if values.len() > 12 {
+        return None;
+    }
+    each_size(values)
 }
 
 /// The numbers of these values.

@@ -22,7 +22,7 @@ use serde_json::Value;
 use std::alloc::Global;
 
 /// The value of a JSON text.
-fn parse(alloc: Global, bytes: &[u8]) -> Result<Value, JobError>
+pub fn parse(alloc: Global, bytes: &[u8]) -> Result<Value, JobError>
     ensures value { IfOk result (λ v. HasValue bytes.now (view v)) }
     ensures refused { IfErr result (λ e. e ≡ JobError.NotJson → HasNoValue bytes.now) }
     ensures kind { IfErr result (λ e. (e ≡ JobError.NotJson) ⊎ (e ≡ JobError.Memory)) }
@@ -39,7 +39,7 @@ fn parse(alloc: Global, bytes: &[u8]) -> Result<Value, JobError>
 }
 
 /// The value of a field.
-fn find(value: &Value, field: Field) -> Result<&Value, JobError>
+pub fn find(value: &Value, field: Field) -> Result<&Value, JobError>
     ensures { MatchResult result
         (λ v. get (name_of field) (view value.now) ≡ Some (view v.now))
         (λ e. (e ≡ JobError.Missing field) × (get (name_of field) (view value.now) ≡ None)) }

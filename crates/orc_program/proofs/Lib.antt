@@ -9,3 +9,6 @@ pub mod Declared
 pub mod Counts
 pub mod LawProofs
 pub mod FirstUses
+pub mod Alike
+pub mod Progress
+pub mod Cutting

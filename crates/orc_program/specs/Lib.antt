@@ -8,3 +8,4 @@ pub mod Good
 pub mod Need
 pub mod Slots
 pub mod Laws
+pub mod Cut

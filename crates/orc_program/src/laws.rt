@@ -6,6 +6,7 @@ ghost use Rattle.orc_program.specs.declared.program.Insn.{Insn};
 ghost use Rattle.orc_program.specs.Program.{FunctionValue};
 ghost use Rattle.orc_program.specs.declared.call.Call.{Call};
 ghost use Rattle.orc_program.specs.Laws.{OneMore, EndsWhereGood, ChangesOnlyDests, CellsMeet, ListsFirstUses};
+ghost use Rattle.orc_program.specs.Cut.{PartsAddUp};
 
 /// One more element, and one more row, are done after those before.
 pub fn one_more()
@@ -30,4 +31,9 @@ pub fn cells_meet()
 /// The patterns of instructions are the first uses of numbers, in order: each stands once.
 pub fn lists_first_uses()
     ensures { (vars : List Var) (insns : List Insn) → ListsFirstUses vars insns }
+{}
+
+/// Emulation of a call that is cut into rectangles is emulation of the rectangles, each by itself.
+pub fn parts_add_up()
+    ensures { (f : FunctionValue) (call : Call) → PartsAddUp f call }
 {}

@@ -20,6 +20,7 @@ mod lookup;
 mod name;
 mod operands;
 mod program;
+mod rect;
 mod uses;
 
 pub use build::{
@@ -29,7 +30,9 @@ pub use build::{
 pub use call::{Call, Params, Place, Places};
 pub use checks::{MOST_INSNS, check_insn, check_result, check_source, is_bad_prefix, is_too_many};
 pub use fault::Fault;
-pub use laws::{cells_meet, changes_only_dests, ends_where_good, lists_first_uses, one_more};
+pub use laws::{
+    cells_meet, changes_only_dests, ends_where_good, lists_first_uses, one_more, parts_add_up,
+};
 pub use lookup::{
     MOST_FUNCTIONS, count_of, find_var, has_function, insn_count, is_size_for, most_of,
 };
@@ -39,6 +42,7 @@ pub use program::{
     Function, Functions, Insn, Insns, Notes, Operand, Pattern, Program, Var, VarKind, Vars, Word,
     Words,
 };
+pub use rect::Rect;
 pub use uses::{Patterns, patterns};
 
 #[cfg(test)]

@@ -27,7 +27,7 @@ traps_one code s x y a b =
     let cause : a.cause ≡ b.cause = cause_one (effect a.ins s.core ((s.rip + a.size) % 2 ^ 64)) a.cause b.cause a.traps there in
     a.is ∙ ap (λ c. told c.at c.why s.rip) cause ∙ sym b.is
 
-stuck_one : (code : Placed) (s : Point) (x y : Trap) → Stuck code s x → Stuck code s y → x ≡ y
+pub stuck_one : (code : Placed) (s : Point) (x y : Trap) → Stuck code s x → Stuck code s y → x ≡ y
 stuck_one code s x y (inl a) (inl b) = a.1 ∙ sym b.1
 stuck_one code s x y (inl a) (inr (inl b)) = absurd (a.0 b.0)
 stuck_one code s x y (inl a) (inr (inr b)) = absurd (a.0 b.inside)

@@ -1,8 +1,10 @@
 -- How a run within a budget ends.
-use Rattle.std.specs.Prelude.{◌≡◌, ℕ}
+use Rattle.std.specs.Prelude.{◌≡◌, ℕ, ◌+◌, ◌%◌, ◌^◌, Err}
 use Rattle.orc_bits.specs.Parts.{memory_of}
-use Rattle.x86_ins.specs.Machine.{Point, point_of}
-use Rattle.x86_ins.specs.Way.{Placed, Stop, Returned, Trapped, Exhausted}
+use Rattle.x86_ins.specs.Machine.{Point, effect, point_of}
+use Rattle.x86_ins.specs.Way.{Placed, Stop, Returned, Trapped, Exhausted, told}
+use Rattle.x86_ins.specs.declared.ins.Ins.{Ins}
+use Rattle.x86_ins.specs.declared.state.Trap.{Trap}
 use Rattle.x86_machine.specs.declared.machine.Machine.{Machine}
 use Rattle.x86_machine.specs.declared.machine.End.{End}
 use Rattle.x86_machine.specs.declared.machine.End.TheVariants as ends
@@ -16,6 +18,10 @@ point m = point_of m.state (memory_of m.memory)
 
 abbrev pub stop_of : Machine → Stop
 stop_of m = record { rip = m.stop_rip; rsp = m.stop_rsp }
+
+-- the effect of an instruction of this size traps here, as a step tells it
+abbrev pub IsCause : Ins → Point → ℕ → Trap → Type 0
+IsCause ins s size trap = (cause : Trap) × (effect ins s.core ((s.rip + size) % 2 ^ 64) ≡ Err cause) × (trap ≡ told cause.at cause.why s.rip)
 
 -- what doesn't change in a run
 pub record SameCode (m n : Machine) : Type 0 where

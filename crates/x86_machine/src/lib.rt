@@ -6,7 +6,7 @@ mod running;
 mod segments;
 
 pub use machine::{End, Machine};
-pub use running::{one_end, run, step};
+pub use running::{one_end, run, step, step_on};
 pub use segments::Segments;
 
 #[cfg(test)]

@@ -1,16 +1,19 @@
 //! Steps and runs.
 
-ghost use Rattle.std.specs.Prelude.{◌≡◌, ◌+◌, ◌-◌, ◌≤◌, ◌^◌, ℕ, true, false, length, drop, MatchOption, OnOk, IfErr, OnErr};
+ghost use Rattle.std.specs.Prelude.{◌≡◌, ◌+◌, ◌-◌, ◌≤◌, ◌%◌, ◌^◌, ℕ, true, false, length, drop, Ok, IsTrue, MatchOption, OnOk, IfErr, OnErr};
 ghost use Rattle.x86_ins.specs.declared.ins.Ins.{Ins};
-ghost use Rattle.x86_ins.specs.Spelling.{Decode};
+ghost use Rattle.x86_ins.specs.Spelling.{has_spelling};
+ghost use Rattle.x86_ins.specs.Machine.{effect, point_of};
+ghost use Rattle.orc_bits.specs.Parts.{memory_of};
 ghost use Rattle.x86_ins.specs.Way.{InCode, Step, Stuck, IsOver, told};
-ghost use Rattle.x86_machine.specs.Ends.{code_of, point, stop_of, SameCode, EndsAt, OneEnd};
+ghost use Rattle.x86_machine.specs.Ends.{code_of, point, stop_of, SameCode, EndsAt, OneEnd, IsCause};
 
 use crate::machine::{End, Machine};
+use crate::segments::Segments;
 use x86_apply::apply;
 use x86_decode::decode;
 use x86_ins::ins::Ins;
-use x86_ins::state::{Trap, Why};
+use x86_ins::state::{State, Trap, Why};
 
 /// The bytes of the code from an address on, where it is one of the code's.
 fn rest_of(code: &[u8], code_at: u64, rip: u64) -> Option<&[u8]>
@@ -37,24 +40,54 @@ fn told(trap: Trap, rip: u64) -> Trap
     }
 }
 
-/// Does an instruction of this size at RIP.
-fn perform(m: &mut Machine, ins: &Ins, size: usize) -> Result<(), Trap>
-    requires decoded { Decode (drop (m.old.state.rip - m.old.code_at) m.old.code) ins.now size }
-    requires inside { InCode (code_of m.old) m.old.state.rip }
-    ensures same { SameCode m.old m.new }
-    ensures done { OnOk result (Step (code_of m.old) (point m.old) ins.now (point m.new)) }
-    ensures stuck { IfErr result (λ trap. Stuck (code_of m.old) (point m.old) trap) }
-    ensures unchanged { OnErr result (point m.new ≡ point m.old) }
+/// Does an instruction of this size at RIP, where the rest of the code begins with its spelling.
+fn perform(state: &mut State, memory: &mut Segments, ins: &Ins, size: usize) -> Result<(), Trap>
+    requires { IsTrue (has_spelling ins.now) }
+    ensures done { OnOk result (effect ins.now (point_of state.old (memory_of memory.old)).core ((state.old.rip + size) % 2 ^ 64) ≡ Ok (point_of state.new (memory_of memory.new))) }
+    ensures stuck { IfErr result (λ trap. IsCause ins.now (point_of state.old (memory_of memory.old)) size trap) }
+    ensures unchanged { OnErr result (point_of state.new (memory_of memory.new) ≡ point_of state.old (memory_of memory.old)) }
 {
-    let rip = m.state.rip;
-    m.state.rip = rip.wrapping_add(size as u64);
-    match apply(ins, &mut m.state, &mut m.memory) {
+    let rip = state.rip;
+    state.rip = rip.wrapping_add(size as u64);
+    match apply(ins, state, memory) {
         Ok(()) => Ok(()),
         Err(trap) => {
-            m.state.rip = rip;
+            state.rip = rip;
             Err(told(trap, rip))
         }
     }
+}
+
+/// Does the instruction at RIP of the code at an address, on a state and a memory.
+///
+/// # Errors
+///
+/// A trap, which changes nothing, as of [`step`].
+pub fn step_on(
+    code: &[u8],
+    code_at: u64,
+    state: &mut State,
+    memory: &mut Segments,
+) -> Result<(), Trap>
+    requires low { code_at + length code.now ≤ 2 ^ 64 }
+    ensures done { OnOk result ((i : Ins) × Step (record { bytes = code.now; start = code_at }) (point_of state.old (memory_of memory.old)) i (point_of state.new (memory_of memory.new))) }
+    ensures stuck { IfErr result (λ trap. Stuck (record { bytes = code.now; start = code_at }) (point_of state.old (memory_of memory.old)) trap) }
+    ensures unchanged { OnErr result (point_of state.new (memory_of memory.new) ≡ point_of state.old (memory_of memory.old)) }
+{
+    let at = state.rip;
+    let Some(rest) = rest_of(code, code_at, at) else {
+        return Err(Trap {
+            at,
+            why: Why::NoCode,
+        });
+    };
+    let Some((ins, size)) = decode(rest) else {
+        return Err(Trap {
+            at,
+            why: Why::NoRow,
+        });
+    };
+    perform(state, memory, &ins, size)
 }
 
 /// Does the instruction at RIP.
@@ -69,20 +102,7 @@ pub fn step(m: &mut Machine) -> Result<(), Trap>
     ensures stuck { IfErr result (λ trap. Stuck (code_of m.old) (point m.old) trap) }
     ensures unchanged { OnErr result (point m.new ≡ point m.old) }
 {
-    let at = m.state.rip;
-    let Some(rest) = rest_of(m.code.as_slice(), m.code_at, at) else {
-        return Err(Trap {
-            at,
-            why: Why::NoCode,
-        });
-    };
-    let Some((ins, size)) = decode(rest) else {
-        return Err(Trap {
-            at,
-            why: Why::NoRow,
-        });
-    };
-    perform(m, &ins, size)
+    step_on(m.code.as_slice(), m.code_at, &mut m.state, &mut m.memory)
 }
 
 /// Whether RIP and RSP have the stop values.

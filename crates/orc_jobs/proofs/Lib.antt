@@ -1,0 +1,7 @@
+pub mod Turns
+pub mod Schedules
+pub mod Isolation
+pub mod Kept
+pub mod Lefts
+pub mod Draws
+pub mod OnePlay

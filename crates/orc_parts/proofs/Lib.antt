@@ -1,0 +1,3 @@
+pub mod Dests
+pub mod Together
+pub mod EvenCuts
