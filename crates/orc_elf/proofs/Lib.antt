@@ -1,0 +1,14 @@
+pub mod Growing
+pub mod Numbers
+pub mod Refusals
+pub mod Unless
+pub mod Loop
+pub mod Written
+pub mod Sizes
+pub mod Joined
+pub mod Offsets
+pub mod HeaderLaws
+pub mod Strings
+pub mod SymbolLaws
+pub mod Laid
+pub mod Whole

@@ -1,0 +1,5 @@
+pub mod Entries
+pub mod Sections
+pub mod Fields
+pub mod Told
+pub mod Layout

@@ -1,0 +1,18 @@
+-- The kinds of section that an object has (System V gABI, chapter 4, "Sections").
+use Rattle.orc_elf.specs.declared.section.SectionKind.{SectionKind}
+
+-- the section of header 0: SHT_NULL
+abbrev pub null : SectionKind
+null = record { kind = 0; flags = 0; link = 0; info = 0; align = 0; entry_size = 0 }
+
+-- .text: SHT_PROGBITS, with SHF_ALLOC and SHF_EXECINSTR
+abbrev pub text : SectionKind
+text = record { kind = 1; flags = 6; link = 0; info = 0; align = 16; entry_size = 0 }
+
+-- .symtab: SHT_SYMTAB. Its names stand in section 3, and the first symbol that isn't local is symbol 1
+abbrev pub symtab : SectionKind
+symtab = record { kind = 2; flags = 0; link = 3; info = 1; align = 8; entry_size = 24 }
+
+-- .strtab and .shstrtab: SHT_STRTAB
+abbrev pub strtab : SectionKind
+strtab = record { kind = 3; flags = 0; link = 0; info = 0; align = 1; entry_size = 0 }
