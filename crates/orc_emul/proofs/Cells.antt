@@ -104,7 +104,7 @@ and_second : (s t : Bool) → (s && t) ≡ true → t ≡ true
 and_second true t h = h
 and_second false t h = absurd (let e : ⊥ = cc in e)
 
-all_at : (n : ℕ) (mem : Memory) (a k : ℕ) → all_mapped n mem a ≡ true → k < n → is_some (mem ((a + k) % 2 ^ 64)) ≡ true
+pub all_at : (n : ℕ) (mem : Memory) (a k : ℕ) → all_mapped n mem a ≡ true → k < n → is_some (mem ((a + k) % 2 ^ 64)) ≡ true
 all_at zero mem a k h l = absurd (omega (arith, l))
 all_at (suc n) mem a zero h l = ap (λ b. is_some (mem (b % 2 ^ 64))) (let q : a + 0 ≡ a = omega arith in q) ∙ and_first _ _ h
 all_at (suc n) mem a (suc k) h l = ap (λ b. is_some (mem (b % 2 ^ 64))) (let q : a + suc k ≡ a + 1 + k = omega arith in q) ∙ all_at n mem (a + 1) k (and_second _ _ h) (omega (arith, l))

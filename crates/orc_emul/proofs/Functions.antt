@@ -93,7 +93,7 @@ before_all k (v ∷ vars) (suc p) l e =
 
 -- ---- instructions
 
-no_fault : (o : Option Fault) → has_no_fault o ≡ true → o ≡ None
+pub no_fault : (o : Option Fault) → has_no_fault o ≡ true → o ≡ None
 no_fault None e = refl
 no_fault (Some x) e = absurd (true≢false (sym e))
 
@@ -101,7 +101,7 @@ first_none : (c : Bool) (x : Fault) (rest : Option Fault) → or_else (check c x
 first_none false x rest e = refl
 first_none true x rest e = absurd (true≢false (ap has_no_fault (sym e)))
 
-good_prefix : (vars : List Var) (earlier : List Insn) (insn : Insn) → insn_fault vars earlier insn ≡ None → is_bad_prefix insn.op insn.prefix ≡ false
+pub good_prefix : (vars : List Var) (earlier : List Insn) (insn : Insn) → insn_fault vars earlier insn ≡ None → is_bad_prefix insn.op insn.prefix ≡ false
 unfolding insn_fault
 good_prefix vars earlier insn e = first_none (is_bad_prefix insn.op insn.prefix) fault.BadPrefix _ e
 
@@ -130,7 +130,7 @@ prefix_cases o k e = go (k == 1) refl e
         sizes false false true rest p q e = absurd (true≢false e)
         sizes false false false rest p q e = (grind (arith, nat_tests, p), grind (arith, nat_tests, q))
 
-fits_of : (vars : List Var) (earlier : List Insn) (insn : Insn) → is_shaped vars insn ≡ true → insn_fault vars earlier insn ≡ None → Fits vars insn
+pub fits_of : (vars : List Var) (earlier : List Insn) (insn : Insn) → is_shaped vars insn ≡ true → insn_fault vars earlier insn ≡ None → Fits vars insn
 fits_of vars earlier insn shaped passes =
     let a = both (insn.prefix == 1 || (insn.prefix == 2 || insn.prefix == 4)) (length insn.results.items == result_count insn.op && (length insn.sources.items == source_count insn.op && (list_all (is_in_range vars) insn.results.items && (list_all (is_in_range vars) insn.sources.items && nat_lt insn.line (2 ^ 32))))) shaped in
     let b = both (length insn.results.items == result_count insn.op) (length insn.sources.items == source_count insn.op && (list_all (is_in_range vars) insn.results.items && (list_all (is_in_range vars) insn.sources.items && nat_lt insn.line (2 ^ 32)))) a.1 in

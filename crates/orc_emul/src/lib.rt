@@ -9,6 +9,7 @@ mod run;
 mod state;
 mod store;
 
+pub use places::{array_number, count, count_before, variable};
 pub use run::{Accs, emulate};
 pub use state::Unmapped;
 pub use store::{Store, are_low, overlaps};

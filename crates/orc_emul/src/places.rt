@@ -1,6 +1,6 @@
 //! Variables, and where a call's cells and parameters stand.
 
-ghost use Rattle.std.specs.Prelude.{◌≡◌, ◌<◌, ◌≤◌, true, length};
+ghost use Rattle.std.specs.Prelude.{◌≡◌, ◌<◌, ◌≤◌, ◌+◌, true, length};
 ghost use Rattle.orc_program.specs.Program as program;
 ghost use Rattle.orc_program.specs.Program.{var_at, is_array};
 ghost use Rattle.orc_program.specs.Meaning as meaning;
@@ -14,7 +14,7 @@ pub fn variable(f: &Function, p: u16) -> &Var
     requires { p < length f.now.vars }
     ensures value { result.now ≡ var_at f.now.vars p }
     ensures size { result.now.size ≤ 8 }
-    ensures few { p < 72 }
+    ensures few { length f.now.vars ≤ 72 }
 {
     &f.vars.as_slice()[usize::from(p)]
 }
@@ -27,24 +27,27 @@ pub fn same_kind(a: VarKind, b: VarKind) -> bool
 }
 
 /// How many variables of a kind there are.
-fn count(vars: &[Var], kind: VarKind) -> usize
-    ensures { result ≡ program.count_of kind vars.now }
+pub fn count(vars: &[Var], kind: VarKind) -> usize
+    ensures value { result ≡ program.count_of kind vars.now }
+    ensures few { result ≤ length vars.now }
 {
     vars.iter().filter(|v| same_kind(kind, v.kind)).count()
 }
 
-/// How many stand before a place.
-fn count_before(f: &Function, kind: VarKind, p: u16) -> usize
+/// How many variables of a kind stand before a place.
+pub fn count_before(f: &Function, kind: VarKind, p: u16) -> usize
     requires { p < length f.now.vars }
-    ensures { result ≡ program.count_before kind f.now.vars p }
+    ensures value { result ≡ program.count_before kind f.now.vars p }
+    ensures few { result ≤ p }
 {
     count(&f.vars.as_slice()[..usize::from(p)], kind)
 }
 
 /// The place of an array among a call's.
-fn array_number(f: &Function, p: u16) -> usize
+pub fn array_number(f: &Function, p: u16) -> usize
     requires { p < length f.now.vars }
-    ensures { result ≡ program.array_number f.now.vars p }
+    ensures value { result ≡ program.array_number f.now.vars p }
+    ensures few { result ≤ 144 }
 {
     if variable(f, p).kind == VarKind::Dest {
         count_before(f, VarKind::Dest, p)

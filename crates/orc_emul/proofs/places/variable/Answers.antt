@@ -15,4 +15,4 @@ returns-clause-size c =
     subst (λ (v : Var). v.size ≤ 8) (sym e) low
 
 pub returns-clause-few : goal.returns-clause-few
-returns-clause-few c = let l = (limits_kept c.args.f.now (kept c)).all in omega (arith, l, c.requires)
+returns-clause-few c = (limits_kept c.args.f.now (kept c)).all

@@ -1,0 +1,188 @@
+-- Opcodes on sub-lanes: the expressions of sources and results mean what emulation reads and computes.
+use Rattle.std.proofs.Common.{◌≡◌, ℕ, suc, ◌*◌, ◌/◌, ◌%◌, ◌^◌, ◌<◌, ◌≤◌, ◌||◌, ◌==◌, ⊎_elim, Bool, true, false, List, [], ◌∷◌, Some, Result, Ok, refl, sym, ap, ◌∙◌, arith}
+use Rattle.std.specs.Prelude.{slice_get}
+use Rattle.std.proofs.lemmas.Bool.Decides.{nat_tests}
+use Rattle.std.proofs.lemmas.Nat.{pow_pos, mod_below}
+use Rattle.std.proofs.Math.Nat.{mod-eq_of_lt}
+use Rattle.orc_ops.specs.declared.opcode.Op.{Op}
+use Rattle.orc_ops.specs.declared.opcode.Op.TheVariants as op
+use Rattle.orc_ops.specs.declared.stem.Stem.{Stem}
+use Rattle.orc_ops.specs.declared.stem.Stem.TheVariants as stem
+use Rattle.orc_ops.specs.Stems.{apply}
+use Rattle.orc_ops.specs.Table.{row, wide, to, size_of_result, size_of_source}
+use Rattle.orc_ops.specs.Widths.{IsSize}
+use Rattle.orc_ops.specs.Formula.{formula, source_of}
+use Rattle.orc_ops.proofs.Rows.{row_fits, either}
+use Rattle.orc_ops.proofs.Bounds.{formula_below}
+use Rattle.orc_program.specs.declared.call.Call.{Call}
+use Rattle.orc_program.specs.declared.program.VarKind.{VarKind}
+use Rattle.orc_program.specs.declared.program.VarKind.TheVariants as kind
+use Rattle.orc_program.specs.Program.{FunctionValue, var_at, count_before, is_array_kind}
+use Rattle.orc_program.specs.declared.program.Operand.{Operand}
+use Rattle.orc_program.specs.declared.program.Operand.TheVariants as operand
+use Rattle.orc_program.specs.declared.program.Insn.{Insn}
+use Rattle.orc_program.specs.Meaning.{State, Gap, go_on, sub_lane, read_cell, read_var, read_source, read_sources, param_at, lanewise}
+use Rattle.orc_program.proofs.Steps.{go_on_ok, ok_same}
+use Rattle.c_run.specs.declared.tree.CExpr.{CExpr}
+use Rattle.c_run.specs.declared.tree.CExpr.TheVariants.{Number, P}
+use Rattle.c_run.specs.Meaning.{CState, Turn}
+use Rattle.c_run.proofs.Trees.{value_p}
+use Rattle.c_emit.specs.Expressions.{first, second}
+use Rattle.c_emit.specs.Body.{temp_of, lane_of_var, lane_of, lane_first, lane_second, first_at, second_at, packed}
+use Rattle.c_emit.proofs.Values.{Scene, Gives, same, number, low_gives}
+use Rattle.c_emit.proofs.StemLaws.{top_64}
+use Rattle.c_emit.proofs.StemLaws as law
+use Rattle.c_emit.proofs.All.{range_of, first_law}
+use Rattle.c_emit.proofs.Rows.{widths_fit}
+use Rattle.c_emit.proofs.Doing.{scene, v_gives, part_gives, packed_gives}
+
+size_low : (n : ℕ) → IsSize n → 8 * n ≤ 64
+size_low n h = grind (arith, h)
+
+-- the first result of an opcode, from its sources cut to their sizes
+pub formula_first : {z : Scene} {x y : CExpr} (o : Op) (a b : ℕ) → Gives z x (source_of o 0 a) → Gives z y (source_of o 1 b) → Gives z (first (row o).stem (wide o) (to o) x y) (formula o a b).0
+unfolding formula
+formula_first o a b p q =
+    let r = row_fits o in
+    let c = mod_below a (2 ^ wide o) (pow_pos (wide o)) in
+    let d = mod_below b (2 ^ (8 * size_of_source o 1)) (pow_pos (8 * size_of_source o 1)) in
+    let t = top_64 (8 * size_of_source o 1) (size_low (size_of_source o 1) r.size) in
+    first_law (row o).stem (wide o) (to o) (range_of (wide o) r.first) (range_of (to o) r.result) (widths_fit o) p q c (r.second b) (omega (arith, d, t))
+
+abbrev is_split : Stem → Bool
+is_split stem.Split = true
+is_split s = false
+
+splits : (o : Op) → size_of_result o 1 == 0 || is_split (row o).stem ≡ true
+splits op.Absb = refl
+splits o = refl
+
+second_of : {z : Scene} {x : CExpr} {a : ℕ} (y : CExpr) (s : Stem) (w t b : ℕ) → is_split s ≡ true → w ≤ 64 → t ≤ 64 → a < 2 ^ w → Gives z x a → Gives z (second s w t x y) (apply s w t a b).1
+second_of y stem.Split w t b e l k m p = law.split_second_law y b w t l k p m
+second_of y s w t b e l k m p = absurd (let f : ⊥ = cc in f)
+
+-- the second one, of an opcode that has one
+pub formula_second : {z : Scene} {x : CExpr} (y : CExpr) (o : Op) (a b : ℕ) → 0 < size_of_result o 1 → Gives z x (source_of o 0 a) → Gives z (second (row o).stem (wide o) (to o) x y) (formula o a b).1
+unfolding formula
+formula_second {z} {x} y o a b h p =
+    let r = row_fits o in
+    let u = range_of (wide o) r.first in
+    let v = range_of (to o) r.result in
+    let e : is_split (row o).stem ≡ true = ⊎_elim (λ n. absurd (let i : size_of_result o 1 ≡ 0 = grind (arith, nat_tests, n) in omega (arith, i, h))) (λ s. s) (either (size_of_result o 1 == 0) _ (splits o)) in
+    second_of y (row o).stem (wide o) (to o) (source_of o 1 b) e u.high v.high (mod_below a (2 ^ wide o) (pow_pos (wide o))) p
+
+-- ---- what a source gives to a sub-lane
+
+-- what the state of C has for the variable at place p, whose cell is in variable d
+pub record Ready (f : FunctionValue) (call : Call) (r i : ℕ) (s : CState) (e : State) (d p : ℕ) : Type 0 where
+  pub cell : is_array_kind (var_at f.vars p).kind ≡ true → (v : ℕ) → read_cell f call r i p e ≡ Ok v → (s.v d ≡ Some v) × (v < 2 ^ 64)
+  pub temp : (var_at f.vars p).kind ≡ kind.Temp → (s.v (temp_of f.vars p) ≡ Some (e.temps p)) × (e.temps p < 2 ^ 64)
+  pub param : (var_at f.vars p).kind ≡ kind.Param → (slice_get call.params.items (count_before kind.Param f.vars p) ≡ Some (param_at f call p)) × (param_at f call p < 2 ^ 64)
+
+again : (x w : ℕ) → x % 2 ^ w % 2 ^ w ≡ x % 2 ^ w
+again x w = mod-eq_of_lt (mod_below x (2 ^ w) (pow_pos w))
+
+abbrev okay : (ℕ → ℕ) → Result (ℕ → ℕ) Gap
+okay g = Ok g
+
+-- an array's cell, which is in variable d
+cell_lane : (f : FunctionValue) (call : Call) (r i : ℕ) (s : CState) (e : State) (w q d p : ℕ) (g : ℕ → ℕ) → is_array_kind (var_at f.vars p).kind ≡ true → Ready f call r i s e d p → w ≤ 64 → w * q < 64 → go_on (read_cell f call r i p e) (λ v. okay (sub_lane w v)) ≡ okay g → Gives (scene call (record { row = r; element = i }) s) (lane_of_var f.vars w q d p kind.Source) (g q % 2 ^ w)
+cell_lane f call r i s e w q d p g n h l m k =
+    let a = go_on_ok (read_cell f call r i p e) (λ v. okay (sub_lane w v)) g k in
+    let c = h.cell n a.0 a.1 in
+    let t : g q ≡ a.0 / 2 ^ (w * q) % 2 ^ w = sym (ap (λ (g : ℕ → ℕ). g q) (ok_same (sub_lane w a.0) g a.2)) in
+    same (g q % 2 ^ w) (part_gives w q l m c.1 (v_gives call (record { row = r; element = i }) s d a.0 c.0)) (sym (ap (λ n. n % 2 ^ w) t ∙ again (a.0 / 2 ^ (w * q)) w))
+
+-- a variable whose number is cut into sub-lanes
+abbrev pub has_lanes : VarKind → Bool
+has_lanes kind.Source = true
+has_lanes kind.Dest = true
+has_lanes kind.Temp = true
+has_lanes k = false
+
+pub var_lane : (f : FunctionValue) (call : Call) (r i : ℕ) (s : CState) (e : State) (w q d p : ℕ) (g : ℕ → ℕ) (k : VarKind) → k ≡ (var_at f.vars p).kind → Ready f call r i s e d p → w ≤ 64 → (has_lanes k ≡ true → w * q < 64) → read_var f call r i w e p k ≡ okay g → Gives (scene call (record { row = r; element = i }) s) (lane_of_var f.vars w q d p k) (g q % 2 ^ w)
+var_lane f call r i s e w q d p g kind.Source n h l m k = cell_lane f call r i s e w q d p g (sym (ap is_array_kind n)) h l (m refl) k
+var_lane f call r i s e w q d p g kind.Dest n h l m k = cell_lane f call r i s e w q d p g (sym (ap is_array_kind n)) h l (m refl) k
+var_lane f call r i s e w q d p g kind.Temp n h l m k =
+    let c = h.temp (sym n) in
+    let t : g q ≡ e.temps p / 2 ^ (w * q) % 2 ^ w = sym (ap (λ (g : ℕ → ℕ). g q) (ok_same (sub_lane w (e.temps p)) g k)) in
+    same (g q % 2 ^ w) (part_gives w q l (m refl) c.1 (v_gives call (record { row = r; element = i }) s (temp_of f.vars p) (e.temps p) c.0)) (sym (ap (λ n. n % 2 ^ w) t ∙ again (e.temps p / 2 ^ (w * q)) w))
+var_lane f call r i s e w q d p g kind.Param n h l m k =
+    let c = h.param (sym n) in
+    let t : g q ≡ param_at f call p = sym (ap (λ (g : ℕ → ℕ). g q) (ok_same (λ q. param_at f call p) g k)) in
+    let z : Scene = scene call (record { row = r; element = i }) s in
+    let a : Gives z (P (count_before kind.Param f.vars p)) (param_at f call p) = record { is = value_p call (record { row = r; element = i }) s (count_before kind.Param f.vars p) ∙ c.0 } in
+    same (g q % 2 ^ w) (low_gives w a c.1 l) (sym (ap (λ n. n % 2 ^ w) t))
+var_lane f call r i s e w q d p g kind.Const n h l m k =
+    let t : g q ≡ (var_at f.vars p).number = sym (ap (λ (g : ℕ → ℕ). g q) (ok_same (λ q. (var_at f.vars p).number) g k)) in
+    same (g q % 2 ^ w) (number (scene call (record { row = r; element = i }) s) ((var_at f.vars p).number % 2 ^ w)) (sym (ap (λ n. n % 2 ^ w) t))
+var_lane f call r i s e w q d p g kind.Accumulator n h l m k =
+    let t : g q ≡ 0 = sym (ap (λ (g : ℕ → ℕ). g q) (ok_same (λ q. 0) g k)) in
+    same (g q % 2 ^ w) (number (scene call (record { row = r; element = i }) s) 0) (sym (ap (λ n. n % 2 ^ w) t ∙ mod-eq_of_lt (pow_pos w)))
+
+-- ---- operands
+
+-- what is asked of a source operand of w bits, for sub-lane q
+abbrev pub IsReady : FunctionValue → Call → ℕ → ℕ → CState → State → ℕ → ℕ → ℕ → Operand → Type 0
+IsReady f call r i s e w q d (operand.Var p) = Ready f call r i s e d p × (has_lanes (var_at f.vars p).kind ≡ true → w * q < 64)
+IsReady f call r i s e w q d (operand.Number n) = Unit {0}
+
+pub operand_lane : (f : FunctionValue) (call : Call) (r i : ℕ) (s : CState) (e : State) (w q d : ℕ) (x : Operand) (g : ℕ → ℕ) → IsReady f call r i s e w q d x → w ≤ 64 → read_source f call r i w e x ≡ okay g → Gives (scene call (record { row = r; element = i }) s) (lane_of f.vars w q d x) (g q % 2 ^ w)
+operand_lane f call r i s e w q d (operand.Var p) g h l k = var_lane f call r i s e w q d p g (var_at f.vars p).kind refl h.0 l h.1 k
+operand_lane f call r i s e w q d (operand.Number n) g h l k =
+    let t : g q ≡ n = sym (ap (λ (g : ℕ → ℕ). g q) (ok_same (λ q. n) g k)) in
+    same (g q % 2 ^ w) (number (scene call (record { row = r; element = i }) s) (n % 2 ^ w)) (sym (ap (λ n. n % 2 ^ w) t))
+
+abbrev pub both_okay : (ℕ → ℕ) → (ℕ → ℕ) → Result ((ℕ → ℕ) × (ℕ → ℕ)) Gap
+both_okay a b = Ok (a, b)
+
+-- what is asked of the sources of an opcode
+abbrev pub AreReady : FunctionValue → Call → ℕ → ℕ → CState → State → Op → ℕ → List Operand → Type 0
+AreReady f call r i s e o q [] = Unit {0}
+AreReady f call r i s e o q (x ∷ []) = IsReady f call r i s e (8 * size_of_source o 0) q 0 x
+AreReady f call r i s e o q (x ∷ y ∷ more) = IsReady f call r i s e (8 * size_of_source o 0) q 0 x × IsReady f call r i s e (8 * size_of_source o 1) q 1 y
+
+none_lane : (call : Call) (t : Turn) (s : CState) (w : ℕ) (g : ℕ → ℕ) (q : ℕ) → (λ q. 0) ≡ g → Gives (scene call t s) (Number 0) (g q % 2 ^ w)
+none_lane call t s w g q h = same (g q % 2 ^ w) (number (scene call t s) 0) (sym (ap (λ (g : ℕ → ℕ). g q % 2 ^ w) (sym h) ∙ mod-eq_of_lt (pow_pos w)))
+
+-- the two sources of a sub-lane
+pub source_lanes : (f : FunctionValue) (call : Call) (r i : ℕ) (s : CState) (e : State) (o : Op) (q : ℕ) (xs : List Operand) (a b : ℕ → ℕ) → AreReady f call r i s e o q xs → read_sources f call r i o e xs ≡ both_okay a b
+    → Gives (scene call (record { row = r; element = i }) s) (lane_first f.vars o q xs) (source_of o 0 (a q)) × Gives (scene call (record { row = r; element = i }) s) (lane_second f.vars o q xs) (source_of o 1 (b q))
+source_lanes f call r i s e o q [] a b h k =
+    let p = ok_same ((λ q. 0), (λ q. 0)) (a, b) k in
+    let t : Turn = record { row = r; element = i } in
+    (none_lane call t s (8 * size_of_source o 0) a q (ap (λ (v : (ℕ → ℕ) × (ℕ → ℕ)). v.0) p), none_lane call t s (8 * size_of_source o 1) b q (ap (λ (v : (ℕ → ℕ) × (ℕ → ℕ)). v.1) p))
+source_lanes f call r i s e o q (x ∷ []) a b h k =
+    let c = go_on_ok (read_source f call r i (8 * size_of_source o 0) e x) (λ g. both_okay g (λ q. 0)) (a, b) k in
+    let p = ok_same (c.0, (λ q. 0)) (a, b) c.2 in
+    let z = range_of (wide o) (row_fits o).first in
+    let u = operand_lane f call r i s e (8 * size_of_source o 0) q 0 x c.0 h z.high c.1 in
+    (same (a q % 2 ^ (8 * size_of_source o 0)) u (ap (λ (v : (ℕ → ℕ) × (ℕ → ℕ)). v.0 q % 2 ^ (8 * size_of_source o 0)) p), none_lane call (record { row = r; element = i }) s (8 * size_of_source o 1) b q (ap (λ (v : (ℕ → ℕ) × (ℕ → ℕ)). v.1) p))
+source_lanes f call r i s e o q (x ∷ y ∷ more) a b h k =
+    let c = go_on_ok (read_source f call r i (8 * size_of_source o 0) e x) (λ g. go_on (read_source f call r i (8 * size_of_source o 1) e y) (λ m. both_okay g m)) (a, b) k in
+    let d = go_on_ok (read_source f call r i (8 * size_of_source o 1) e y) (λ m. both_okay c.0 m) (a, b) c.2 in
+    let p = ok_same (c.0, d.0) (a, b) d.2 in
+    let z = range_of (wide o) (row_fits o).first in
+    let u = operand_lane f call r i s e (8 * size_of_source o 0) q 0 x c.0 h.0 z.high c.1 in
+    let v = operand_lane f call r i s e (8 * size_of_source o 1) q 1 y d.0 h.1 (size_low (size_of_source o 1) (row_fits o).size) d.1 in
+    (same (a q % 2 ^ (8 * size_of_source o 0)) u (ap (λ (v : (ℕ → ℕ) × (ℕ → ℕ)). v.0 q % 2 ^ (8 * size_of_source o 0)) p), same (b q % 2 ^ (8 * size_of_source o 1)) v (ap (λ (v : (ℕ → ℕ) × (ℕ → ℕ)). v.1 q % 2 ^ (8 * size_of_source o 1)) p))
+
+-- ---- results
+
+-- the expression of the first result means the first result of the opcode under its prefix, which is k and one
+pub first_result : (f : FunctionValue) (call : Call) (r i : ℕ) (s : CState) (e : State) (insn : Insn) (k : ℕ) (a b : ℕ → ℕ) → insn.prefix ≡ suc k → 0 < size_of_result insn.op 0 → 8 * size_of_result insn.op 0 * suc k ≤ 64
+    → ((q : ℕ) → q ≤ k → AreReady f call r i s e insn.op q insn.sources.items) → read_sources f call r i insn.op e insn.sources.items ≡ both_okay a b
+    → Gives (scene call (record { row = r; element = i }) s) (packed (8 * size_of_result insn.op 0) k (first_at f.vars insn)) (lanewise insn.op (suc k) a b).0
+first_result f call r i s e insn k a b p z l h m =
+    packed_gives (8 * size_of_result insn.op 0) k (first_at f.vars insn) (λ q. (formula insn.op (a q) (b q)).0) (omega (arith, z)) l
+    (λ q n. let u = source_lanes f call r i s e insn.op q insn.sources.items a b (h q n) m in formula_first insn.op (a q) (b q) u.0 u.1)
+    (λ q. (formula_below insn.op (a q) (b q)).0)
+
+-- and so does that of the second, of an opcode that has one
+pub second_result : (f : FunctionValue) (call : Call) (r i : ℕ) (s : CState) (e : State) (insn : Insn) (k : ℕ) (a b : ℕ → ℕ) → insn.prefix ≡ suc k → 0 < size_of_result insn.op 1 → 8 * size_of_result insn.op 1 * suc k ≤ 64
+    → ((q : ℕ) → q ≤ k → AreReady f call r i s e insn.op q insn.sources.items) → read_sources f call r i insn.op e insn.sources.items ≡ both_okay a b
+    → Gives (scene call (record { row = r; element = i }) s) (packed (8 * size_of_result insn.op 1) k (second_at f.vars insn)) (lanewise insn.op (suc k) a b).1
+second_result f call r i s e insn k a b p z l h m =
+    packed_gives (8 * size_of_result insn.op 1) k (second_at f.vars insn) (λ q. (formula insn.op (a q) (b q)).1) (omega (arith, z)) l
+    (λ q n. let u = source_lanes f call r i s e insn.op q insn.sources.items a b (h q n) m in formula_second (lane_second f.vars insn.op q insn.sources.items) insn.op (a q) (b q) z u.0)
+    (λ q. (formula_below insn.op (a q) (b q)).1)

@@ -1,0 +1,235 @@
+//! Expressions from their parts.
+
+ghost use Rattle.std.specs.Prelude.{◌≡◌, ◌<◌, ◌≤◌, IfOk};
+ghost use Rattle.orc_bits.specs.Widths.{IsWidth};
+ghost use Rattle.orc_ops.specs.Stems.{ones};
+ghost use Rattle.c_run.specs.declared.tree.CCmp.TheVariants.{Equal};
+ghost use Rattle.c_emit.specs.Expressions as expressions;
+
+use c_run::{CCmp, CExpr, COp};
+use sqlite_items::Boxed;
+use std::alloc::{AllocError, Global};
+
+/// An operator on two expressions.
+pub fn two(alloc: Global, op: COp, a: CExpr, b: CExpr) -> Result<CExpr, AllocError>
+    ensures { IfOk result (λ e. e ≡ CExpr.Two op a b) }
+{
+    let a = Boxed::new(alloc, a)?;
+    let b = Boxed::new(alloc, b)?;
+    Ok(CExpr::Two(op, a, b))
+}
+
+/// A comparison of two expressions.
+pub fn test(alloc: Global, cmp: CCmp, a: CExpr, b: CExpr) -> Result<CExpr, AllocError>
+    ensures { IfOk result (λ e. e ≡ CExpr.Test cmp a b) }
+{
+    let a = Boxed::new(alloc, a)?;
+    let b = Boxed::new(alloc, b)?;
+    Ok(CExpr::Test(cmp, a, b))
+}
+
+/// The second expression where the first isn't 0, else the third.
+pub fn choose(alloc: Global, c: CExpr, a: CExpr, b: CExpr) -> Result<CExpr, AllocError>
+    ensures { IfOk result (λ e. e ≡ CExpr.Choose c a b) }
+{
+    let c = Boxed::new(alloc, c)?;
+    let a = Boxed::new(alloc, a)?;
+    let b = Boxed::new(alloc, b)?;
+    Ok(CExpr::Choose(c, a, b))
+}
+
+/// The same expression once more.
+pub fn copy(alloc: Global, e: &CExpr) -> Result<CExpr, AllocError>
+    ensures { IfOk result (λ c. c ≡ e.now) }
+{
+    match e {
+        CExpr::Number(n) => Ok(CExpr::Number(*n)),
+        CExpr::V(d) => Ok(CExpr::V(*d)),
+        CExpr::W(d) => Ok(CExpr::W(*d)),
+        CExpr::P(d) => Ok(CExpr::P(*d)),
+        CExpr::Byte(d, x) => Ok(CExpr::Byte(*d, *x)),
+        CExpr::Two(op, a, b) => two(alloc, *op, copy(alloc, a.get())?, copy(alloc, b.get())?),
+        CExpr::Test(cmp, a, b) => test(alloc, *cmp, copy(alloc, a.get())?, copy(alloc, b.get())?),
+        CExpr::Choose(c, a, b) => choose(
+            alloc,
+            copy(alloc, c.get())?,
+            copy(alloc, a.get())?,
+            copy(alloc, b.get())?,
+        ),
+    }
+}
+
+/// A number.
+pub fn number(n: u64) -> CExpr
+    ensures { result ≡ CExpr.Number n }
+{
+    CExpr::Number(n)
+}
+
+/// So many bits that are all ones.
+pub fn ones(t: u32) -> u64
+    requires { IsWidth t }
+    ensures { result ≡ ones t }
+{
+    if t < 64 { (1 << t) - 1 } else { u64::MAX }
+}
+
+/// Half of what so many bits can hold.
+pub fn half(w: u32) -> u64
+    requires { IsWidth w }
+    ensures { result ≡ expressions.half w }
+{
+    1 << (w - 1)
+}
+
+/// The low bits of an expression.
+pub fn low(alloc: Global, t: u32, e: CExpr) -> Result<CExpr, AllocError>
+    requires { t ≤ 64 }
+    ensures { IfOk result (λ r. r ≡ expressions.low t e) }
+{
+    if t < 64 {
+        two(alloc, COp::And, e, number((1 << t) - 1))
+    } else {
+        Ok(e)
+    }
+}
+
+/// An expression shifted up.
+pub fn up(alloc: Global, e: CExpr, n: u64) -> Result<CExpr, AllocError>
+    ensures { IfOk result (λ r. r ≡ expressions.up e n) }
+{
+    two(alloc, COp::Shl, e, number(n))
+}
+
+/// An expression shifted down.
+pub fn down(alloc: Global, e: CExpr, n: u64) -> Result<CExpr, AllocError>
+    ensures { IfOk result (λ r. r ≡ expressions.down e n) }
+{
+    two(alloc, COp::Shr, e, number(n))
+}
+
+/// An expression plus a number.
+pub fn plus(alloc: Global, e: CExpr, n: u64) -> Result<CExpr, AllocError>
+    ensures { IfOk result (λ r. r ≡ expressions.plus e n) }
+{
+    two(alloc, COp::Add, e, number(n))
+}
+
+/// The test that the first is less than the second.
+pub fn less(alloc: Global, a: CExpr, b: CExpr) -> Result<CExpr, AllocError>
+    ensures { IfOk result (λ r. r ≡ expressions.less a b) }
+{
+    test(alloc, CCmp::Less, a, b)
+}
+
+/// The test that two are equal.
+pub fn equal(alloc: Global, a: CExpr, b: CExpr) -> Result<CExpr, AllocError>
+    ensures { IfOk result (λ r. r ≡ CExpr.Test Equal a b) }
+{
+    test(alloc, CCmp::Equal, a, b)
+}
+
+/// The second of two expressions where the first is less than it, and else the first; or the other way round.
+pub fn choose_less(
+    alloc: Global,
+    a: CExpr,
+    b: CExpr,
+    yes: CExpr,
+    no: CExpr,
+) -> Result<CExpr, AllocError>
+    ensures { IfOk result (λ r. r ≡ CExpr.Choose (expressions.less a b) yes no) }
+{
+    let c = less(alloc, a, b)?;
+    choose(alloc, c, yes, no)
+}
+
+/// The lesser of an expression and a number.
+pub fn at_most(alloc: Global, n: u64, e: CExpr) -> Result<CExpr, AllocError>
+    ensures { IfOk result (λ r. r ≡ expressions.at_most n e) }
+{
+    let again = copy(alloc, &e)?;
+    choose_less(alloc, number(n), again, number(n), e)
+}
+
+/// The first without the second, or 0 where that is greater.
+pub fn without(alloc: Global, a: CExpr, b: CExpr) -> Result<CExpr, AllocError>
+    ensures { IfOk result (λ r. r ≡ expressions.without a b) }
+{
+    let first = copy(alloc, &a)?;
+    let second = copy(alloc, &b)?;
+    let rest = two(alloc, COp::Sub, a, b)?;
+    choose_less(alloc, first, second, number(0), rest)
+}
+
+/// All ones where a test holds, else 0.
+pub fn mask_if(alloc: Global, t: u32, c: CExpr) -> Result<CExpr, AllocError>
+    requires { IsWidth t }
+    ensures { IfOk result (λ r. r ≡ expressions.mask_if t c) }
+{
+    choose(alloc, c, number(ones(t)), number(0))
+}
+
+/// The distance of the signed reading from the least number, and back again.
+pub fn turned(alloc: Global, w: u32, e: CExpr) -> Result<CExpr, AllocError>
+    requires { IsWidth w }
+    ensures { IfOk result (λ r. r ≡ expressions.turned w e) }
+{
+    let sum = plus(alloc, e, half(w))?;
+    low(alloc, w, sum)
+}
+
+/// The signed reading, at 64 bits.
+pub fn wide(alloc: Global, w: u32, e: CExpr) -> Result<CExpr, AllocError>
+    requires { IsWidth w }
+    ensures { IfOk result (λ r. r ≡ expressions.wide w e) }
+{
+    let distance = turned(alloc, w, e)?;
+    two(alloc, COp::Sub, distance, number(half(w)))
+}
+
+/// A shift's result, or 0 where the count is not below the width.
+pub fn if_below(alloc: Global, w: u32, count: CExpr, e: CExpr) -> Result<CExpr, AllocError>
+    ensures { IfOk result (λ r. r ≡ expressions.if_below w count e) }
+{
+    choose_less(alloc, count, number(u64::from(w)), e, number(0))
+}
+
+/// The count of a shift, and one less than the width in place of a greater one.
+pub fn few(alloc: Global, w: u32, count: &CExpr) -> Result<CExpr, AllocError>
+    requires { IsWidth w }
+    ensures { IfOk result (λ r. r ≡ expressions.few w count.now) }
+{
+    let tested = copy(alloc, count)?;
+    let kept = copy(alloc, count)?;
+    choose_less(
+        alloc,
+        tested,
+        number(u64::from(w)),
+        kept,
+        number(u64::from(w - 1)),
+    )
+}
+
+/// Byte k of an expression at place j.
+fn byte_to(alloc: Global, e: &CExpr, k: u64, j: u64) -> Result<CExpr, AllocError>
+    requires k { k < 8 }
+    requires j { j < 8 }
+    ensures { IfOk result (λ r. r ≡ expressions.byte_to e.now k j) }
+{
+    let moved = down(alloc, copy(alloc, e)?, 8 * k)?;
+    let byte = two(alloc, COp::And, moved, number(255))?;
+    up(alloc, byte, 8 * j)
+}
+
+/// The bytes of an expression of n bytes, in reverse order.
+pub fn swapped(alloc: Global, e: &CExpr, n: u64) -> Result<CExpr, AllocError>
+    requires { n ≤ 8 }
+    ensures { IfOk result (λ r. r ≡ expressions.swapped e.now n n) }
+{
+    let mut all = number(0);
+    for k in 0..n {
+        let byte = byte_to(alloc, e, k, n - 1 - k)?;
+        all = two(alloc, COp::Add, all, byte)?;
+    }
+    Ok(all)
+}

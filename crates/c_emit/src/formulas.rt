@@ -1,0 +1,567 @@
+//! The formulas of opcodes as expressions.
+
+ghost use Rattle.std.specs.Prelude.{◌≡◌, ◌<◌, ◌≤◌, ◌^◌, true, IfOk};
+ghost use Rattle.orc_bits.specs.Widths.{IsWidth};
+ghost use Rattle.orc_ops.specs.Stems.{ones};
+ghost use Rattle.orc_ops.specs.declared.stem.Stem.TheVariants as stem;
+ghost use Rattle.c_run.specs.declared.tree.COp.TheVariants.{Add, Sub, Mul};
+ghost use Rattle.c_emit.specs.Expressions as expressions;
+ghost use Rattle.c_emit.specs.Expressions.{first, fits};
+
+use crate::build::{
+    at_most, choose, choose_less, copy, down, equal, few, half, if_below, less, low, mask_if,
+    number, ones, plus, swapped, turned, two, up, wide, without,
+};
+use c_run::{CExpr, COp};
+use orc_ops::Stem;
+use std::alloc::{AllocError, Global};
+
+/// 2^w, for a width below 64.
+fn whole(w: u32) -> u64
+    requires { w ≤ 32 }
+    ensures { result ≡ 2 ^ w }
+{
+    1 << w
+}
+
+/// The distance of a clamped number from the least one, back as a number: the first without the second, at most all ones.
+fn clamped(alloc: Global, t: u32, a: CExpr, b: CExpr) -> Result<CExpr, AllocError>
+    requires { IsWidth t }
+    ensures { IfOk result (λ r. r ≡ expressions.turned t (expressions.at_most (ones t) (expressions.without a b))) }
+{
+    let rest = without(alloc, a, b)?;
+    let least = at_most(alloc, ones(t), rest)?;
+    turned(alloc, t, least)
+}
+
+/// The product of the signed readings, at 64 bits.
+fn signed_product(alloc: Global, w: u32, x: CExpr, y: CExpr) -> Result<CExpr, AllocError>
+    requires { IsWidth w }
+    ensures { IfOk result (λ r. r ≡ CExpr.Two Mul (expressions.wide w x) (expressions.wide w y)) }
+{
+    let first = wide(alloc, w, x)?;
+    let second = wide(alloc, w, y)?;
+    two(alloc, COp::Mul, first, second)
+}
+
+/// Half of a sum and 1.
+fn average(alloc: Global, x: CExpr, y: CExpr) -> Result<CExpr, AllocError>
+    ensures { IfOk result (λ r. r ≡ expressions.down (expressions.plus (CExpr.Two Add x y) 1) 1) }
+{
+    let sum = two(alloc, COp::Add, x, y)?;
+    let more = plus(alloc, sum, 1)?;
+    down(alloc, more, 1)
+}
+
+/// The first less the second.
+fn two_way(alloc: Global, x: &CExpr, y: &CExpr) -> Result<CExpr, AllocError>
+    ensures { IfOk result (λ r. r ≡ CExpr.Two Sub x.now y.now) }
+{
+    let first = copy(alloc, x)?;
+    let second = copy(alloc, y)?;
+    two(alloc, COp::Sub, first, second)
+}
+
+/// The test that the first is less than the second, as signed numbers.
+fn less_signed(alloc: Global, w: u32, x: CExpr, y: CExpr) -> Result<CExpr, AllocError>
+    requires { IsWidth w }
+    ensures { IfOk result (λ r. r ≡ expressions.less (expressions.turned w x) (expressions.turned w y)) }
+{
+    let first = turned(alloc, w, x)?;
+    let second = turned(alloc, w, y)?;
+    less(alloc, first, second)
+}
+
+/// A sum.
+fn add(alloc: Global, t: u32, x: CExpr, y: CExpr) -> Result<CExpr, AllocError>
+    requires { IsWidth t }
+    ensures { IfOk result (λ e. e ≡ first stem.Add t t x y) }
+{
+    let sum = two(alloc, COp::Add, x, y)?;
+    low(alloc, t, sum)
+}
+
+/// A sum of signed numbers, clamped.
+fn addss(alloc: Global, w: u32, t: u32, x: CExpr, y: CExpr) -> Result<CExpr, AllocError>
+    requires width { IsWidth w }
+    requires to { IsWidth t }
+    ensures { IfOk result (λ e. e ≡ first stem.Addss w t x y) }
+{
+    let first = turned(alloc, w, x)?;
+    let second = turned(alloc, w, y)?;
+    let sum = two(alloc, COp::Add, first, second)?;
+    clamped(alloc, t, sum, number(half(t)))
+}
+
+/// A sum, clamped.
+fn addus(alloc: Global, t: u32, x: CExpr, y: CExpr) -> Result<CExpr, AllocError>
+    requires { IsWidth t }
+    ensures { IfOk result (λ e. e ≡ first stem.Addus t t x y) }
+{
+    let sum = two(alloc, COp::Add, x, y)?;
+    at_most(alloc, ones(t), sum)
+}
+
+/// A difference.
+fn sub(alloc: Global, t: u32, x: CExpr, y: CExpr) -> Result<CExpr, AllocError>
+    requires { IsWidth t }
+    ensures { IfOk result (λ e. e ≡ first stem.Sub t t x y) }
+{
+    let rest = two(alloc, COp::Sub, x, y)?;
+    low(alloc, t, rest)
+}
+
+/// A difference of signed numbers, clamped.
+fn subss(alloc: Global, w: u32, t: u32, x: CExpr, y: CExpr) -> Result<CExpr, AllocError>
+    requires width { IsWidth w }
+    requires to { IsWidth t }
+    ensures { IfOk result (λ e. e ≡ first stem.Subss w t x y) }
+{
+    let distance = turned(alloc, w, x)?;
+    let first = plus(alloc, distance, half(t))?;
+    let second = turned(alloc, w, y)?;
+    clamped(alloc, t, first, second)
+}
+
+/// A difference, or 0.
+fn subus(alloc: Global, x: CExpr, y: CExpr) -> Result<CExpr, AllocError>
+    ensures { IfOk result (λ e. e ≡ first stem.Subus 0 0 x y) }
+{
+    without(alloc, x, y)
+}
+
+/// The low half of a product.
+fn mull(alloc: Global, t: u32, x: CExpr, y: CExpr) -> Result<CExpr, AllocError>
+    requires { IsWidth t }
+    ensures { IfOk result (λ e. e ≡ first stem.Mull t t x y) }
+{
+    let product = two(alloc, COp::Mul, x, y)?;
+    low(alloc, t, product)
+}
+
+/// The high half of a product of signed numbers.
+fn mulhs(alloc: Global, w: u32, t: u32, x: CExpr, y: CExpr) -> Result<CExpr, AllocError>
+    requires width { IsWidth w }
+    requires to { IsWidth t }
+    ensures { IfOk result (λ e. e ≡ first stem.Mulhs w t x y) }
+{
+    let product = signed_product(alloc, w, x, y)?;
+    let high = down(alloc, product, u64::from(w))?;
+    low(alloc, t, high)
+}
+
+/// The high half of a product.
+fn mulhu(alloc: Global, w: u32, x: CExpr, y: CExpr) -> Result<CExpr, AllocError>
+    requires { IsWidth w }
+    ensures { IfOk result (λ e. e ≡ first stem.Mulhu w w x y) }
+{
+    let product = two(alloc, COp::Mul, x, y)?;
+    down(alloc, product, u64::from(w))
+}
+
+/// A product of signed numbers.
+fn muls(alloc: Global, w: u32, t: u32, x: CExpr, y: CExpr) -> Result<CExpr, AllocError>
+    requires width { IsWidth w }
+    requires to { IsWidth t }
+    ensures { IfOk result (λ e. e ≡ first stem.Muls w t x y) }
+{
+    let product = signed_product(alloc, w, x, y)?;
+    low(alloc, t, product)
+}
+
+/// A product.
+fn mulu(alloc: Global, x: CExpr, y: CExpr) -> Result<CExpr, AllocError>
+    ensures { IfOk result (λ e. e ≡ first stem.Mulu 0 0 x y) }
+{
+    two(alloc, COp::Mul, x, y)
+}
+
+/// Half of a sum of signed numbers and 1.
+fn avgs(alloc: Global, w: u32, t: u32, x: CExpr, y: CExpr) -> Result<CExpr, AllocError>
+    requires width { IsWidth w }
+    requires to { IsWidth t }
+    ensures { IfOk result (λ e. e ≡ first stem.Avgs w t x y) }
+{
+    let first = turned(alloc, w, x)?;
+    let second = turned(alloc, w, y)?;
+    let mean = average(alloc, first, second)?;
+    turned(alloc, t, mean)
+}
+
+/// Half of a sum and 1.
+fn avgu(alloc: Global, x: CExpr, y: CExpr) -> Result<CExpr, AllocError>
+    ensures { IfOk result (λ e. e ≡ first stem.Avgu 0 0 x y) }
+{
+    average(alloc, x, y)
+}
+
+/// The distance between two numbers.
+fn accsad(alloc: Global, x: CExpr, y: CExpr) -> Result<CExpr, AllocError>
+    ensures { IfOk result (λ e. e ≡ first stem.Accsad 0 0 x y) }
+{
+    let less = two_way(alloc, &y, &x)?;
+    let more = two_way(alloc, &x, &y)?;
+    choose_less(alloc, x, y, less, more)
+}
+
+/// The absolute value.
+fn abs(alloc: Global, w: u32, x: CExpr) -> Result<CExpr, AllocError>
+    requires width { IsWidth w }
+    requires takes { w ≤ 32 }
+    ensures { IfOk result (λ e. e ≡ first stem.Abs w w x x) }
+{
+    let tested = copy(alloc, &x)?;
+    let kept = copy(alloc, &x)?;
+    let opposite = two(alloc, COp::Sub, number(whole(w)), x)?;
+    choose_less(alloc, tested, number(half(w)), kept, opposite)
+}
+
+/// The sign: -1, 0 or 1.
+fn sign(alloc: Global, w: u32, t: u32, x: CExpr) -> Result<CExpr, AllocError>
+    requires width { IsWidth w }
+    requires to { IsWidth t }
+    ensures { IfOk result (λ e. e ≡ first stem.Sign w t x x) }
+{
+    let tested = copy(alloc, &x)?;
+    let is_zero = equal(alloc, tested, number(0))?;
+    let sign = choose_less(alloc, x, number(half(w)), number(1), number(ones(t)))?;
+    choose(alloc, is_zero, number(0), sign)
+}
+
+/// The number itself.
+fn same(alloc: Global, x: CExpr) -> Result<CExpr, AllocError>
+    ensures { IfOk result (λ e. e ≡ first stem.Copy 0 0 x x) }
+{
+    Ok(x)
+}
+
+/// The bits that both have.
+fn and(alloc: Global, x: CExpr, y: CExpr) -> Result<CExpr, AllocError>
+    ensures { IfOk result (λ e. e ≡ first stem.And 0 0 x y) }
+{
+    two(alloc, COp::And, x, y)
+}
+
+/// The bits that the second alone has.
+fn andn(alloc: Global, w: u32, x: CExpr, y: CExpr) -> Result<CExpr, AllocError>
+    requires { IsWidth w }
+    ensures { IfOk result (λ e. e ≡ first stem.Andn w w x y) }
+{
+    let turned_over = two(alloc, COp::Xor, x, number(ones(w)))?;
+    two(alloc, COp::And, turned_over, y)
+}
+
+/// The bits that one has.
+fn or(alloc: Global, x: CExpr, y: CExpr) -> Result<CExpr, AllocError>
+    ensures { IfOk result (λ e. e ≡ first stem.Or 0 0 x y) }
+{
+    two(alloc, COp::Or, x, y)
+}
+
+/// The bits in which they differ.
+fn xor(alloc: Global, x: CExpr, y: CExpr) -> Result<CExpr, AllocError>
+    ensures { IfOk result (λ e. e ≡ first stem.Xor 0 0 x y) }
+{
+    two(alloc, COp::Xor, x, y)
+}
+
+/// All ones where they are equal.
+fn cmpeq(alloc: Global, t: u32, x: CExpr, y: CExpr) -> Result<CExpr, AllocError>
+    requires { IsWidth t }
+    ensures { IfOk result (λ e. e ≡ first stem.Cmpeq t t x y) }
+{
+    let test = equal(alloc, x, y)?;
+    mask_if(alloc, t, test)
+}
+
+/// All ones where the first is greater as a signed number.
+fn cmpgts(alloc: Global, w: u32, t: u32, x: CExpr, y: CExpr) -> Result<CExpr, AllocError>
+    requires width { IsWidth w }
+    requires to { IsWidth t }
+    ensures { IfOk result (λ e. e ≡ first stem.Cmpgts w t x y) }
+{
+    let test = less_signed(alloc, w, y, x)?;
+    mask_if(alloc, t, test)
+}
+
+/// The greater signed number.
+fn maxs(alloc: Global, w: u32, x: CExpr, y: CExpr) -> Result<CExpr, AllocError>
+    requires { IsWidth w }
+    ensures { IfOk result (λ e. e ≡ first stem.Maxs w w x y) }
+{
+    let first = copy(alloc, &x)?;
+    let second = copy(alloc, &y)?;
+    let test = less_signed(alloc, w, first, second)?;
+    choose(alloc, test, y, x)
+}
+
+/// The lesser signed number.
+fn mins(alloc: Global, w: u32, x: CExpr, y: CExpr) -> Result<CExpr, AllocError>
+    requires { IsWidth w }
+    ensures { IfOk result (λ e. e ≡ first stem.Mins w w x y) }
+{
+    let first = copy(alloc, &x)?;
+    let second = copy(alloc, &y)?;
+    let test = less_signed(alloc, w, second, first)?;
+    choose(alloc, test, y, x)
+}
+
+/// The greater number.
+fn maxu(alloc: Global, x: CExpr, y: CExpr) -> Result<CExpr, AllocError>
+    ensures { IfOk result (λ e. e ≡ first stem.Maxu 0 0 x y) }
+{
+    let first = copy(alloc, &x)?;
+    let second = copy(alloc, &y)?;
+    choose_less(alloc, first, second, y, x)
+}
+
+/// The lesser number.
+fn minu(alloc: Global, x: CExpr, y: CExpr) -> Result<CExpr, AllocError>
+    ensures { IfOk result (λ e. e ≡ first stem.Minu 0 0 x y) }
+{
+    let first = copy(alloc, &x)?;
+    let second = copy(alloc, &y)?;
+    choose_less(alloc, second, first, y, x)
+}
+
+/// A shift up.
+fn shl(alloc: Global, w: u32, t: u32, x: CExpr, y: CExpr) -> Result<CExpr, AllocError>
+    requires width { IsWidth w }
+    requires to { IsWidth t }
+    ensures { IfOk result (λ e. e ≡ first stem.Shl w t x y) }
+{
+    let count = copy(alloc, &y)?;
+    let moved = two(alloc, COp::Shl, x, y)?;
+    let rest = low(alloc, t, moved)?;
+    if_below(alloc, w, count, rest)
+}
+
+/// A shift down of a signed number.
+fn shrs(alloc: Global, w: u32, t: u32, x: CExpr, y: CExpr) -> Result<CExpr, AllocError>
+    requires width { IsWidth w }
+    requires to { IsWidth t }
+    ensures { IfOk result (λ e. e ≡ first stem.Shrs w t x y) }
+{
+    let distance = turned(alloc, w, x)?;
+    let first = few(alloc, w, &y)?;
+    let second = few(alloc, w, &y)?;
+    let moved = two(alloc, COp::Shr, distance, first)?;
+    let least = two(alloc, COp::Shr, number(half(w)), second)?;
+    let rest = two(alloc, COp::Sub, moved, least)?;
+    low(alloc, t, rest)
+}
+
+/// A shift down.
+fn shru(alloc: Global, w: u32, x: CExpr, y: CExpr) -> Result<CExpr, AllocError>
+    requires { IsWidth w }
+    ensures { IfOk result (λ e. e ≡ first stem.Shru w w x y) }
+{
+    let count = copy(alloc, &y)?;
+    let moved = two(alloc, COp::Shr, x, y)?;
+    if_below(alloc, w, count, moved)
+}
+
+/// A signed number at another width.
+fn convs(alloc: Global, w: u32, t: u32, x: CExpr) -> Result<CExpr, AllocError>
+    requires width { IsWidth w }
+    requires to { IsWidth t }
+    ensures { IfOk result (λ e. e ≡ first stem.Convs w t x x) }
+{
+    let value = wide(alloc, w, x)?;
+    low(alloc, t, value)
+}
+
+/// The low half.
+fn low_part(alloc: Global, t: u32, x: CExpr) -> Result<CExpr, AllocError>
+    requires { IsWidth t }
+    ensures { IfOk result (λ e. e ≡ first stem.Low t t x x) }
+{
+    low(alloc, t, x)
+}
+
+/// The high half.
+fn high_part(alloc: Global, t: u32, x: CExpr) -> Result<CExpr, AllocError>
+    requires { IsWidth t }
+    ensures { IfOk result (λ e. e ≡ first stem.High t t x x) }
+{
+    down(alloc, x, u64::from(t))
+}
+
+/// A signed number clamped to the signed range.
+fn convsss(alloc: Global, w: u32, t: u32, x: CExpr) -> Result<CExpr, AllocError>
+    requires width { IsWidth w }
+    requires to { IsWidth t }
+    requires takes { t ≤ w }
+    ensures { IfOk result (λ e. e ≡ first stem.Convsss w t x x) }
+{
+    let distance = turned(alloc, w, x)?;
+    clamped(alloc, t, distance, number(half(w) - half(t)))
+}
+
+/// A signed number clamped to the unsigned range.
+fn convsus(alloc: Global, w: u32, t: u32, x: CExpr) -> Result<CExpr, AllocError>
+    requires width { IsWidth w }
+    requires to { IsWidth t }
+    ensures { IfOk result (λ e. e ≡ first stem.Convsus w t x x) }
+{
+    let distance = turned(alloc, w, x)?;
+    let value = without(alloc, distance, number(half(w)))?;
+    at_most(alloc, ones(t), value)
+}
+
+/// A number clamped to the signed range.
+fn convuss(alloc: Global, t: u32, x: CExpr) -> Result<CExpr, AllocError>
+    requires { IsWidth t }
+    ensures { IfOk result (λ e. e ≡ first stem.Convuss t t x x) }
+{
+    at_most(alloc, half(t) - 1, x)
+}
+
+/// A number clamped to the unsigned range.
+fn convuus(alloc: Global, t: u32, x: CExpr) -> Result<CExpr, AllocError>
+    requires { IsWidth t }
+    ensures { IfOk result (λ e. e ≡ first stem.Convuus t t x x) }
+{
+    at_most(alloc, ones(t), x)
+}
+
+/// A byte in every byte.
+fn splat(alloc: Global, t: u32, x: CExpr) -> Result<CExpr, AllocError>
+    requires { IsWidth t }
+    ensures { IfOk result (λ e. e ≡ first stem.Splat t t x x) }
+{
+    two(alloc, COp::Mul, x, number(ones(t) / 255))
+}
+
+/// The top word in every word.
+fn splatw3(alloc: Global, x: CExpr) -> Result<CExpr, AllocError>
+    ensures { IfOk result (λ e. e ≡ first stem.Splatw3 0 0 x x) }
+{
+    let word = down(alloc, x, 48)?;
+    two(alloc, COp::Mul, word, number(u64::MAX / 0xffff))
+}
+
+/// Two halves.
+fn merge(alloc: Global, w: u32, x: CExpr, y: CExpr) -> Result<CExpr, AllocError>
+    requires { IsWidth w }
+    ensures { IfOk result (λ e. e ≡ first stem.Merge w w x y) }
+{
+    let high = up(alloc, y, u64::from(w))?;
+    two(alloc, COp::Add, x, high)
+}
+
+/// The high half.
+fn split(alloc: Global, t: u32, x: CExpr) -> Result<CExpr, AllocError>
+    requires { IsWidth t }
+    ensures { IfOk result (λ e. e ≡ first stem.Split t t x x) }
+{
+    down(alloc, x, u64::from(t))
+}
+
+/// The bytes in reverse order.
+fn swap(alloc: Global, w: u32, x: CExpr) -> Result<CExpr, AllocError>
+    requires { IsWidth w }
+    ensures { IfOk result (λ e. e ≡ first stem.Swap w w x x) }
+{
+    swapped(alloc, &x, u64::from(w / 8))
+}
+
+/// The halves exchanged.
+fn exchange(alloc: Global, w: u32, x: CExpr) -> Result<CExpr, AllocError>
+    requires { IsWidth w }
+    ensures { IfOk result (λ e. e ≡ first stem.Exchange w w x x) }
+{
+    let kept = copy(alloc, &x)?;
+    let low = low(alloc, w / 2, kept)?;
+    let high = down(alloc, x, u64::from(w / 2))?;
+    let moved = up(alloc, low, u64::from(w / 2))?;
+    two(alloc, COp::Add, moved, high)
+}
+
+/// A division by 255.
+fn div255(alloc: Global, x: CExpr) -> Result<CExpr, AllocError>
+    ensures { IfOk result (λ e. e ≡ first stem.Div255 0 0 x x) }
+{
+    let sum = plus(alloc, x, 128)?;
+    let near = low(alloc, 16, sum)?;
+    let kept = copy(alloc, &near)?;
+    let part = down(alloc, near, 8)?;
+    let whole = two(alloc, COp::Add, kept, part)?;
+    let cut = low(alloc, 16, whole)?;
+    down(alloc, cut, 8)
+}
+
+/// A division by a byte, at most 255.
+fn divlu(alloc: Global, x: CExpr, y: CExpr) -> Result<CExpr, AllocError>
+    ensures { IfOk result (λ e. e ≡ first stem.Divlu 0 0 x y) }
+{
+    let divisor = low(alloc, 8, y)?;
+    let tested = copy(alloc, &divisor)?;
+    let is_zero = equal(alloc, tested, number(0))?;
+    let quotient = two(alloc, COp::Div, x, divisor)?;
+    let least = at_most(alloc, 255, quotient)?;
+    choose(alloc, is_zero, number(255), least)
+}
+
+/// The expression of a stem's first result from sources of w bits to t bits, by the expressions of its sources.
+pub fn first(
+    alloc: Global,
+    stem: Stem,
+    w: u32,
+    t: u32,
+    x: CExpr,
+    y: CExpr,
+) -> Result<CExpr, AllocError>
+    requires width { IsWidth w }
+    requires to { IsWidth t }
+    requires fits { fits stem w t ≡ true }
+    ensures { IfOk result (λ e. e ≡ first stem w t x y) }
+{
+    match stem {
+        Stem::Add => add(alloc, t, x, y),
+        Stem::Addss => addss(alloc, w, t, x, y),
+        Stem::Addus => addus(alloc, t, x, y),
+        Stem::Sub => sub(alloc, t, x, y),
+        Stem::Subss => subss(alloc, w, t, x, y),
+        Stem::Subus => subus(alloc, x, y),
+        Stem::Mull => mull(alloc, t, x, y),
+        Stem::Mulhs => mulhs(alloc, w, t, x, y),
+        Stem::Mulhu => mulhu(alloc, w, x, y),
+        Stem::Muls => muls(alloc, w, t, x, y),
+        Stem::Mulu => mulu(alloc, x, y),
+        Stem::Avgs => avgs(alloc, w, t, x, y),
+        Stem::Avgu => avgu(alloc, x, y),
+        Stem::Accsad => accsad(alloc, x, y),
+        Stem::Abs => abs(alloc, w, x),
+        Stem::Sign => sign(alloc, w, t, x),
+        Stem::Copy => same(alloc, x),
+        Stem::And => and(alloc, x, y),
+        Stem::Andn => andn(alloc, w, x, y),
+        Stem::Or => or(alloc, x, y),
+        Stem::Xor => xor(alloc, x, y),
+        Stem::Cmpeq => cmpeq(alloc, t, x, y),
+        Stem::Cmpgts => cmpgts(alloc, w, t, x, y),
+        Stem::Maxs => maxs(alloc, w, x, y),
+        Stem::Mins => mins(alloc, w, x, y),
+        Stem::Maxu => maxu(alloc, x, y),
+        Stem::Minu => minu(alloc, x, y),
+        Stem::Shl => shl(alloc, w, t, x, y),
+        Stem::Shrs => shrs(alloc, w, t, x, y),
+        Stem::Shru => shru(alloc, w, x, y),
+        Stem::Convs => convs(alloc, w, t, x),
+        Stem::Low => low_part(alloc, t, x),
+        Stem::High => high_part(alloc, t, x),
+        Stem::Convsss => convsss(alloc, w, t, x),
+        Stem::Convsus => convsus(alloc, w, t, x),
+        Stem::Convuss => convuss(alloc, t, x),
+        Stem::Convuus => convuus(alloc, t, x),
+        Stem::Splat => splat(alloc, t, x),
+        Stem::Splatw3 => splatw3(alloc, x),
+        Stem::Merge => merge(alloc, w, x, y),
+        Stem::Split => split(alloc, t, x),
+        Stem::Swap => swap(alloc, w, x),
+        Stem::Exchange => exchange(alloc, w, x),
+        Stem::Div255 => div255(alloc, x),
+        Stem::Divlu => divlu(alloc, x, y),
+    }
+}

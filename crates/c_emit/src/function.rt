@@ -1,0 +1,76 @@
+//! A function of C from a function of the language.
+
+ghost use Rattle.std.specs.Prelude.{◌≡◌, ◌≤◌, IfOk, OnOk};
+ghost use Rattle.orc_program.specs.Program as program;
+ghost use Rattle.orc_program.specs.declared.program.VarKind.TheVariants as kind;
+ghost use Rattle.c_emit.specs.Body as body;
+ghost use Rattle.c_emit.specs.Body.{emitted};
+ghost use Rattle.c_emit.specs.CAs.{CAs, HasShape};
+
+use crate::body::{TEMPS_FROM, add_insn};
+use c_run::{CBody, CFunction};
+use orc_emul::count;
+use orc_program::{Function, Name, VarKind};
+use std::alloc::{AllocError, Global};
+
+/// The number of variables of a kind.
+fn count_of(f: &Function, kind: VarKind) -> u8
+    ensures value { result ≡ program.count_of kind f.now.vars }
+    ensures few { result ≤ 72 }
+{
+    count(f.vars.as_slice(), kind) as u8
+}
+
+/// The same name once more.
+fn same_name(name: &Name) -> Name
+    ensures { result ≡ name.now }
+{
+    let bytes = name.as_slice();
+    match Name::new(bytes) {
+        Some(same) => same,
+        None => unreachable!(),
+    }
+}
+
+/// The statements of one element.
+fn body_of(alloc: Global, f: &Function) -> Result<CBody, AllocError>
+    ensures { IfOk result (λ b. b ≡ body.body_of f.now.vars f.now.insns) }
+{
+    let mut statements = CBody::new(alloc);
+    for insn in f.insns.as_slice() {
+        add_insn(alloc, f, &mut statements, insn)?;
+    }
+    Ok(statements)
+}
+
+/// The function of C with the statements of a function's instructions, in order.
+fn function_of(alloc: Global, f: &Function) -> Result<CFunction, AllocError>
+    ensures { IfOk result (λ c. c ≡ emitted f.now) }
+{
+    let statements = body_of(alloc, f)?;
+    Ok(CFunction {
+        name: same_name(&f.name),
+        arrays: count_of(f, VarKind::Dest) + count_of(f, VarKind::Source),
+        params: count_of(f, VarKind::Param),
+        accs: count_of(f, VarKind::Accumulator),
+        temps: u16::from(TEMPS_FROM) + u16::from(count_of(f, VarKind::Temp)),
+        two_d: f.two_d,
+        body: statements,
+    })
+}
+
+/// A function of C of the same meaning, with the function's name and with as many arrays, parameters and accumulators.
+///
+/// For a good call, on a memory of its cells alone, `8 + m * (4 + n * (8 + 32 * instructions))` statements are enough,
+/// with 1 for m where the function has no rows.
+///
+/// # Errors
+///
+/// Where memory is wanting.
+pub fn emit(alloc: Global, f: &Function) -> Result<CFunction, AllocError>
+    ensures shape { IfOk result (λ c. HasShape f.now c) }
+    ensures means { IfOk result (λ c. CAs f.now c) }
+{
+    let _kept = f.two_d;
+    function_of(alloc, f)
+}

@@ -1,0 +1,17 @@
+pub mod Levels
+pub mod Pieces
+pub mod Numbers
+pub mod Trees
+pub mod Places
+pub mod Exprs
+pub mod Good
+pub mod Bounded
+pub mod Stmts
+pub mod Steps
+pub mod Lengths
+pub mod Names
+pub mod Parts
+pub mod Temps
+pub mod Functions
+pub mod Kept
+pub mod Whole

@@ -1,0 +1,4 @@
+pub mod Wrong
+pub mod Limits
+pub mod Guess
+pub mod Told

@@ -1,0 +1,4 @@
+pub mod Tree
+pub mod Whole
+pub mod Meaning
+pub mod State
