@@ -2,7 +2,7 @@
 """Compares the definitions of x86 with this machine's assembler and processor.
 
 Usage: python3 scripts/check-processor.py
-It needs an x86-64 Linux and the GNU binutils (as, ld).
+It needs an x86-64 Linux with SSE4.1 and the GNU binutils (as, ld).
 
 - Each opcode byte of crates/x86_ins/specs/Spelling.antt for an operation on two
   vector registers, and each byte and digit of a shift by a number, is compared
@@ -71,12 +71,13 @@ def spellings(check, text):
     """Opcode bytes against the assembler's."""
     table = lambda word, enum: {n.lower(): int(v, 16) for n, v in re.findall(
         rf"^{word} {enum}\.(\w+) = (0x[0-9a-f]+)$", text, re.M)}
+    three = [n.lower() for n in re.findall(r"^has_38 vec\.(\w+) = true$", text, re.M)]
     vec, byte, digit = table("vec_byte", "vec"), table("imm_byte", "imm"), table("imm_digit", "imm")
     # The code of each is written out as data: from one label to the next.
     lines, wants = [], []
     for n, v in vec.items():
         lines.append(f"{n} xmm0, xmm1")
-        wants.append((n, bytes([0x66, 0x0F, v, 0xC1])))
+        wants.append((n, bytes([0x66, 0x0F, *([0x38] if n in three else []), v, 0xC1])))
     for n in byte:
         lines.append(f"{n} xmm1, 5")
         wants.append((n, bytes([0x66, 0x0F, byte[n], 0xC1 + 8 * digit[n], 5])))

@@ -3,7 +3,7 @@ use Rattle.std.proofs.Common.{◌≡◌, ℕ, ◌+◌, ◌==◌, ltb, true, List
 use Rattle.std.specs.List.{slice_index, slice_index_or}
 use Rattle.std.proofs.lemmas.Bool.{lt-ltb}
 use Rattle.orcc_top.specs.declared.command.Command.{Command}
-use Rattle.orcc_top.specs.declared.command.Command.TheVariants.{Asm, Check, Fmt, Dis, Emulate}
+use Rattle.orcc_top.specs.declared.command.Command.TheVariants.{Asm, Check, Fmt, Run, Dis, Emulate}
 use Rattle.orcc_top.specs.declared.refusal.Refusal.{Refusal}
 use Rattle.orcc_top.specs.declared.refusal.Refusal.TheVariants.{TooLong}
 use Rattle.orcc_top.specs.Commands.{Word, words_of}
@@ -15,12 +15,13 @@ abbrev first_byte : List Word → ℕ
 first_byte words = slice_index (slice_index_or words 0 []) 0
 
 abbrev command_at : ℕ → Command
-command_at b = if b == 97 then Asm else (if b == 99 then Check else (if b == 102 then Fmt else (if b == 100 then Dis else Emulate)))
+command_at b = if b == 97 then Asm else (if b == 99 then Check else (if b == 102 then Fmt else (if b == 100 then Dis else (if b == 114 then Run else Emulate))))
 
 told_by : (c : Command) → command_at (first_byte (words_of c)) ≡ c
 told_by Asm = refl
 told_by Check = refl
 told_by Fmt = refl
+told_by Run = refl
 told_by Dis = refl
 told_by Emulate = refl
 

@@ -4,11 +4,12 @@ use Rattle.std.specs.Option.{option_or}
 use Rattle.orc_image.specs.Spelling.{ImageValue, ImageOf}
 use Rattle.orc_image.specs.Listing.{IsListing}
 use Rattle.orcc_top.specs.declared.command.Command.{Command}
-use Rattle.orcc_top.specs.declared.command.Command.TheVariants.{Asm, Check, Fmt, Dis, Emulate}
+use Rattle.orcc_top.specs.declared.command.Command.TheVariants.{Asm, Check, Fmt, Run, Dis, Emulate}
 use Rattle.orcc_top.specs.declared.refusal.Refusal.{Refusal}
 use Rattle.orcc_top.specs.declared.refusal.Refusal.TheVariants.{TooLong, Image}
 use Rattle.orcc_top.specs.Assembly.{IsAssembled, unbuilt_refusal}
 use Rattle.orcc_top.specs.Emulation.{IsEmulated, emulate_refusal}
+use Rattle.orcc_top.specs.Execution.{IsRun, run_refusal}
 use Rattle.orcc_top.specs.Figures.{IsChecked}
 use Rattle.orcc_top.specs.Texts.{IsFormatted, fault_refusal}
 use Rattle.orcc_top.specs.Commands.{Word, words_of}
@@ -20,6 +21,7 @@ abbrev pub limit_of : Command → ℕ
 limit_of Asm = 1048576
 limit_of Check = 1048576
 limit_of Fmt = 1048576
+limit_of Run = 67108864
 limit_of Dis = 67108864
 limit_of Emulate = 67108864
 
@@ -28,6 +30,7 @@ abbrev pub refusal_within : Command → List ℕ → Option Refusal
 refusal_within Asm input = option_or (fault_refusal input) (unbuilt_refusal input)
 refusal_within Check input = fault_refusal input
 refusal_within Fmt input = fault_refusal input
+refusal_within Run input = run_refusal input
 refusal_within Dis input = option_map (λ e. Image e) (image_refusal input)
 refusal_within Emulate input = emulate_refusal input
 
@@ -40,6 +43,7 @@ abbrev pub IsOutput : Command → List ℕ → List ℕ → Type 0
 IsOutput Asm input bytes = IsAssembled input bytes
 IsOutput Check input bytes = IsChecked input bytes
 IsOutput Fmt input bytes = IsFormatted input bytes
+IsOutput Run input bytes = IsRun input bytes
 IsOutput Dis input bytes = (image : ImageValue) × ImageOf input image × IsListing image bytes
 IsOutput Emulate input bytes = IsEmulated input bytes
 

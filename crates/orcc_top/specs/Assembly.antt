@@ -6,14 +6,14 @@ use Rattle.orc_program.specs.Program.{FunctionValue, ProgramValue, count_of}
 use Rattle.orc_text.specs.Reads.{Reads, text_program}
 use Rattle.orc_asm.specs.declared.refusal.AsmError.{AsmError}
 use Rattle.orc_asm.specs.declared.refusal.AsmError.TheVariants as asm
-use Rattle.orc_asm.specs.Function.{RunsAs, first_unbuilt}
+use Rattle.orc_asm.specs.Function.{RunsAs, RunsQuietly, first_unbuilt}
 use Rattle.orc_image.specs.Spelling as spelling
 use Rattle.orcc_top.specs.declared.refusal.Refusal.{Refusal}
 use Rattle.orcc_top.specs.declared.refusal.Refusal.TheVariants.{NotBuilt}
 
 -- ---- the image
 
--- an image's function with the name and the counts of a function of the text, and with code whose good calls do what that function means
+-- an image's function with the name and the counts of a function of the text, and with code whose good calls do what that function means, inside larger memories too, and change nothing on the way but dests' cells, accumulators' words and the frame
 pub record EntryOf (f : FunctionValue) (entry : spelling.FunctionValue) : Type 0 where
   pub name : entry.name ≡ f.name
   pub two_d : entry.two_d ≡ f.two_d
@@ -22,6 +22,7 @@ pub record EntryOf (f : FunctionValue) (entry : spelling.FunctionValue) : Type 0
   pub params : entry.params ≡ count_of kind.Param f.vars
   pub accs : entry.accs ≡ count_of kind.Accumulator f.vars
   pub runs : RunsAs f entry.code
+  pub inside : RunsQuietly f entry.code
 
 -- one for each function, in order
 abbrev pub EntriesOf : List FunctionValue → List spelling.FunctionValue → Type 0

@@ -2,7 +2,7 @@
 use Rattle.std.specs.Prelude.{◌≢◌, ℕ, List, [], ◌∷◌, ◌++◌, map, codes, String, string_bytes}
 use Rattle.std.specs.declared.alloc.Global.{Global}
 use Rattle.orcc_top.specs.declared.command.Command.{Command}
-use Rattle.orcc_top.specs.declared.command.Command.TheVariants.{Asm, Check, Fmt, Dis, Emulate}
+use Rattle.orcc_top.specs.declared.command.Command.TheVariants.{Asm, Check, Fmt, Run, Dis, Emulate}
 
 abbrev pub Word : Type 0
 Word = List ℕ
@@ -16,6 +16,7 @@ abbrev pub words_of : Command → List Word
 words_of Asm = codes "asm" ∷ []
 words_of Check = codes "check" ∷ []
 words_of Fmt = codes "fmt" ∷ []
+words_of Run = codes "run" ∷ []
 words_of Dis = codes "dis" ∷ []
 words_of Emulate = codes "emulate" ∷ []
 

@@ -2,10 +2,13 @@ pub mod Answer
 pub mod Assembly
 pub mod Commands
 pub mod Emulation
+pub mod Execution
 pub mod Figures
 pub mod Images
 pub mod Inputs
 pub mod Jobs
+pub mod Mapped
+pub mod Placement
 pub mod Refusals
 pub mod Replies
 pub mod Runs

@@ -9,6 +9,7 @@ use crate::assembly::assemble_text;
 use crate::checking::check_text;
 use crate::command::Command;
 use crate::emulation::emulate_job;
+use crate::execution::run_job;
 use crate::formatting::format_text;
 use crate::listing::disassemble;
 use crate::refusal::{Refusal, line_of};
@@ -44,6 +45,7 @@ fn reply_within(alloc: Global, command: Command, input: &[u8]) -> Result<Reply, 
         Command::Asm => assemble_text(alloc, input),
         Command::Check => check_text(alloc, input),
         Command::Fmt => format_text(alloc, input),
+        Command::Run => run_job(alloc, input),
         Command::Dis => disassemble(alloc, input),
         Command::Emulate => emulate_job(alloc, input),
     }

@@ -11,6 +11,8 @@ pub enum Command {
     Check,
     /// `fmt`: reads a text and writes its canonical text.
     Fmt,
+    /// `run`: reads an image and a job, and writes the result of running the code on the job.
+    Run,
     /// `dis`: reads an image and writes its listing.
     Dis,
     /// `emulate`: reads a text and a job, and writes the result of the job's emulation.
@@ -35,6 +37,12 @@ fn is_fmt(word: &str) -> bool
     word == "fmt"
 }
 
+fn is_run(word: &str) -> bool
+    ensures { IsTrue result ↔ (word.now ≡ codes "run") }
+{
+    word == "run"
+}
+
 fn is_dis(word: &str) -> bool
     ensures { IsTrue result ↔ (word.now ≡ codes "dis") }
 {
@@ -56,6 +64,7 @@ pub fn command_of(words: &[String]) -> Option<Command>
         [word] if is_asm(word.as_str()) => Some(Command::Asm),
         [word] if is_check(word.as_str()) => Some(Command::Check),
         [word] if is_fmt(word.as_str()) => Some(Command::Fmt),
+        [word] if is_run(word.as_str()) => Some(Command::Run),
         [word] if is_dis(word.as_str()) => Some(Command::Dis),
         [word] if is_emulate(word.as_str()) => Some(Command::Emulate),
         _ => None,
@@ -72,7 +81,7 @@ impl Command {
     {
         match self {
             Command::Asm | Command::Check | Command::Fmt => 1_048_576,
-            Command::Dis | Command::Emulate => 67_108_864,
+            Command::Run | Command::Dis | Command::Emulate => 67_108_864,
         }
     }
 }

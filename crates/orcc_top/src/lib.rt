@@ -8,8 +8,10 @@ mod calling;
 mod checking;
 mod command;
 mod emulation;
+mod execution;
 mod formatting;
 mod listing;
+mod placing;
 mod refusal;
 mod reply;
 mod separating;
@@ -17,6 +19,8 @@ mod status;
 mod top;
 mod writing;
 
+pub use orc_parts::play_parts;
+pub use orc_program::Rect;
 pub use status::Status;
 pub use top::orcc;
 

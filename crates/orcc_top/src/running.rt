@@ -29,6 +29,9 @@ const FIRST: u64 = 8192;
 
 const SECOND: u64 = 12288;
 
+/// Sixteen bytes that belong to no part of the call.
+const FURTHER: u64 = 20480;
+
 /// What `asm` writes for a text that it accepts, in at most `room` bytes.
 fn image_of(alloc: Global, text: &[u8], room: usize) -> Result<Option<Buffer>, AllocError> {
     let mut words = Vec::new(alloc);
@@ -75,7 +78,7 @@ fn block(elements: u8) -> [u8; 304] {
     bytes
 }
 
-/// The machine at the first byte of the code, with the bytes of a good call.
+/// The machine at the first byte of the code, with the bytes of a good call, and with sixteen more.
 fn machine(alloc: Global, code: &[u8], given: &Given<'_>) -> Result<Machine, Fail>
     requires { length code.now < 1000 }
 {
@@ -86,6 +89,7 @@ fn machine(alloc: Global, code: &[u8], given: &Given<'_>) -> Result<Machine, Fai
     parts.push(part(alloc, DEST, given.dest)?)?;
     parts.push(part(alloc, FIRST, given.first)?)?;
     parts.push(part(alloc, SECOND, given.second)?)?;
+    parts.push(part(alloc, FURTHER, &[0xaa; 16])?)?;
     let mut gpr = [0xa5a5_a5a5_a5a5_a5a5; 16];
     gpr[4] = STACK;
     gpr[7] = BLOCK;
@@ -148,6 +152,8 @@ fn the_code_of_a_kernel_adds_bytes(rt: HostRuntime) -> Result<(), Fail> {
         (DEST + 2, 0),
         (FIRST + 1, 0xff),
         (SECOND, 1),
+        (FURTHER, 0xaa),
+        (FURTHER + 15, 0xaa),
     ] {
         assert_eq!(rt; m.memory.get(at), Some(byte));
     }

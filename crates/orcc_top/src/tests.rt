@@ -1,4 +1,4 @@
-ghost use Rattle.std.specs.Prelude.{◌<◌};
+ghost use Rattle.std.specs.Prelude.{◌<◌, length};
 
 use crate::{Status, orcc};
 use orc_io::{Buffer, Piece};
@@ -471,6 +471,86 @@ fn a_text_has_figures(rt: HostRuntime) -> Result<(), AllocError> {
             assert!(rt; ran.output.held.as_slice() == said, "{said:?}");
         } else {
             assert!(rt; ran.notes.held.as_slice() == said, "{said:?}");
+        }
+    }
+    Ok(())
+}
+
+/// The image of a function `f` without arrays, of this code.
+fn image_with(alloc: Global, code: &[u8]) -> Result<Vec<u8>, AllocError>
+    requires { length code.now < 100 }
+{
+    let mut image = Vec::from_slice(alloc, b"ORCI\x01\x01\x01f\x00\x00\x00\x00\x00")?;
+    image.extend_from_slice(&(code.len() as u32).to_le_bytes())?;
+    image.extend_from_slice(code)?;
+    Ok(image)
+}
+
+#[test]
+fn code_runs_on_a_job(rt: HostRuntime) -> Result<(), AllocError> {
+    let alloc = rt.alloc();
+    let job = r#"{"function":"f","n":0,"m":0,"arrays":[],"params":[],"memory":[],"budget":10}"#;
+    let rows: [(&[u8], &[u8]); 4] = [
+        (b"\xc3", b"end returned 1\n"),
+        (b"\x90", b"end trap NoRow 0x600000000000 0\n"),
+        (b"\xe9\xfb\xff\xff\xff", b"end budget 10\n"),
+        (
+            b"\x66\x0f\x6f\x47\x01",
+            b"end trap Misaligned 0x700000000001 0\n",
+        ),
+    ];
+    for (code, said) in rows {
+        assert!(rt; code.len() < 100);
+        let mut input = image_with(alloc, code)?;
+        input.extend_from_slice(job.as_bytes())?;
+        let ran = run(alloc, &["run"], input.as_slice(), 7, NONE)?;
+        assert_eq!(rt; ran.status, Status::Done, "{code:?}");
+        assert!(rt; ran.output.held.as_slice() == said, "{code:?}");
+    }
+    Ok(())
+}
+
+#[test]
+fn a_kernel_runs_on_jobs(rt: HostRuntime) -> Result<(), AllocError> {
+    let alloc = rt.alloc();
+    // how much of the image there is, the job, and how the answer begins and ends
+    let rows: [(usize, &str, Status, &[u8], &[u8]); 4] = [
+        (
+            1000,
+            r#"{"function":"add8","n":3,"m":1,"arrays":[{"base":4096,"stride":0},{"base":8192,"stride":0},{"base":12288,"stride":0}],"params":[],"memory":[{"at":4096,"bytes":"000000"},{"at":8192,"bytes":"01ff80"},{"at":12288,"bytes":"010180"}],"budget":1000}"#,
+            Status::Done,
+            b"end returned ",
+            b"\nmem 4096 020000\nmem 8192 01ff80\nmem 12288 010180\n",
+        ),
+        (
+            1000,
+            r#"{"function":"add8","n":0,"m":1,"arrays":[{"base":4096,"stride":0},{"base":8192,"stride":0},{"base":12288,"stride":0}],"params":[],"memory":[{"at":4096,"bytes":""}],"budget":1000}"#,
+            Status::Done,
+            b"end returned ",
+            b"\nmem 4096 \n",
+        ),
+        (
+            1000,
+            r#"{"function":"add9","n":0,"m":1,"arrays":[],"params":[],"memory":[],"budget":1}"#,
+            Status::Refused,
+            b"job: BadField ",
+            b"function\n",
+        ),
+        (18, "", Status::Refused, b"image: Short ", b"20\n"),
+    ];
+    let image = run(alloc, &["asm"], &ADDS[..ADDS.len() - 3], 7, NONE)?;
+    for (most, job, status, first, last) in rows {
+        let bytes = image.output.held.as_slice();
+        let mut input = Vec::from_slice(alloc, &bytes[..most.min(bytes.len())])?;
+        input.extend_from_slice(job.as_bytes())?;
+        let ran = run(alloc, &["run"], input.as_slice(), 7, NONE)?;
+        assert_eq!(rt; ran.status, status, "{job}");
+        if status == Status::Done {
+            assert!(rt; ran.output.held.as_slice().starts_with(first), "{job}");
+            assert!(rt; ran.output.held.as_slice().ends_with(last), "{job}");
+        } else {
+            assert!(rt; ran.notes.held.as_slice().starts_with(first), "{job}");
+            assert!(rt; ran.notes.held.as_slice().ends_with(last), "{job}");
         }
     }
     Ok(())

@@ -24,7 +24,9 @@ const USAGE: &str = "usage: orcc asm | c | check | fmt | run | emulate | dis | g
 /// `check` reads such a text and writes for each function, in order, a line `NAME need N lanes L
 /// cost E`, with the largest number of values of temps that an instruction needs at once. `fmt`
 /// reads such a text and writes its canonical text. `dis` reads an image of at most
-/// 67,108,864 bytes and writes its listing. `emulate` reads at most 67,108,864 bytes, which are a
+/// 67,108,864 bytes and writes its listing. `run` reads at most as many bytes, which are an image and
+/// a job behind it, places the code of the job's function and the job at fixed addresses, and writes
+/// the result of the run, which may say trap or budget. `emulate` reads at most 67,108,864 bytes, which are a
 /// text, a line that is exactly `%%`, and a job, and writes the result of the job's emulation,
 /// which may say unmapped. Without such a line all is the text, and the job is empty. All output
 /// is built before the first byte is put.

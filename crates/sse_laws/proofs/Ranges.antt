@@ -4,10 +4,10 @@ use Rattle.std.specs.Prelude.{ℤ, pos, negsuc, nat_lt, Bool, ◌+ℤ◌, ◌-�
 use Rattle.std.proofs.lemmas.Nat.{pow-add, mul-lt, div_below, pow_pos, shr_le}
 use Rattle.orc_bits.specs.Numbers.{signed, wrap, clamp_s, clamp_u}
 use Rattle.x86_ins.specs.declared.ins.VecOp.{VecOp}
-use Rattle.x86_ins.specs.declared.ins.VecOp.TheVariants.{Punpcklbw, Punpcklwd, Punpckldq, Packsswb, Pcmpgtb, Pcmpgtw, Pcmpgtd, Packuswb, Punpckhbw, Punpckhwd, Punpckhdq, Packssdw, Punpcklqdq, Punpckhqdq, Movdqa, Pcmpeqb, Pcmpeqw, Pcmpeqd, Psrlw, Psrld, Psrlq, Paddq, Pmullw, Psubusb, Psubusw, Pminub, Pand, Paddusb, Paddusw, Pmaxub, Pandn, Pavgb, Psraw, Psrad, Pavgw, Pmulhuw, Pmulhw, Psubsb, Psubsw, Pminsw, Por, Paddsb, Paddsw, Pmaxsw, Pxor, Psllw, Pslld, Psllq, Pmuludq, Psadbw, Psubb, Psubw, Psubd, Psubq, Paddb, Paddw, Paddd}
+use Rattle.x86_ins.specs.declared.ins.VecOp.TheVariants.{Punpcklbw, Punpcklwd, Punpckldq, Packsswb, Pcmpgtb, Pcmpgtw, Pcmpgtd, Packuswb, Punpckhbw, Punpckhwd, Punpckhdq, Packssdw, Punpcklqdq, Punpckhqdq, Movdqa, Pcmpeqb, Pcmpeqw, Pcmpeqd, Psrlw, Psrld, Psrlq, Paddq, Pmullw, Psubusb, Psubusw, Pminub, Pand, Paddusb, Paddusw, Pmaxub, Pandn, Pavgb, Psraw, Psrad, Pavgw, Pmulhuw, Pmulhw, Psubsb, Psubsw, Pminsw, Por, Paddsb, Paddsw, Pmaxsw, Pxor, Psllw, Pslld, Psllq, Pmuludq, Psadbw, Psubb, Psubw, Psubd, Psubq, Paddb, Paddw, Paddd, Pabsb, Pabsw, Pabsd, Pmovsxbw, Pmovsxwd, Pmovsxdq, Pmuldq, Pcmpeqq, Packusdw, Pmovzxbw, Pmovzxwd, Pmovzxdq, Pminsb, Pminsd, Pminuw, Pminud, Pmaxsb, Pmaxsd, Pmaxuw, Pmaxud, Pmulld}
 use Rattle.x86_ins.specs.declared.ins.VecImmOp.{VecImmOp}
 use Rattle.x86_ins.specs.declared.ins.VecImmOp.TheVariants as imm
-use Rattle.x86_ins.specs.Vectors.{Shape, bits, each, counted, interleaved, packed, distances, shape, ImmShape, each_by, bytes_up, bytes_down, imm_shape, mask, mul_high_s, shl, shr, sar, sar_by}
+use Rattle.x86_ins.specs.Vectors.{Shape, bits, each, counted, interleaved, packed, extended, distances, shape, ImmShape, each_by, bytes_up, bytes_down, imm_shape, mask, mul_high_s, absolute, sign_extended, shl, shr, sar, sar_by}
 use Rattle.orc_bits.proofs.Bytewise.{Bytewise, bytewise_right, bytewise_and, bytewise_or, bytewise_xor, bytewise_andn, InRange}
 
 abbrev pub InRangeBy : ℕ → (ℕ → ℕ → ℕ → ℕ) → Type 0
@@ -19,6 +19,7 @@ Good (each v f) = (0 < v) × InRange v f
 Good (counted v f) = (0 < v) × InRangeBy v f
 Good (interleaved w h) = Unit {0}
 Good (packed w f) = (z : ℤ) → f z < 256 ^ (w / 2)
+Good (extended v f) = (n : ℕ) → n < 256 ^ v → f (8 * v) n < 256 ^ (v + v)
 Good distances = Unit {0}
 
 abbrev pub GoodImm : ImmShape → Type 0
@@ -87,15 +88,29 @@ good Pavgb = (lit< tt, λ a b p q. omega arith)
 good Pavgw = (lit< tt, λ a b p q. omega arith)
 good Pminub = (lit< tt, λ a b p q. omega arith)
 good Pmaxub = (lit< tt, λ a b p q. omega arith)
+good Pminuw = (lit< tt, λ a b p q. omega arith)
+good Pminud = (lit< tt, λ a b p q. omega arith)
+good Pmaxuw = (lit< tt, λ a b p q. omega arith)
+good Pmaxud = (lit< tt, λ a b p q. omega arith)
+good Pminsb = (lit< tt, λ a b p q. cond-lt _ b a (256 ^ 1) q p)
+good Pmaxsb = (lit< tt, λ a b p q. cond-lt _ a b (256 ^ 1) p q)
+good Pminsd = (lit< tt, λ a b p q. cond-lt _ b a (256 ^ 4) q p)
+good Pmaxsd = (lit< tt, λ a b p q. cond-lt _ a b (256 ^ 4) p q)
+good Pabsb = (lit< tt, λ a b p q. omega arith)
+good Pabsw = (lit< tt, λ a b p q. omega arith)
+good Pabsd = (lit< tt, λ a b p q. omega arith)
 good Pminsw = (lit< tt, λ a b p q. cond-lt _ b a (256 ^ 2) q p)
 good Pmaxsw = (lit< tt, λ a b p q. cond-lt _ a b (256 ^ 2) p q)
 good Pcmpeqb = (lit< tt, λ a b p q. mask-lt 8 _)
 good Pcmpeqw = (lit< tt, λ a b p q. mask-lt 16 _)
 good Pcmpeqd = (lit< tt, λ a b p q. mask-lt 32 _)
+good Pcmpeqq = (lit< tt, λ a b p q. mask-lt 64 _)
 good Pcmpgtb = (lit< tt, λ a b p q. mask-lt 8 _)
 good Pcmpgtw = (lit< tt, λ a b p q. mask-lt 16 _)
 good Pcmpgtd = (lit< tt, λ a b p q. mask-lt 32 _)
 good Pmullw = (lit< tt, λ a b p q. omega arith)
+good Pmulld = (lit< tt, λ a b p q. omega arith)
+good Pmuldq = (lit< tt, λ a b p q. wrap-lt 64 _)
 good Pmulhw = (lit< tt, λ a b p q. div_below _ (2 ^ 16) (2 ^ 16) (lit< tt) (wrap-lt 32 _))
 good Pmulhuw = (lit< tt, λ a b p q. mul_high-lt 16 a b p q)
 good Pmuludq = (lit< tt, λ a b p q. mul-lt (a % 2 ^ 32) (b % 2 ^ 32) (2 ^ 32) (2 ^ 32) (omega arith) (omega arith))
@@ -118,6 +133,13 @@ good Punpckhqdq = tt
 good Packsswb = λ z. clamp_s-lt 8 z (lit< tt)
 good Packuswb = λ z. clamp_u-lt 8 z
 good Packssdw = λ z. clamp_s-lt 16 z (lit< tt)
+good Packusdw = λ z. clamp_u-lt 16 z
+good Pmovsxbw = λ n h. wrap-lt 16 _
+good Pmovsxwd = λ n h. wrap-lt 32 _
+good Pmovsxdq = λ n h. wrap-lt 64 _
+good Pmovzxbw = λ n h. omega (arith, h)
+good Pmovzxwd = λ n h. omega (arith, h)
+good Pmovzxdq = λ n h. omega (arith, h)
 good Psadbw = tt
 
 pub good_imm : (o : VecImmOp) → GoodImm (imm_shape o)

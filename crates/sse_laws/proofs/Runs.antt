@@ -9,7 +9,7 @@ use Rattle.x86_ins.proofs.Registers.{registers_simd}
 use Rattle.x86_ins.specs.declared.ins.ShuffleOp.{ShuffleOp}
 use Rattle.x86_ins.specs.declared.ins.ShuffleOp.TheVariants.{Pshufd, Pshufhw, Pshuflw}
 use Rattle.orc_bits.specs.Lanes.{lane, from_lanes}
-use Rattle.x86_ins.specs.Vectors.{Shape, bits, each, counted, interleaved, packed, distances, shape, ImmShape, each_by, bytes_up, bytes_down, imm_shape, result_of, imm_result, shuffle_result, Simd, of_two, of_count, of_order, of_none, simd, simd_effect, after, Registers}
+use Rattle.x86_ins.specs.Vectors.{Shape, bits, each, counted, interleaved, packed, extended, distances, shape, ImmShape, each_by, bytes_up, bytes_down, imm_shape, result_of, imm_result, shuffle_result, Simd, of_two, of_count, of_order, of_none, simd, simd_effect, after, Registers}
 use Rattle.orc_bits.specs.Lanes.{AreBytes, change}
 use Rattle.orc_bits.proofs.LaneLaws.{change_other, lane-lt, lane-from_lanes, lane_law, lane_low, lane_high}
 use Rattle.orc_bits.proofs.Bytewise.{bits_lane, InRange, each_same, each_double}
@@ -26,6 +26,7 @@ lanewise_shape w counts s (each v f) = fit w v
 lanewise_shape w counts s (counted v f) = fit w v && (counts && nat_eq s 1)
 lanewise_shape w counts s (interleaved v h) = false
 lanewise_shape w counts s (packed v f) = false
+lanewise_shape w counts s (extended v f) = false
 lanewise_shape w counts s distances = false
 
 abbrev pub lanewise_imm : ℕ → ImmShape → Bool
@@ -105,6 +106,7 @@ shape_lane (counted v f) g w c q s counts k h x y hx hy n =
     subst (λ m. lane w q (from_lanes v (λ j. f (8 * v) (lane v j x) m)) ≡ widened_by w v f (lane w q x) c) (sym e) (each_by_any w v f c (and_left (fit w v) (counts && nat_eq s 1) k) g.0 g.1 x hx q h)
 shape_lane (interleaved v f) g w c q s counts k h x y hx hy n = absurd (let e : ⊥ = cc in e)
 shape_lane (packed v f) g w c q s counts k h x y hx hy n = absurd (let e : ⊥ = cc in e)
+shape_lane (extended v f) g w c q s counts k h x y hx hy n = absurd (let e : ⊥ = cc in e)
 shape_lane distances g w c q s counts k h x y hx hy n = absurd (let e : ⊥ = cc in e)
 
 pub imm_lane : (sh : ImmShape) → GoodImm sh → (w c q : ℕ) → lanewise_imm w sh ≡ true → q * w + w ≤ 16 → (x : List ℕ) → AreBytes x →
