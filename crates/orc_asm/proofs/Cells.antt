@@ -1,6 +1,7 @@
 -- Several elements at once: what is done to whole registers is what is done element by element.
 use Rattle.std.proofs.Common.{◌≡◌, ◌≢◌, ℕ, zero, suc, ◌+◌, ◌-◌, ◌*◌, ◌^◌, ◌<◌, ◌≤◌, ◌==◌, true, false, if◌then◌else◌, List, [], ◌∷◌, Some, sym, ap, ◌∙◌, subst, arith, ◌⊎◌, inl, inr, ⊎_elim}
 use Rattle.std.proofs.lemmas.Bool.{cases_lt}
+use Rattle.orc_bits.specs.Lanes.{change}
 use Rattle.orc_bits.specs.Memory.{Memory}
 use Rattle.orc_bits.proofs.LaneLaws.{eq_false}
 use Rattle.orc_ops.specs.declared.opcode.Op.{Op}
@@ -8,15 +9,17 @@ use Rattle.orc_ops.specs.Table.{row, size_of_result, size_of_source}
 use Rattle.orc_program.specs.Meaning.{sub_lane, lanewise}
 use Rattle.x86_flow.proofs.Moves.{IsFill}
 use Rattle.sse_laws.specs.Meets.{is_shift, is_sum}
-use Rattle.orc_asm.specs.Code.{Action, Source, FromArray, FromPattern, Target, ToArray, ToSum}
+use Rattle.x86_ins.specs.Way.{Each}
+use Rattle.orc_asm.specs.Code.{Action, Source, FromArray, FromPattern, FromPlace, Target, ToArray, ToSum, ToPlace, place_register, first_register, second_register}
 use Rattle.orc_asm.proofs.Digits.{digit, byte_within, byte_further, byte_split, byte_apart}
 
 pub eq_yes : (x y : ℕ) → x ≡ y → (x == y) ≡ true
 eq_yes x y e = grind (arith, e)
 
--- one element's cells: an array's number, by its slot
-abbrev pub Local : Type 0
-Local = ℕ → ℕ
+-- the numbers of one element: of its cells by the array's slot, and of its values by place
+pub record Local : Type 0 where
+  pub cells : ℕ → ℕ
+  pub values : ℕ → ℕ
 
 -- the patterns and the running sums of a function
 pub record Numbers : Type 0 where
@@ -30,8 +33,9 @@ pub record Numbers : Type 0 where
 
 -- what a source of so many bytes gives to each sub-lane
 abbrev pub given_by : (ℕ → ℕ) → ℕ → Local → Source → ℕ → ℕ
-given_by number w l (FromArray k) = sub_lane (8 * w) (l k)
-given_by number w l (FromPattern j) = λ p. number j
+given_by number w l (FromArray k) = sub_lane (8 * w) (l.cells k)
+given_by number w l (FromPattern j) = λ q. number j
+given_by number w l (FromPlace p) = sub_lane (8 * w) (l.values p)
 
 -- what each sub-lane of an opcode's sources holds
 abbrev pub given : (ℕ → ℕ) → Op → Local → List Source → (ℕ → ℕ) × (ℕ → ℕ)
@@ -47,11 +51,32 @@ computed number op prefix l ss = lanewise op prefix (given number op l ss).0 (gi
 abbrev pub adds_to : Target → ℕ → ℕ → ℕ
 adds_to (ToArray d) v g = 0
 adds_to (ToSum h) v g = if h == g then v else 0
+adds_to (ToPlace p) v g = 0
 
 abbrev pub results_add : List Target → ℕ × ℕ → ℕ → ℕ
 results_add [] v g = 0
 results_add (t ∷ []) v g = adds_to t v.0 g
 results_add (t ∷ u ∷ more) v g = adds_to t v.0 g + adds_to u v.1 g
+
+-- ---- what stands at places
+
+-- the bytes of the value at a place, after a result of so many bytes that goes there; 0 where none is known
+abbrev pub live_target : (ℕ → ℕ) → Target → ℕ → ℕ → ℕ
+live_target live (ToArray k) bytes = live
+live_target live (ToSum g) bytes = live
+live_target live (ToPlace p) bytes = change live p bytes
+
+abbrev pub live_targets : (ℕ → ℕ) → Op → ℕ → List Target → ℕ → ℕ
+live_targets live op prefix [] = live
+live_targets live op prefix (t ∷ []) = live_target live t (size_of_result op 0 * prefix)
+live_targets live op prefix (t ∷ u ∷ more) = live_target (live_target live t (size_of_result op 0 * prefix)) u (size_of_result op 1 * prefix)
+
+abbrev pub live_act : (ℕ → ℕ) → Action → ℕ → ℕ
+live_act live a = live_targets live a.op a.prefix a.to
+
+-- before the first instruction of an element nothing is known of places
+abbrev pub no_values : ℕ → ℕ
+no_values p = 0
 
 -- of arrays' slots those of dests: they are the first four
 abbrev pub OfDests : (ℕ → Type 0) → ℕ → Type 0
@@ -65,11 +90,12 @@ module _ (n : ℕ) (base size : ℕ → ℕ) (P : ℕ → Type 0) where
 
   -- a write reaches each array that is the very same one
   abbrev pub set_local : Local → ℕ → ℕ → Local
-  set_local l d v = λ k. if base k == base d then v else l k
+  set_local l d v = record { cells = λ k. if base k == base d then v else l.cells k; values = l.values }
 
   abbrev pub set_target : Local → Target → ℕ → Local
   set_target l (ToArray d) v = set_local l d v
   set_target l (ToSum g) v = l
+  set_target l (ToPlace p) v = record { cells = l.cells; values = change l.values p v }
 
   -- the first result before the second
   abbrev pub set_results : Local → List Target → ℕ × ℕ → Local
@@ -79,7 +105,7 @@ module _ (n : ℕ) (base size : ℕ → ℕ) (P : ℕ → Type 0) where
 
   -- the memory holds these numbers in the cells of so many elements from i on
   abbrev pub Lanes : ℕ → ℕ → Memory → (ℕ → Local) → Type 0
-  Lanes i c mem sig = (k : ℕ) → P k → (q : ℕ) → q < c → (r : ℕ) → r < size k → mem (place k (i + q) r) ≡ Some (digit (sig q k) r)
+  Lanes i c mem sig = (k : ℕ) → P k → (q : ℕ) → q < c → (r : ℕ) → r < size k → mem (place k (i + q) r) ≡ Some (digit ((sig q).cells k) r)
 
   -- an address is a byte of a cell of one of these elements
   abbrev pub AtElements : ℕ → ℕ → ℕ → Type 0
@@ -122,39 +148,61 @@ module _ (n : ℕ) (base size : ℕ → ℕ) (P : ℕ → Type 0) where
     adds [] l g = 0
     adds (a ∷ rest) l g = results_add a.to (value_of a l) g + adds rest (local_act a l) g
 
-    -- a source of so many sub-lanes of this size
-    abbrev pub IsFrom : ℕ → ℕ → Source → Type 0
-    IsFrom w prefix (FromArray k) = IsOf k (w * prefix)
-    IsFrom w prefix (FromPattern j) = (j < numbers.patterns) × (numbers.period j ≡ w)
+    -- a source of so many sub-lanes of this size, where values of so many bytes stand at places
+    abbrev pub IsFrom : (ℕ → ℕ) → ℕ → ℕ → Source → Type 0
+    IsFrom live w prefix (FromArray k) = IsOf k (w * prefix)
+    IsFrom live w prefix (FromPattern j) = (j < numbers.patterns) × (numbers.period j ≡ w)
+    IsFrom live w prefix (FromPlace p) = (p < 10) × (live p ≡ w * prefix)
 
     -- a count is a pattern
     abbrev pub IsBeside : Op → Source → Type 0
     IsBeside op (FromArray k) = is_shift (row op).kind ≡ false
     IsBeside op (FromPattern j) = Unit {0}
+    IsBeside op (FromPlace p) = is_shift (row op).kind ≡ false
 
     -- one or two sources of the opcode's sizes
-    abbrev pub AreFrom : Op → ℕ → List Source → Type 0
-    AreFrom op prefix [] = ⊥
-    AreFrom op prefix (s ∷ []) = IsFrom (size_of_source op 0) prefix s × (size_of_source op 1 ≡ 0)
-    AreFrom op prefix (s ∷ t ∷ more) = IsFrom (size_of_source op 0) prefix s × IsFrom (size_of_source op 1) prefix t × IsBeside op t
+    abbrev pub AreFrom : (ℕ → ℕ) → Op → ℕ → List Source → Type 0
+    AreFrom live op prefix [] = ⊥
+    AreFrom live op prefix (s ∷ []) = IsFrom live (size_of_source op 0) prefix s × (size_of_source op 1 ≡ 0)
+    AreFrom live op prefix (s ∷ t ∷ more) = IsFrom live (size_of_source op 0) prefix s × IsFrom live (size_of_source op 1) prefix t × IsBeside op t
 
-    -- one or two dests, or one running sum
+    -- a result that is no running sum: a dest, or a place
+    abbrev pub IsMade : ℕ → Target → Type 0
+    IsMade bytes (ToArray k) = IsTo k bytes
+    IsMade bytes (ToSum g) = ⊥
+    IsMade bytes (ToPlace p) = p < 10
+
+    -- one running sum
+    abbrev pub IsAdded : Op → ℕ → ℕ → Type 0
+    IsAdded op prefix g = (g < numbers.sums) × (is_sum (row op).kind ≡ true) × (numbers.width g ≡ size_of_result op 0) × (prefix ≡ 1)
+
+    -- one or two results that are none
+    abbrev pub AreMade : Op → ℕ → List Target → Type 0
+    AreMade op prefix [] = ⊥
+    AreMade op prefix (t ∷ []) = IsMade (size_of_result op 0 * prefix) t × (is_sum (row op).kind ≡ false)
+    AreMade op prefix (t ∷ u ∷ more) = IsMade (size_of_result op 0 * prefix) t × (is_sum (row op).kind ≡ false) × IsMade (size_of_result op 1 * prefix) u
+
+    -- one or two dests or places, or one running sum
     abbrev pub AreTo : Op → ℕ → List Target → Type 0
-    AreTo op prefix [] = ⊥
-    AreTo op prefix (ToArray k ∷ []) = IsTo k (size_of_result op 0 * prefix) × (is_sum (row op).kind ≡ false)
-    AreTo op prefix (ToArray k ∷ ToArray m ∷ more) = IsTo k (size_of_result op 0 * prefix) × (is_sum (row op).kind ≡ false) × IsTo m (size_of_result op 1 * prefix)
-    AreTo op prefix (ToArray k ∷ ToSum g ∷ more) = ⊥
-    AreTo op prefix (ToSum g ∷ []) = (g < numbers.sums) × (is_sum (row op).kind ≡ true) × (numbers.width g ≡ size_of_result op 0) × (prefix ≡ 1)
-    AreTo op prefix (ToSum g ∷ t ∷ more) = ⊥
+    AreTo op prefix (ToSum g ∷ []) = IsAdded op prefix g
+    AreTo op prefix ts = AreMade op prefix ts
 
-    -- its operands are of the opcode's sizes
-    pub record IsKnown (a : Action) : Type 0 where
+    -- a source doesn't stand where a result is made
+    abbrev pub IsKept : List Target → Source → Type 0
+    IsKept ts (FromArray k) = Unit {0}
+    IsKept ts (FromPattern j) = Unit {0}
+    IsKept ts (FromPlace p) = (first_register ts ≢ place_register p) × (second_register ts ≢ place_register p)
+
+    -- its operands are of the opcode's sizes, its sources stand elsewhere than its results, and its results in two registers
+    pub record IsKnown (live : ℕ → ℕ) (a : Action) : Type 0 where
       pub to : AreTo a.op a.prefix a.to
-      pub sources : AreFrom a.op a.prefix a.sources
+      pub sources : AreFrom live a.op a.prefix a.sources
+      pub kept : Each (IsKept a.to) a.sources
+      pub apart : first_register a.to ≢ second_register a.to
 
-    abbrev pub AllKnown : List Action → Type 0
-    AllKnown [] = Unit {0}
-    AllKnown (a ∷ rest) = IsKnown a × AllKnown rest
+    abbrev pub AllKnown : (ℕ → ℕ) → List Action → Type 0
+    AllKnown live [] = Unit {0}
+    AllKnown live (a ∷ rest) = IsKnown live a × AllKnown (live_act live a) rest
 
   -- two arrays share no byte, or have one base and one size
   abbrev pub Separate : Type 0
@@ -187,20 +235,20 @@ module _ (n : ℕ) (base size : ℕ → ℕ) (P : ℕ → Type 0) where
         → ((q r : ℕ) → q < c → r < size d → z (q * size d + r) ≡ digit (v q) r) → Lanes i c end (λ q. set_local (sig q) d (v q))
     store_lanes i c mem end sig d z v hd some w h f numbers k hk q l r lr = ⊎_elim same apart (separate k d hk hd)
       where
-        same : (base k ≡ base d) × (size k ≡ size d) → end (place k (i + q) r) ≡ Some (digit (set_local (sig q) d (v q) k) r)
+        same : (base k ≡ base d) × (size k ≡ size d) → end (place k (i + q) r) ≡ Some (digit ((set_local (sig q) d (v q)).cells k) r)
         same e =
             let lr' : r < size d = subst (λ s. r < s) e.1 lr in
             ap end (ap (λ b. b + (i + q) * size k + r) e.0 ∙ ap (λ s. base d + (i + q) * s + r) e.1 ∙ byte_further (base d) i q (size d) r)
             ∙ f.inside (q * size d + r) (byte_within q c (size d) r l lr')
             ∙ ap Some (numbers q r l lr')
-            ∙ ap (λ b. Some (digit (if b then v q else sig q k) r)) (sym (eq_yes (base k) (base d) e.0))
+            ∙ ap (λ b. Some (digit (if b then v q else (sig q).cells k) r)) (sym (eq_yes (base k) (base d) e.0))
 
-        apart : ((i j r s : ℕ) → i < n → j < n → r < size k → s < size d → place k i r ≢ place d j s) → end (place k (i + q) r) ≡ Some (digit (set_local (sig q) d (v q) k) r)
+        apart : ((i j r s : ℕ) → i < n → j < n → r < size k → s < size d → place k i r ≢ place d j s) → end (place k (i + q) r) ≡ Some (digit ((set_local (sig q) d (v q)).cells k) r)
         apart a =
             let lq : i + q < n = omega (arith, l, w) in
             f.outside (place k (i + q) r) (λ j lj e. let x = byte_split (size d) c j lj in a (i + q) (i + x.0) r x.1 lq (omega (arith, x.2, w)) lr x.3 (e ∙ ap (λ t. base d + i * size d + t) x.4 ∙ sym (byte_further (base d) i x.0 (size d) x.1)))
             ∙ h k hk q l r lr
-            ∙ ap (λ b. Some (digit (if b then v q else sig q k) r)) (sym (eq_false (base k) (base d) (λ e. a 0 0 0 0 (omega (arith, lq)) (omega (arith, lq)) (omega (arith, lr)) some (omega (arith, e)))))
+            ∙ ap (λ b. Some (digit (if b then v q else (sig q).cells k) r)) (sym (eq_false (base k) (base d) (λ e. a 0 0 0 0 (omega (arith, lq)) (omega (arith, lq)) (omega (arith, lr)) some (omega (arith, e)))))
 
     -- whether an address is a byte of one of these elements
     at_or_not : Decided → (i c a p : ℕ) → At i c a p ⊎ NotAt i c a p

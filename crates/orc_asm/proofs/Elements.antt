@@ -27,36 +27,52 @@ use Rattle.orc_asm.proofs.Places.{place_again}
 
 -- ---- what an instruction's operands and an action's say alike; `patterns` are the patterns' numbers
 
-abbrev pub IsRead : FunctionValue → (ℕ → Operand) → ℕ → ℕ → Operand → Source → Type 0
-IsRead f patterns w prefix o (FromArray k) = (p : ℕ) × (o ≡ operand.Var p) × IsCells f p (w * prefix) × (slot_of f.vars p ≡ k)
-IsRead f patterns w prefix o (FromPattern j) = number_in f.vars o ≡ Some (patterns j)
+-- which temp's value stands at which place, `V x p` of the temp at place x of the variables and of the place p, before and after an instruction
+abbrev pub IsRead : FunctionValue → (ℕ → Operand) → (ℕ → ℕ → Type 0) → ℕ → ℕ → Operand → Source → Type 0
+IsRead f patterns V w prefix o (FromArray k) = (p : ℕ) × (o ≡ operand.Var p) × IsCells f p (w * prefix) × (slot_of f.vars p ≡ k)
+IsRead f patterns V w prefix o (FromPattern j) = number_in f.vars o ≡ Some (patterns j)
+IsRead f patterns V w prefix o (FromPlace p) = (x : ℕ) × (o ≡ operand.Var x) × IsTemp f x × V x p
 
-abbrev pub AreRead : FunctionValue → (ℕ → Operand) → Op → ℕ → List Operand → List Source → Type 0
-AreRead f patterns op prefix (x ∷ []) (s ∷ []) = IsRead f patterns (size_of_source op 0) prefix x s
-AreRead f patterns op prefix (x ∷ y ∷ []) (s ∷ t ∷ []) = IsRead f patterns (size_of_source op 0) prefix x s × IsRead f patterns (size_of_source op 1) prefix y t
-AreRead f patterns op prefix os ss = ⊥
+abbrev pub AreRead : FunctionValue → (ℕ → Operand) → (ℕ → ℕ → Type 0) → Op → ℕ → List Operand → List Source → Type 0
+AreRead f patterns V op prefix (x ∷ []) (s ∷ []) = IsRead f patterns V (size_of_source op 0) prefix x s
+AreRead f patterns V op prefix (x ∷ y ∷ []) (s ∷ t ∷ []) = IsRead f patterns V (size_of_source op 0) prefix x s × IsRead f patterns V (size_of_source op 1) prefix y t
+AreRead f patterns V op prefix os ss = ⊥
+
+-- what stands where after one write did so before it, or is what was written
+abbrev pub Follows : (ℕ → ℕ → Type 0) → Operand → Target → (ℕ → ℕ → Type 0) → Type 0
+Follows V o (ToArray k) W = (x p : ℕ) → W x p → V x p
+Follows V o (ToSum g) W = (x p : ℕ) → W x p → V x p
+Follows V o (ToPlace a) W = (x p : ℕ) → W x p → ((o ≡ operand.Var x) × (p ≡ a)) ⊎ (V x p × ((o ≡ operand.Var x) → ⊥) × (p ≢ a))
 
 abbrev pub IsWritten : FunctionValue → ℕ → ℕ → Operand → Target → Type 0
 IsWritten f w prefix o (ToArray k) = (p : ℕ) × (o ≡ operand.Var p) × IsCells f p (w * prefix) × IsDest f p × (slot_of f.vars p ≡ k)
 IsWritten f w prefix o (ToSum g) = (p : ℕ) × (o ≡ operand.Var p) × IsSum f p w × (count_before kind.Accumulator f.vars p ≡ g)
+IsWritten f w prefix o (ToPlace a) = (x : ℕ) × (o ≡ operand.Var x) × IsTemp f x
 
-abbrev pub AreWritten : FunctionValue → Op → ℕ → List Operand → List Target → Type 0
-AreWritten f op prefix (x ∷ []) (t ∷ []) = IsWritten f (size_of_result op 0) prefix x t
-AreWritten f op prefix (x ∷ y ∷ []) (t ∷ u ∷ []) = IsWritten f (size_of_result op 0) prefix x t × IsWritten f (size_of_result op 1) prefix y u
-AreWritten f op prefix os ts = ⊥
+-- by what is seen of places: `At v` is the relation in view v
+module _ {View : Type 0} (At : View → ℕ → ℕ → Type 0) where
+  abbrev pub AreWritten : FunctionValue → Op → ℕ → List Operand → List Target → View → View → Type 0
+  AreWritten f op prefix (x ∷ []) (t ∷ []) v w = IsWritten f (size_of_result op 0) prefix x t × Follows (At v) x t (At w)
+  AreWritten f op prefix (x ∷ y ∷ []) (t ∷ u ∷ []) v w =
+      IsWritten f (size_of_result op 0) prefix x t × IsWritten f (size_of_result op 1) prefix y u × ((between : View) × Follows (At v) x t (At between) × Follows (At between) y u (At w))
+  AreWritten f op prefix os ts v w = ⊥
 
--- the action does what the instruction does
-pub record IsMeant (f : FunctionValue) (patterns : ℕ → Operand) (insn : Insn) (a : Action) : Type 0 where
-  pub op : a.op ≡ insn.op
-  pub prefix : a.prefix ≡ insn.prefix
-  pub to : AreWritten f insn.op insn.prefix insn.results.items a.to
-  pub sources : AreRead f patterns insn.op insn.prefix insn.sources.items a.sources
+  -- the action does what the instruction does, and takes view v to view w
+  pub record IsMeant (f : FunctionValue) (patterns : ℕ → Operand) (v w : View) (insn : Insn) (a : Action) : Type 0 where
+    pub op : a.op ≡ insn.op
+    pub prefix : a.prefix ≡ insn.prefix
+    pub to : AreWritten f insn.op insn.prefix insn.results.items a.to v w
+    pub sources : AreRead f patterns (At v) insn.op insn.prefix insn.sources.items a.sources
 
-abbrev pub AreMeant : FunctionValue → (ℕ → Operand) → List Insn → List Action → Type 0
-AreMeant f patterns [] [] = Unit {0}
-AreMeant f patterns (insn ∷ insns) (a ∷ rest) = IsMeant f patterns insn a × AreMeant f patterns insns rest
-AreMeant f patterns [] (a ∷ rest) = ⊥
-AreMeant f patterns (insn ∷ insns) [] = ⊥
+  abbrev pub AreMeant : FunctionValue → (ℕ → Operand) → View → List Insn → List Action → Type 0
+  AreMeant f patterns v [] [] = Unit {0}
+  AreMeant f patterns v (insn ∷ insns) (a ∷ rest) = (w : View) × IsMeant f patterns v w insn a × AreMeant f patterns w insns rest
+  AreMeant f patterns v [] (a ∷ rest) = ⊥
+  AreMeant f patterns v (insn ∷ insns) [] = ⊥
+
+-- emulation's temps have the values that stand at places
+abbrev pub Carries : (ℕ → ℕ → Type 0) → (ℕ → ℕ) → Local → Type 0
+Carries V temps l = (x p : ℕ) → V x p → temps x ≡ l.values p
 
 -- ---- sums
 
@@ -110,8 +126,9 @@ module _ (f : FunctionValue) (sums totals : ℕ → ℕ) (p n v : ℕ) (h : Agre
 
 -- emulation of row r has come from a first state to element i, with this memory and sums of these totals
 pub record Reached (f : FunctionValue) (call : Call) (r : ℕ) (first : State) (i : ℕ) (mem : Memory) (totals : ℕ → ℕ) : Type 0 where
+  pub temps : ℕ → ℕ
   pub sums : ℕ → ℕ
-  pub is : row_of f call r i first ≡ Ok (state mem sums)
+  pub is : row_of f call r i first ≡ Ok (state mem temps sums)
   pub agrees : Agrees f sums totals
 
 module _ (f : FunctionValue) (call : Call) (r : ℕ) (base size : ℕ → ℕ) (P : ℕ → Type 0) (separate : Separate call.n base size P) (low : Low call.n base size P)

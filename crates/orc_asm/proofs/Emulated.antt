@@ -34,9 +34,12 @@ pub record IsSum (f : FunctionValue) (p bytes : ℕ) : Type 0 where
   pub sum : (var_at f.vars p).kind ≡ kind.Accumulator
   pub size : (var_at f.vars p).size ≡ bytes
 
--- without temps that are set
-abbrev pub state : Memory → (ℕ → ℕ) → State
-state mem sums = record { memory = mem; temps = λ p. 0; sums = sums }
+-- the variable at a place is a temp
+abbrev pub IsTemp : FunctionValue → ℕ → Type 0
+IsTemp f x = (var_at f.vars x).kind ≡ kind.Temp
+
+abbrev pub state : Memory → (ℕ → ℕ) → (ℕ → ℕ) → State
+state mem temps sums = record { memory = mem; temps = temps; sums = sums }
 
 -- the number that a pattern's operand stands for in a call
 abbrev pub meant : FunctionValue → Call → Operand → ℕ

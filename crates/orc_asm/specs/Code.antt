@@ -1,47 +1,52 @@
 -- The code of a function: the compiler's plan.
-use Rattle.std.specs.Prelude.{◌≡◌, ℕ, zero, suc, ◌+◌, ◌*◌, ◌/◌, ◌<◌, ◌≤◌, ◌==◌, Bool, true, false, if◌then◌else◌, pos, List, [], ◌∷◌, ◌++◌, length, get_or, Option, Some, None}
+use Rattle.std.specs.Prelude.{◌≡◌, ◌≢◌, ℕ, zero, suc, ◌+◌, ◌*◌, ◌/◌, ◌<◌, ◌≤◌, ◌==◌, Bool, true, false, if◌then◌else◌, pos, List, [], ◌∷◌, ◌++◌, length, map, slice_index}
 use Rattle.x86_ins.specs.declared.ins.AluOp.TheVariants.{Add, Sub}
 use Rattle.x86_ins.specs.declared.ins.Ins.{Ins}
-use Rattle.x86_ins.specs.declared.ins.Ins.TheVariants.{AluImm, VecLoad, VecStore}
+use Rattle.x86_ins.specs.declared.ins.Ins.TheVariants.{AluImm, Vec, VecLoad, VecStore}
 use Rattle.x86_ins.specs.declared.ins.MoveOp.TheVariants.{Movdqu}
+use Rattle.x86_ins.specs.declared.ins.VecOp.TheVariants.{Movdqa}
+use Rattle.x86_ins.specs.Renaming.{renamed}
 use Rattle.x86_ins.specs.Spelling.{IsIns}
 use Rattle.x86_ins.specs.Way.{Each}
 use Rattle.orc_ops.specs.declared.opcode.Op.{Op}
 use Rattle.orc_ops.specs.Table.{row, size_of_result}
-use Rattle.orc_program.specs.declared.program.Var.{Var}
 use Rattle.orc_program.specs.declared.program.VarKind.TheVariants as kind
-use Rattle.orc_program.specs.declared.program.Operand.{Operand}
-use Rattle.orc_program.specs.declared.program.Operand.TheVariants as operand
-use Rattle.orc_program.specs.declared.program.Insn.{Insn}
 use Rattle.orc_program.specs.declared.program.Pattern.{Pattern}
-use Rattle.orc_program.specs.Program.{FunctionValue, var_at, is_of, count_of, count_before}
-use Rattle.orc_program.specs.Checks.{same_pattern, number_in, way_of, pattern_with, patterns_of}
-use Rattle.orc_program.specs.Slots.{slot_of, size_of_slot}
+use Rattle.orc_program.specs.Program.{FunctionValue, count_of}
+use Rattle.orc_program.specs.Checks.{patterns_of}
+use Rattle.orc_program.specs.Slots.{size_of_slot}
+use Rattle.orc_plan.specs.declared.steps.Item.{Item}
+use Rattle.orc_plan.specs.declared.steps.Item.TheVariants as item
+use Rattle.orc_plan.specs.declared.steps.Step.{Step}
+use Rattle.orc_plan.specs.Places.{GoodPlaces}
+use Rattle.orc_plan.specs.Lowered.{steps_of}
 use Rattle.x86_flow.specs.Moves.{IsWidth, away, load_far_code, store_either_code}
 use Rattle.orc_frame.specs.Layout.{pattern_slot, sum_slot}
 use Rattle.sse_laws.specs.Meets.{Meets, is_sum}
 use Rattle.sse_acc.specs.Sums.{AddsUp}
 
--- where a source comes from: the elements of an array's slot, or a pattern
+-- where a source comes from: the elements of an array's slot, a pattern, or the place of a value
 pub data Source : Type 0 where
   FromArray : ℕ → Source
   FromPattern : ℕ → Source
+  FromPlace : ℕ → Source
 
--- where a result goes: the elements of an array's slot, or a running sum
+-- where a result goes: the elements of an array's slot, a running sum, or the place of a value
 pub data Target : Type 0 where
   ToArray : ℕ → Target
   ToSum : ℕ → Target
+  ToPlace : ℕ → Target
 
 -- what an instruction's code does
 pub record Action : Type 0 where
   pub op : Op
   -- how many adjacent sub-lanes of an element it works on
   pub prefix : ℕ
-  -- one or two arrays, or one sum
+  -- one or two arrays or places, or one sum
   pub to : List Target
   -- one or two
   pub sources : List Source
-  -- computes the opcode in the vector registers
+  -- computes the opcode in XMM0 to XMM5
   pub rule : List Ins
 
 -- the opcode has a rule for so many elements: those that a running sum takes at once, where it adds to one
@@ -74,28 +79,63 @@ pointer (suc (suc zero)) = 5
 pointer (suc (suc (suc zero))) = 6
 pointer (suc (suc (suc (suc k)))) = 8 + k
 
+-- the vector register of a place: XMM6 to XMM15
+abbrev pub place_register : ℕ → ℕ
+place_register p = 6 + p
+
+-- the register in which a result is made that the rule makes in register x: the place's own, where it goes to a place
+abbrev pub made_in : ℕ → Target → ℕ
+made_in x (ToArray k) = x
+made_in x (ToSum g) = x
+made_in x (ToPlace p) = place_register p
+
+-- the register of the first source and of the first result
+abbrev pub first_register : List Target → ℕ
+first_register [] = 0
+first_register (t ∷ more) = made_in 0 t
+
+-- that of a second source and of a second result
+abbrev pub second_register : List Target → ℕ
+second_register [] = 1
+second_register (t ∷ []) = 1
+second_register (t ∷ u ∷ more) = made_in 1 u
+
+-- a and b change places
+abbrev pub exchange : ℕ → ℕ → ℕ → ℕ
+exchange a b r = if r == a then b else (if r == b then a else r)
+
+-- the register that stands for register r of a rule: results are made where they go
+abbrev pub rule_register : List Target → ℕ → ℕ
+rule_register ts r = exchange 0 (first_register ts) (exchange 1 (second_register ts) r)
+
 -- ---- so many elements at once
 
 -- a source goes to a vector register; the cells of slot k are `far k` bytes behind its pointer
 abbrev pub source_far_code : ℕ → (ℕ → ℕ) → (ℕ → ℕ) → ℕ → Source → List Ins
 source_far_code count size far x (FromArray k) = load_far_code (count * size k) x (pointer k) (far k)
 source_far_code count size far x (FromPattern j) = VecLoad Movdqu x (away 4 (pattern_slot j)) ∷ []
+source_far_code count size far x (FromPlace p) = Vec Movdqa x (place_register p) ∷ []
 
--- the first source goes to XMM0, and the second to XMM1
-abbrev pub sources_far_code : ℕ → (ℕ → ℕ) → (ℕ → ℕ) → List Source → List Ins
-sources_far_code count size far [] = []
-sources_far_code count size far (s ∷ []) = source_far_code count size far 0 s
-sources_far_code count size far (s ∷ t ∷ more) = source_far_code count size far 0 s ++ source_far_code count size far 1 t
+-- the first source goes to register x, and the second to register y
+abbrev pub sources_far_code : ℕ → (ℕ → ℕ) → (ℕ → ℕ) → ℕ → ℕ → List Source → List Ins
+sources_far_code count size far x y [] = []
+sources_far_code count size far x y (s ∷ []) = source_far_code count size far x s
+sources_far_code count size far x y (s ∷ t ∷ more) = source_far_code count size far x s ++ source_far_code count size far y t
 
 -- a running sum goes to XMM2
 abbrev pub sum_code : List Target → List Ins
 sum_code (ToSum g ∷ more) = VecLoad Movdqu 2 (away 4 (sum_slot g)) ∷ []
 sum_code other = []
 
--- a result comes from a vector register, for some slots by aligned stores, and a running sum from XMM2
+-- the rule, in the registers that its results go to
+abbrev pub rule_code : Action → List Ins
+rule_code a = map (renamed (rule_register a.to)) a.rule
+
+-- a result comes from a vector register, for some slots by aligned stores, and a running sum from XMM2; that of a place is there
 abbrev pub result_far_code : ℕ → (ℕ → ℕ) → (ℕ → ℕ) → (ℕ → Bool) → ℕ → Target → List Ins
 result_far_code count size far aligned x (ToArray k) = store_either_code (aligned k) (count * size k) x (pointer k) (far k)
 result_far_code count size far aligned x (ToSum g) = VecStore Movdqu 2 (away 4 (sum_slot g)) ∷ []
+result_far_code count size far aligned x (ToPlace p) = []
 
 -- the first result comes from XMM0, and after it a second one from XMM1
 abbrev pub results_far_code : ℕ → (ℕ → ℕ) → (ℕ → ℕ) → (ℕ → Bool) → List Target → List Ins
@@ -104,7 +144,8 @@ results_far_code count size far aligned (t ∷ []) = result_far_code count size 
 results_far_code count size far aligned (t ∷ u ∷ more) = result_far_code count size far aligned 0 t ++ result_far_code count size far aligned 1 u
 
 abbrev pub action_far_code : ℕ → (ℕ → ℕ) → (ℕ → ℕ) → (ℕ → Bool) → Action → List Ins
-action_far_code count size far aligned a = sources_far_code count size far a.sources ++ (sum_code a.to ++ (a.rule ++ results_far_code count size far aligned a.to))
+action_far_code count size far aligned a =
+    sources_far_code count size far (first_register a.to) (second_register a.to) a.sources ++ (sum_code a.to ++ (rule_code a ++ results_far_code count size far aligned a.to))
 
 abbrev pub actions_far_code : ℕ → (ℕ → ℕ) → (ℕ → ℕ) → (ℕ → Bool) → List Action → List Ins
 actions_far_code count size far aligned [] = []
@@ -120,7 +161,7 @@ unaligned k = false
 abbrev pub source_code : ℕ → (ℕ → ℕ) → ℕ → Source → List Ins
 source_code count size = source_far_code count size at_pointer
 
-abbrev pub sources_code : ℕ → (ℕ → ℕ) → List Source → List Ins
+abbrev pub sources_code : ℕ → (ℕ → ℕ) → ℕ → ℕ → List Source → List Ins
 sources_code count size = sources_far_code count size at_pointer
 
 abbrev pub result_code : ℕ → (ℕ → ℕ) → ℕ → Target → List Ins
@@ -157,68 +198,35 @@ turn_code p count = actions_code count p.size p.actions ++ (advance_code p.size 
 abbrev pub blocks_turn_code : Plan → (ℕ → Bool) → ℕ → ℕ → List Ins
 blocks_turn_code p aligned count b = blocks_code p aligned count b ++ (advance_code p.size (b * count) 0 p.dests ++ (advance_code p.size (b * count) 4 p.sources ++ AluImm Sub 1 (pos (b * count)) ∷ []))
 
--- ---- from a function to its plan
+-- ---- from steps with places to a plan
 
-abbrev pub operand_slot : List Var → Operand → ℕ
-operand_slot vars (operand.Var p) = slot_of vars p
-operand_slot vars (operand.Number n) = 0
+-- where an item of a step comes from as a source; no source is a sum
+abbrev pub source_of : List ℕ → Item → Source
+source_of at (item.Value v) = FromPlace (slice_index at v)
+source_of at (item.Array slot) = FromArray slot
+source_of at (item.Acc slot size) = FromArray slot
+source_of at (item.Pattern j) = FromPattern j
 
--- the place of a pattern in a list, and the list's length where it isn't there
-abbrev pub index_of : List Pattern → Pattern → ℕ
-index_of [] p = 0
-index_of (q ∷ qs) p = if same_pattern p q then 0 else 1 + index_of qs p
+-- where it goes as a result; no result is a pattern
+abbrev pub target_of : List ℕ → Item → Target
+target_of at (item.Value v) = ToPlace (slice_index at v)
+target_of at (item.Array slot) = ToArray slot
+target_of at (item.Acc slot size) = ToSum slot
+target_of at (item.Pattern j) = ToArray j
 
-abbrev pub place_in : List Pattern → Option Pattern → Option ℕ
-place_in patterns None = None
-place_in patterns (Some p) = Some (index_of patterns p)
-
--- the pattern that a source at a position uses, by its place among the patterns, if it is a number
-abbrev pub pattern_place : List Pattern → List Var → Op → ℕ → Operand → Option ℕ
-pattern_place patterns vars op position o = place_in patterns (pattern_with (way_of op position) (number_in vars o))
-
--- the number of an accumulator
-abbrev pub sum_place : List Var → Operand → Option ℕ
-sum_place vars (operand.Var p) = if is_of kind.Accumulator (var_at vars p) then Some (count_before kind.Accumulator vars p) else None
-sum_place vars (operand.Number n) = None
-
--- an array's slot, or else a pattern or a sum
-abbrev pub source_from : ℕ → Option ℕ → Source
-source_from slot None = FromArray slot
-source_from slot (Some j) = FromPattern j
-
-abbrev pub target_to : ℕ → Option ℕ → Target
-target_to slot None = ToArray slot
-target_to slot (Some g) = ToSum g
-
-abbrev pub operand_at : List Operand → ℕ → Operand
-operand_at os k = get_or os k (operand.Number 0)
-
-abbrev pub source_at : List Pattern → List Var → Op → List Operand → ℕ → Source
-source_at patterns vars op os k = source_from (operand_slot vars (operand_at os k)) (pattern_place patterns vars op k (operand_at os k))
-
-abbrev pub target_at : List Var → List Operand → ℕ → Target
-target_at vars os k = target_to (operand_slot vars (operand_at os k)) (sum_place vars (operand_at os k))
-
--- a second one where there are two
-abbrev pub sources_of : List Pattern → List Var → Op → List Operand → List Source
-sources_of patterns vars op os = if length os == 2 then source_at patterns vars op os 0 ∷ source_at patterns vars op os 1 ∷ [] else source_at patterns vars op os 0 ∷ []
-
-abbrev pub targets_of : List Var → List Operand → List Target
-targets_of vars os = if length os == 2 then target_at vars os 0 ∷ target_at vars os 1 ∷ [] else target_at vars os 0 ∷ []
-
--- the action is the instruction's, by some list that computes its opcode
-pub record IsAction (patterns : List Pattern) (vars : List Var) (count : ℕ) (insn : Insn) (a : Action) : Type 0 where
-  pub op : a.op ≡ insn.op
-  pub prefix : a.prefix ≡ insn.prefix
-  pub to : a.to ≡ targets_of vars insn.results.items
-  pub sources : a.sources ≡ sources_of patterns vars insn.op insn.sources.items
+-- the action is the step's, by some list that computes its opcode; `at` are the places of values
+pub record IsAction (at : List ℕ) (count : ℕ) (step : Step) (a : Action) : Type 0 where
+  pub op : a.op ≡ step.op
+  pub prefix : a.prefix ≡ step.prefix
+  pub to : a.to ≡ map (target_of at) step.results.items
+  pub sources : a.sources ≡ map (source_of at) step.sources.items
   pub rule : IsRule count a.op a.rule
 
-abbrev pub AreActions : List Pattern → List Var → ℕ → List Insn → List Action → Type 0
-AreActions patterns vars count [] [] = Unit {0}
-AreActions patterns vars count (insn ∷ insns) (a ∷ rest) = IsAction patterns vars count insn a × AreActions patterns vars count insns rest
-AreActions patterns vars count [] (a ∷ rest) = ⊥
-AreActions patterns vars count (insn ∷ insns) [] = ⊥
+abbrev pub AreActions : List ℕ → ℕ → List Step → List Action → Type 0
+AreActions at count [] [] = Unit {0}
+AreActions at count (s ∷ steps) (a ∷ rest) = IsAction at count s a × AreActions at count steps rest
+AreActions at count [] (a ∷ rest) = ⊥
+AreActions at count (s ∷ steps) [] = ⊥
 
 -- a function's patterns
 abbrev pub patterns_in : FunctionValue → List Pattern
@@ -234,35 +242,40 @@ plan_with f actions = record {
 
 -- ---- code by some lists that compute the opcodes
 
-abbrev pub AddsRule : ℕ → Op → List Ins → List Ins → Type 0
-AddsRule count op old new = (rule : List Ins) × IsRule count op rule × (new ≡ old ++ rule)
+abbrev pub AddsRule : ℕ → Op → List Target → List Ins → List Ins → Type 0
+AddsRule count op to old new = (rule : List Ins) × IsRule count op rule × (new ≡ old ++ map (renamed (rule_register to)) rule)
 
-abbrev pub AddsAction : List Pattern → List Var → ℕ → Insn → List Ins → List Ins → Type 0
-AddsAction patterns vars count insn old new = (a : Action) × IsAction patterns vars count insn a × (new ≡ old ++ action_code count (size_of_slot vars) a)
+-- `size` has the bytes of an element of each array slot
+abbrev pub AddsAction : List ℕ → (ℕ → ℕ) → ℕ → Step → List Ins → List Ins → Type 0
+AddsAction at size count step old new = (a : Action) × IsAction at count step a × (new ≡ old ++ action_code count size a)
 
-abbrev pub AddsActions : List Pattern → List Var → ℕ → List Insn → List Ins → List Ins → Type 0
-AddsActions patterns vars count insns old new = (actions : List Action) × AreActions patterns vars count insns actions × (new ≡ old ++ actions_code count (size_of_slot vars) actions)
+abbrev pub AddsActions : List ℕ → (ℕ → ℕ) → ℕ → List Step → List Ins → List Ins → Type 0
+AddsActions at size count steps old new = (actions : List Action) × AreActions at count steps actions × (new ≡ old ++ actions_code count size actions)
 
+-- a turn of a function's code, by some good places of its values
 abbrev pub IsTurn : FunctionValue → ℕ → List Ins → Type 0
-IsTurn f count list = (actions : List Action) × AreActions (patterns_in f) f.vars count f.insns actions × (list ≡ turn_code (plan_with f actions) count)
+IsTurn f count list =
+    (at : List ℕ) × GoodPlaces (steps_of f) at × ((actions : List Action) × AreActions at count (steps_of f) actions × (list ≡ turn_code (plan_with f actions) count))
 
--- ---- instructions whose code can be given for so many elements
+-- ---- steps whose code can be given for so many elements
 
 -- a slot's elements can be moved
-abbrev pub IsMoved : List Var → ℕ → ℕ → Type 0
-IsMoved vars count k = (k < 12) × IsWidth (count * size_of_slot vars k)
+abbrev pub IsMoved : (ℕ → ℕ) → ℕ → ℕ → Type 0
+IsMoved size count k = (k < 12) × IsWidth (count * size k)
 
-abbrev pub IsLoaded : List Var → ℕ → Source → Type 0
-IsLoaded vars count (FromArray k) = IsMoved vars count k
-IsLoaded vars count (FromPattern j) = j < 48
+abbrev pub IsLoaded : (ℕ → ℕ) → ℕ → Source → Type 0
+IsLoaded size count (FromArray k) = IsMoved size count k
+IsLoaded size count (FromPattern j) = j < 48
+IsLoaded size count (FromPlace p) = p < 10
 
-abbrev pub IsStored : List Var → ℕ → Target → Type 0
-IsStored vars count (ToArray k) = IsMoved vars count k
-IsStored vars count (ToSum g) = g < 4
+abbrev pub IsStored : (ℕ → ℕ) → ℕ → Target → Type 0
+IsStored size count (ToArray k) = IsMoved size count k
+IsStored size count (ToSum g) = g < 4
+IsStored size count (ToPlace p) = p < 10
 
-pub record IsReady (patterns : List Pattern) (vars : List Var) (count : ℕ) (insn : Insn) : Type 0 where
-  pub has_rule : HasRule count insn.op
-  pub source : IsLoaded vars count (source_at patterns vars insn.op insn.sources.items 0)
-  pub second_source : length insn.sources.items ≡ 2 → IsLoaded vars count (source_at patterns vars insn.op insn.sources.items 1)
-  pub result : IsStored vars count (target_at vars insn.results.items 0)
-  pub second_result : length insn.results.items ≡ 2 → IsStored vars count (target_at vars insn.results.items 1)
+pub record IsReady (at : List ℕ) (size : ℕ → ℕ) (count : ℕ) (step : Step) : Type 0 where
+  pub has_rule : HasRule count step.op
+  pub sources : Each (IsLoaded size count) (map (source_of at) step.sources.items)
+  pub to : Each (IsStored size count) (map (target_of at) step.results.items)
+  -- results are made in two registers
+  pub apart : first_register (map (target_of at) step.results.items) ≢ second_register (map (target_of at) step.results.items)
