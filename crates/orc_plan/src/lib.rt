@@ -12,6 +12,7 @@ mod copying;
 mod counting;
 mod figures;
 mod items;
+mod laws;
 mod lowering;
 mod placing;
 mod steps;
@@ -19,6 +20,7 @@ mod variables;
 
 pub use counting::{need, widest_need};
 pub use figures::{cost, lanes};
+pub use laws::places_stand;
 pub use lowering::lower;
 pub use placing::place;
 pub use steps::{Core, Item, Placed, Pressure, Step};

@@ -1,0 +1,16 @@
+//! The law of places, as the contract of a function that does nothing.
+
+ghost use Rattle.std.specs.Prelude.{◌≡◌, []};
+ghost use Rattle.orc_program.specs.Checks.{patterns_of};
+ghost use Rattle.orc_plan.specs.Lowered.{steps_of};
+ghost use Rattle.orc_plan.specs.Standing.{AllStand};
+
+use crate::steps::Placed;
+use orc_program::Function;
+
+/// At each instruction of a placed function, a temp that is read stands in its place until it is read for the last time: a result takes the
+/// place of no temp that is read later, and the two results of an instruction take two places, none of them that of a source.
+pub fn places_stand(f: &Function, placed: &Placed)
+    requires { placed.now.core.steps ≡ steps_of f.now }
+    ensures { AllStand f.now.vars (patterns_of f.now.vars f.now.insns) placed.now.places [] f.now.insns }
+{}
