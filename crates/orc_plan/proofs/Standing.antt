@@ -299,11 +299,10 @@ all_stand_after vars known at temps earlier (insn ∷ insns) before same h past 
     let b = both (has_no_fault (insn_fault vars earlier insn)) (all_pass vars (earlier ++ insn ∷ []) insns) a.1 in
     let step = step_of vars known temps insn in
     let later = steps_after vars known (temps ++ made_by vars insn) insns in
-    let all = reads_made vars earlier insn.op insn.prefix 0 insn.sources.items (sources_pass vars earlier insn b.0) in
-    (
+    let all = reads_made vars earlier insn.op insn.prefix 0 insn.sources.items (sources_pass vars earlier insn b.0) in (
       stand_at vars known at temps insn insns before past good (λ x r. ap (is_in x) same ∙ of_all (λ t. is_in t (temps_made vars earlier)) (read_by vars insn) x all r),
       all_stand_after vars known at (temps ++ made_by vars insn) (earlier ++ insn ∷ []) insns (before ++ step ∷ []) (ap (λ (ts : List ℕ). ts ++ made_by vars insn) same ∙ sym (one_more vars earlier insn)) b.1
-        (makes_more vars known at temps insn insns before past) (subst (λ (ss : List Step). GoodPlaces ss at) (sym (append_assoc before (step ∷ []) later)) good),
+          (makes_more vars known at temps insn insns before past) (subst (λ (ss : List Step). GoodPlaces ss at) (sym (append_assoc before (step ∷ []) later)) good),
     )
 
 -- at each instruction of a function
