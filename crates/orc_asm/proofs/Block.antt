@@ -1,23 +1,27 @@
 -- Blocks of actions do so many elements at once as emulation does them one by one.
-use Rattle.std.proofs.Common.{◌≡◌, ◌≢◌, ℕ, suc, ◌+◌, ◌*◌, ◌%◌, ◌^◌, ◌<◌, ◌≤◌, Bool, true, false, max, if◌then◌else◌, List, [], ◌∷◌, ◌++◌, get_or, Some, is_some, refl, sym, ap, ap₂, ◌∙◌, subst, arith, le_trans}
+use Rattle.std.proofs.Common.{◌≡◌, ◌≢◌, ℕ, suc, ◌+◌, ◌*◌, ◌%◌, ◌^◌, ◌<◌, ◌≤◌, Bool, true, false, max, if◌then◌else◌, List, [], ◌∷◌, ◌++◌, get_or, Some, is_some, refl, sym, ap, ap₂, ◌∙◌, subst, arith, le_trans, map, ⊎_elim}
+use Rattle.std.proofs.lemmas.Bool.{cases_eq}
 use Rattle.std.proofs.Math.Nat.{le-max_left, le-max_right, mul-le-mul_left, mul-le-mul_right, mod-eq_of_lt, mod-mod}
 use Rattle.orc_bits.specs.Numbers.{cut}
-use Rattle.orc_bits.specs.Lanes.{lane, AreBytes}
+use Rattle.orc_bits.specs.Lanes.{lane, from_lanes, AreBytes, change}
 use Rattle.orc_bits.specs.Memory.{Memory, IsMapped}
-use Rattle.orc_bits.proofs.LaneLaws.{lane_of_digits}
+use Rattle.orc_bits.proofs.LaneLaws.{lane_of_digits, lane_one, lane-from_lanes, change_other, change_same}
 use Rattle.orc_bits.proofs.Memories.{or_else}
 use Rattle.orc_ops.specs.declared.opcode.Op.{Op}
 use Rattle.orc_ops.specs.Table.{row, wide, to, size_of_result, size_of_source}
 use Rattle.orc_ops.specs.Stems.{apply}
 use Rattle.orc_ops.specs.Formula.{formula, source_of}
 use Rattle.x86_ins.specs.declared.ins.Ins.{Ins}
-use Rattle.x86_ins.specs.declared.ins.Ins.TheVariants.{VecLoad, VecStore}
+use Rattle.x86_ins.specs.declared.ins.Ins.TheVariants.{Vec, VecLoad, VecStore}
 use Rattle.x86_ins.specs.declared.ins.MoveOp.TheVariants.{Movdqu}
-use Rattle.x86_ins.specs.Vectors.{after}
+use Rattle.x86_ins.specs.declared.ins.VecOp.TheVariants.{Movdqa}
+use Rattle.x86_ins.specs.Renaming.{renamed}
+use Rattle.x86_ins.specs.Vectors.{after, all_simd, shape, result_of}
 use Rattle.x86_ins.specs.Machine.{Core, Bounded}
 use Rattle.x86_ins.specs.Spelling.{IsIns}
 use Rattle.x86_ins.specs.Way.{Each}
 use Rattle.x86_ins.proofs.Registers.{registers_after}
+use Rattle.x86_ins.proofs.Renamed.{after_renamed, simd_renamed}
 use Rattle.x86_flow.specs.Moves.{IsWidth, away, load_far_code, store_either_code}
 use Rattle.x86_flow.specs.Does.{Line}
 use Rattle.x86_flow.proofs.Moves.{IsFill, line_append, load_line_at, store_either_line}
@@ -29,12 +33,13 @@ use Rattle.sse_acc.proofs.Totals.{sum_below-same}
 use Rattle.orc_program.specs.Meaning.{sub_lane, pack}
 use Rattle.orc_frame.specs.Layout.{pattern_slot, sum_slot}
 use Rattle.orc_frame.specs.Parts.{InRunning}
-use Rattle.orc_asm.specs.Code.{Action, IsRule, Source, FromArray, FromPattern, Target, ToArray, ToSum, pointer, source_far_code, sources_far_code, sum_code, results_far_code, action_code, action_far_code, actions_far_code}
+use Rattle.orc_asm.specs.Code.{Action, IsRule, Source, FromArray, FromPattern, FromPlace, Target, ToArray, ToSum, ToPlace, pointer, place_register, made_in, first_register, second_register, rule_register, rule_code, source_far_code, sources_far_code, sum_code, result_far_code, results_far_code, action_code, action_far_code, actions_far_code}
+use Rattle.orc_asm.proofs.Homes.{register_0, register_1, register_one, register_place, adds_renamed}
 use Rattle.orc_asm.proofs.Registers.{not_0}
 use Rattle.orc_asm.proofs.Digits.{digit, digit_small, byte_split, byte_within, byte_further}
 use Rattle.orc_asm.proofs.SubLanes.{lane_sub_lane, packed_bytes}
 use Rattle.orc_asm.proofs.Sized.{one_shift, shift_two}
-use Rattle.orc_asm.proofs.Cells.{Numbers, OfDests, Local, given_by, given, results_add, Lanes, Others, AtElements, IsOf, IsTo, IsFrom, IsBeside, AreFrom, AreTo, IsKnown, AllKnown, Separate, Low, set_local, set_results, value_of, local_act, local, adds, store_lanes, store_others}
+use Rattle.orc_asm.proofs.Cells.{Numbers, OfDests, Local, given_by, given, adds_to, results_add, live_target, live_targets, live_act, Lanes, Others, AtElements, IsOf, IsTo, IsFrom, IsBeside, AreFrom, IsMade, IsAdded, AreMade, AreTo, IsKept, IsKnown, AllKnown, Separate, Low, set_local, set_target, set_results, value_of, local_act, local, adds, store_lanes, store_others}
 use Rattle.orc_asm.proofs.Keeping.{line_bounded, each_front, each_back}
 use Rattle.orc_asm.proofs.Frames.{IsFrame, Framed, framed_same, framed_totals, framed_grown, load_slot, store_slot, pattern_lane, same_sum, no_sum, adds_all, sum_both}
 
@@ -42,10 +47,12 @@ use Rattle.orc_asm.proofs.Frames.{IsFrame, Framed, framed_same, framed_totals, f
 abbrev pub IsMovedFrom : ℕ → (ℕ → ℕ) → Source → Type 0
 IsMovedFrom count size (FromArray k) = IsWidth (count * size k)
 IsMovedFrom count size (FromPattern j) = Unit {0}
+IsMovedFrom count size (FromPlace p) = Unit {0}
 
 abbrev pub IsMovedTo : ℕ → (ℕ → ℕ) → Target → Type 0
 IsMovedTo count size (ToArray k) = IsWidth (count * size k)
 IsMovedTo count size (ToSum g) = Unit {0}
+IsMovedTo count size (ToPlace p) = Unit {0}
 
 -- so many elements of the action's slots can be moved at once, and their lanes fit into a register
 pub record IsFit (count : ℕ) (size : ℕ → ℕ) (a : Action) : Type 0 where
@@ -66,6 +73,14 @@ no_lane x n q e = ap (λ w. lane w q x) e ∙ lane_of_digits x 0 q 0 (λ k l. ab
 
 second_is : (op : Op) (q : ℕ) (x : ℕ → List ℕ) → is_shift (row op).kind ≡ false → second_of op q x ≡ lane (size_of_source op 1) q (x 1)
 second_is op q x e = ap (λ b. if b then lane 8 0 (x 1) else lane (size_of_source op 1) q (x 1)) e
+
+-- a copy has the register's bytes
+copied_byte : (x y : List ℕ) → AreBytes y → (j : ℕ) → j < 16 → get_or (result_of (shape Movdqa) x y) j 0 ≡ get_or y j 0
+copied_byte x y bytes j l =
+    let z = result_of (shape Movdqa) x y in
+    let there : lane 1 j z ≡ lane 1 j y % 256 ^ 1 = lane-from_lanes 1 (λ q. lane 1 q y) j (omega arith) (omega (arith, l)) in
+    let small = bytes j in
+    sym (lane_one j z) ∙ there ∙ ap (λ v. v % 256 ^ 1) (lane_one j y) ∙ mod-eq_of_lt small
 
 -- ---- a formula cuts its sources
 
@@ -129,10 +144,18 @@ module _ (n : ℕ) (base size : ℕ → ℕ) (P : ℕ → Type 0) (numbers : Num
   abbrev pub Points : ℕ → (ℕ → ℕ) → Type 0
   Points i gpr = (k : ℕ) → P k → 0 < size k → (gpr (pointer k) + far k ≡ base k + i * size k) × (aligned k ≡ true → (count * size k ≡ 16) × ((base k + i * size k) % 16 ≡ 0))
 
+  -- at a place stands a value of so many bytes an element, of each of the elements
+  abbrev pub StandsAt : (ℕ → ℕ) → (ℕ → Local) → (ℕ → List ℕ) → ℕ → Type 0
+  StandsAt live sig x p = (q : ℕ) → q < count → (r : ℕ) → r < live p → get_or (x (place_register p)) (q * live p + r) 0 ≡ digit ((sig q).values p) r
+
+  abbrev pub Standing : (ℕ → ℕ) → (ℕ → Local) → (ℕ → List ℕ) → Type 0
+  Standing live sig x = (p : ℕ) → p < 10 → StandsAt live sig x p
+
   -- what a block leaves
-  pub record After (i : ℕ) (c d : Core) (first : Memory) (sig : ℕ → Local) (totals : ℕ → ℕ) : Type 0 where
+  pub record After (i : ℕ) (c d : Core) (first : Memory) (live : ℕ → ℕ) (sig : ℕ → Local) (totals : ℕ → ℕ) : Type 0 where
     pub gpr : (r : ℕ) → r ≢ 0 → d.gpr r ≡ c.gpr r
     pub lanes : Lanes n base size P i count d.memory sig
+    pub standing : Standing live sig d.xmm
     pub framed : Framed numbers rsp d.memory totals
     pub others : Rest i first d.memory
     pub bounded : Bounded d
@@ -141,20 +164,20 @@ module _ (n : ℕ) (base size : ℕ → ℕ) (P : ℕ → Type 0) (numbers : Num
   near i k b o w = let l = low k o.array i (omega (arith, w, some)) 0 o.some in omega (arith, l)
 
   -- a byte of these elements, by its distance from the first
-  byte_at : (i k b : ℕ) (mem : Memory) (sig : ℕ → Local) → IsOf n base size P k b → Lanes n base size P i count mem sig → (q r : ℕ) → q < count → r < size k → mem (base k + i * size k + (q * size k + r)) ≡ Some (digit (sig q k) r)
+  byte_at : (i k b : ℕ) (mem : Memory) (sig : ℕ → Local) → IsOf n base size P k b → Lanes n base size P i count mem sig → (q r : ℕ) → q < count → r < size k → mem (base k + i * size k + (q * size k + r)) ≡ Some (digit ((sig q).cells k) r)
   byte_at i k b mem sig o h q r l lr = ap mem (sym (byte_further (base k) i q (size k) r)) ∙ h k o.array q l r lr
 
   each_byte : (i k b : ℕ) (mem : Memory) (sig : ℕ → Local) → IsOf n base size P k b → Lanes n base size P i count mem sig → (j : ℕ) → j < count * size k → (v : ℕ) × (v < 256) × (mem (base k + i * size k + j) ≡ Some v)
   each_byte i k b mem sig o h j l =
       let x = byte_split (size k) count j l in
-      (digit (sig x.0 k) x.1, digit_small (sig x.0 k) x.1, ap (λ t. mem (base k + i * size k + t)) x.4 ∙ byte_at i k b mem sig o h x.0 x.1 x.2 x.3)
+      (digit ((sig x.0).cells k) x.1, digit_small ((sig x.0).cells k) x.1, ap (λ t. mem (base k + i * size k + t)) x.4 ∙ byte_at i k b mem sig o h x.0 x.1 x.2 x.3)
 
   -- what a load leaves: sub-lanes of w bytes, `prefix` of them for each element
   record Got (k w prefix x : ℕ) (sig : ℕ → Local) (c d : Core) : Type 0 where
     memory : d.memory ≡ c.memory
     gpr : (r : ℕ) → r ≢ 0 → d.gpr r ≡ c.gpr r
     others : (y : ℕ) → y ≢ x → d.xmm y ≡ c.xmm y
-    lanes : AreBytes (d.xmm x) → (q : ℕ) → q < count → (p : ℕ) → p < prefix → lane w (q * prefix + p) (d.xmm x) ≡ sub_lane (8 * w) (sig q k) p
+    lanes : AreBytes (d.xmm x) → (q : ℕ) → q < count → (p : ℕ) → p < prefix → lane w (q * prefix + p) (d.xmm x) ≡ sub_lane (8 * w) ((sig q).cells k) p
 
   load_cells : (i k w prefix x : ℕ) (c : Core) (sig : ℕ → Local) → IsOf n base size P k (w * prefix) → IsWidth (count * size k) → i + count ≤ n → Points i c.gpr → Lanes n base size P i count c.memory sig → Stays c
       → (d : Core) × Line Q (load_far_code (count * size k) x (pointer k) (far k)) c d × Got k w prefix x sig c d
@@ -168,10 +191,10 @@ module _ (n : ℕ) (base size : ℕ → ℕ) (P : ℕ → Type 0) (numbers : Num
       let l = load_line_at Q c (count * size k) x (pointer k) (far k) p z (λ u ins m g t. stays u ins m g) wide (at k o.array o.some).0 (near i k b o fits) there (λ two. small 0 (omega (arith, two))) in
       let d = l.0 in
       let g = l.2 in
-      let digits : AreBytes (d.xmm x) → (q : ℕ) → q < count → (r : ℕ) → r < size k → get_or (d.xmm x) (q * size k + r) 0 ≡ digit (sig q k) r = λ bytes q lq r lr.
+      let digits : AreBytes (d.xmm x) → (q : ℕ) → q < count → (r : ℕ) → r < size k → get_or (d.xmm x) (q * size k + r) 0 ≡ digit ((sig q).cells k) r = λ bytes q lq r lr.
       let j = q * size k + r in
       let lj = byte_within q count (size k) r lq lr in
-      let is : z j ≡ digit (sig q k) r = ap (or_else 0) (byte_at i k b c.memory sig o h q r lq lr) in
+      let is : z j ≡ digit ((sig q).cells k) r = ap (or_else 0) (byte_at i k b c.memory sig o h q r lq lr) in
       let full : get_or (d.xmm x) j 0 ≡ get_or (d.xmm x) j 0 % 256 = sym (mod-eq_of_lt (bytes j)) in
       let cut : z j % 256 ≡ z j = mod-eq_of_lt (small j lj) in
       full ∙ g.bytes j lj ∙ cut ∙ is in (
@@ -181,14 +204,38 @@ module _ (n : ℕ) (base size : ℕ → ℕ) (P : ℕ → Type 0) (numbers : Num
           memory = g.memory;
           gpr = g.gpr;
           others = g.others;
-          lanes = λ bytes q lq. lane_sub_lane (d.xmm x) w prefix q (sig q k) (subst (λ s. (r : ℕ) → r < s → get_or (d.xmm x) (q * s + r) 0 ≡ digit (sig q k) r) o.bytes_are (digits bytes q lq));
+          lanes = λ bytes q lq. lane_sub_lane (d.xmm x) w prefix q ((sig q).cells k) (subst (λ s. (r : ℕ) → r < s → get_or (d.xmm x) (q * s + r) 0 ≡ digit ((sig q).cells k) r) o.bytes_are (digits bytes q lq));
         },
       )
 
   -- what a source leaves in a register: its sub-lanes, or a pattern's bytes
   abbrev InRegister : ℕ → ℕ → (ℕ → Local) → Source → List ℕ → Type 0
-  InRegister w prefix sig (FromArray k) x = (q : ℕ) → q < count → (p : ℕ) → p < prefix → lane w (q * prefix + p) x ≡ sub_lane (8 * w) (sig q k) p
+  InRegister w prefix sig (FromArray k) x = (q : ℕ) → q < count → (p : ℕ) → p < prefix → lane w (q * prefix + p) x ≡ sub_lane (8 * w) ((sig q).cells k) p
   InRegister w prefix sig (FromPattern j) x = (b : ℕ) → b < 16 → get_or x b 0 ≡ digit (numbers.number j) (b % numbers.period j)
+  InRegister w prefix sig (FromPlace k) x = (q : ℕ) → q < count → (p : ℕ) → p < prefix → lane w (q * prefix + p) x ≡ sub_lane (8 * w) ((sig q).values k) p
+
+  -- what a source at a place is loaded from
+  abbrev IsThere : (ℕ → ℕ) → (ℕ → Local) → (ℕ → List ℕ) → Source → Type 0
+  IsThere live sig x (FromArray k) = Unit {0}
+  IsThere live sig x (FromPattern j) = Unit {0}
+  IsThere live sig x (FromPlace p) = StandsAt live sig x p
+
+  is_there : (live : ℕ → ℕ) (sig : ℕ → Local) (x : ℕ → List ℕ) (w prefix : ℕ) (s : Source) → IsFrom n base size P numbers live w prefix s → Standing live sig x → IsThere live sig x s
+  is_there live sig x w prefix (FromArray k) o stand = tt
+  is_there live sig x w prefix (FromPattern j) o stand = tt
+  is_there live sig x w prefix (FromPlace p) o stand = stand p o.0
+
+  -- the elements of a value fit into a register
+  abbrev HasRoom : ℕ → ℕ → Source → Type 0
+  HasRoom w prefix (FromArray k) = Unit {0}
+  HasRoom w prefix (FromPattern j) = Unit {0}
+  HasRoom w prefix (FromPlace p) = count * (w * prefix) ≤ 16
+
+  -- it stays where another register was loaded
+  there_still : (live : ℕ → ℕ) (sig : ℕ → Local) (x y : ℕ → List ℕ) (a b : ℕ) (s : Source) (ts : List Target) → a ≡ first_register ts → IsKept n base size P numbers ts s → ((z : ℕ) → z ≢ a → y z ≡ x z) → IsThere live sig x s → IsThere live sig y s
+  there_still live sig x y a b (FromArray k) ts e kept same h = tt
+  there_still live sig x y a b (FromPattern j) ts e kept same h = tt
+  there_still live sig x y a b (FromPlace p) ts e kept same h q l r lr = ap (λ v. get_or v (q * live p + r) 0) (same (place_register p) (λ z. kept.0 (sym e ∙ sym z))) ∙ h q l r lr
 
   record GotFrom (s : Source) (w prefix x : ℕ) (sig : ℕ → Local) (c d : Core) : Type 0 where
     memory : d.memory ≡ c.memory
@@ -196,31 +243,50 @@ module _ (n : ℕ) (base size : ℕ → ℕ) (P : ℕ → Type 0) (numbers : Num
     others : (y : ℕ) → y ≢ x → d.xmm y ≡ c.xmm y
     lanes : AreBytes (d.xmm x) → InRegister w prefix sig s (d.xmm x)
 
-  load_source : (i : ℕ) (s : Source) (w prefix x : ℕ) (c : Core) (sig : ℕ → Local) (totals : ℕ → ℕ) → IsFrom n base size P numbers w prefix s → IsMovedFrom count size s → i + count ≤ n → Points i c.gpr → c.gpr 4 ≡ rsp
-      → Lanes n base size P i count c.memory sig → Framed numbers rsp c.memory totals → Stays c → (d : Core) × Line Q (source_far_code count size far x s) c d × GotFrom s w prefix x sig c d
-  load_source i (FromArray k) w prefix x c sig totals o wide fits at stack h framed stays =
+  load_source : (i : ℕ) (s : Source) (w prefix x : ℕ) (c : Core) (live : ℕ → ℕ) (sig : ℕ → Local) (totals : ℕ → ℕ) → IsFrom n base size P numbers live w prefix s → IsMovedFrom count size s → i + count ≤ n → Points i c.gpr → c.gpr 4 ≡ rsp
+      → Lanes n base size P i count c.memory sig → Framed numbers rsp c.memory totals → IsThere live sig c.xmm s → HasRoom w prefix s → Bounded c → Stays c → (d : Core) × Line Q (source_far_code count size far x s) c d × GotFrom s w prefix x sig c d
+  load_source i (FromArray k) w prefix x c live sig totals o wide fits at stack h framed there room bound stays =
       let l = load_cells i k w prefix x c sig o wide fits at h stays in
       (l.0, l.1, record { memory = l.2.memory; gpr = l.2.gpr; others = l.2.others; lanes = l.2.lanes })
-  load_source i (FromPattern j) w prefix x c sig totals o wide fits at stack h framed stays =
+  load_source i (FromPattern j) w prefix x c live sig totals o wide fits at stack h framed there room bound stays =
       let l = load_slot c x rsp (pattern_slot j) (λ b. digit (numbers.number j) (b % numbers.period j)) stack (omega (arith, ground.frame.low, ground.frame.few_patterns, o.0)) (framed.patterns j o.0) in (
         l.0,
         (stays c _ refl (λ r ne. refl), (l.0, l.1, refl)),
         record { memory = l.2.memory; gpr = λ r ne. ap (λ f. f r) l.2.gpr; others = l.2.others; lanes = λ bytes. l.2.bytes },
       )
+  load_source i (FromPlace p) w prefix x c live sig totals o wide fits at stack h framed there room bound stays =
+      let y = place_register p in
+      let new = result_of (shape Movdqa) (c.xmm x) (c.xmm y) in
+      let d : Core = with_lanes c (change c.xmm x new) in
+      let byte : (q : ℕ) → q < count → (r : ℕ) → r < w * prefix → get_or (d.xmm x) (q * (w * prefix) + r) 0 ≡ digit ((sig q).values p) r = λ q lq r lr.
+      ap (λ v. get_or v (q * (w * prefix) + r) 0) (change_same c.xmm x new)
+      ∙ copied_byte (c.xmm x) (c.xmm y) (bound.xmm y) (q * (w * prefix) + r) (let within = byte_within q count (w * prefix) r lq lr in omega (arith, within, room))
+      ∙ subst (λ s. (r : ℕ) → r < s → get_or (c.xmm y) (q * s + r) 0 ≡ digit ((sig q).values p) r) o.1 (there q lq) r lr in (
+        d,
+        (stays c _ refl (λ r ne. refl), (d, refl, refl)),
+        record {
+          memory = refl;
+          gpr = λ r ne. refl;
+          others = λ z ne. change_other c.xmm x new z ne;
+          lanes = λ bytes q lq. lane_sub_lane (d.xmm x) w prefix q ((sig q).values p) (byte q lq);
+        },
+      )
 
   -- the first source of a lane
-  first_value : (op : Op) (prefix : ℕ) (s : Source) (sig : ℕ → Local) (x : List ℕ) → IsFrom n base size P numbers (size_of_source op 0) prefix s → InRegister (size_of_source op 0) prefix sig s x
+  first_value : (op : Op) (prefix : ℕ) (s : Source) (live : ℕ → ℕ) (sig : ℕ → Local) (x : List ℕ) → IsFrom n base size P numbers live (size_of_source op 0) prefix s → InRegister (size_of_source op 0) prefix sig s x
       → (q : ℕ) → q < count → (p : ℕ) → p < prefix → (q * prefix + p) * widest op + widest op ≤ 16 → (b : ℕ) → formula op (lane (size_of_source op 0) (q * prefix + p) x) b ≡ formula op (given_by numbers.number (size_of_source op 0) (sig q) s p) b
-  first_value op prefix (FromArray k) sig x o h q l p lp fits b = ap (λ v. formula op v b) (h q l p lp)
-  first_value op prefix (FromPattern j) sig x o h q l p lp fits b =
+  first_value op prefix (FromArray k) live sig x o h q l p lp fits b = ap (λ v. formula op v b) (h q l p lp)
+  first_value op prefix (FromPlace k) live sig x o h q l p lp fits b = ap (λ v. formula op v b) (h q l p lp)
+  first_value op prefix (FromPattern j) live sig x o h q l p lp fits b =
       ap (λ v. formula op v b) (pattern_lane x (size_of_source op 0) (numbers.number j) (q * prefix + p) (λ k lk. h k lk ∙ ap (λ w. digit (numbers.number j) (k % w)) o.1) (narrower (q * prefix + p) (size_of_source op 0) (widest op) (first_width op) fits))
       ∙ formula_first op (numbers.number j) b
 
   -- and the second, or the count
-  second_value : (op : Op) (prefix : ℕ) (s : Source) (sig : ℕ → Local) (x : ℕ → List ℕ) → IsFrom n base size P numbers (size_of_source op 1) prefix s → IsBeside n base size P numbers op s → InRegister (size_of_source op 1) prefix sig s (x 1)
+  second_value : (op : Op) (prefix : ℕ) (s : Source) (live : ℕ → ℕ) (sig : ℕ → Local) (x : ℕ → List ℕ) → IsFrom n base size P numbers live (size_of_source op 1) prefix s → IsBeside n base size P numbers op s → InRegister (size_of_source op 1) prefix sig s (x 1)
       → (q : ℕ) → q < count → (p : ℕ) → p < prefix → (q * prefix + p) * widest op + widest op ≤ 16 → (a : ℕ) → formula op a (second_of op (q * prefix + p) x) ≡ formula op a (given_by numbers.number (size_of_source op 1) (sig q) s p)
-  second_value op prefix (FromArray k) sig x o plain h q l p lp fits a = ap (formula op a) (second_is op (q * prefix + p) x plain ∙ h q l p lp)
-  second_value op prefix (FromPattern j) sig x o plain h q l p lp fits a = go (is_shift (row op).kind) refl
+  second_value op prefix (FromArray k) live sig x o plain h q l p lp fits a = ap (formula op a) (second_is op (q * prefix + p) x plain ∙ h q l p lp)
+  second_value op prefix (FromPlace k) live sig x o plain h q l p lp fits a = ap (formula op a) (second_is op (q * prefix + p) x plain ∙ h q l p lp)
+  second_value op prefix (FromPattern j) live sig x o plain h q l p lp fits a = go (is_shift (row op).kind) refl
     where
       bytes : (k : ℕ) → k < 16 → get_or (x 1) k 0 ≡ digit (numbers.number j) (k % size_of_source op 1)
       bytes k lk = h k lk ∙ ap (λ w. digit (numbers.number j) (k % w)) o.1
@@ -246,53 +312,77 @@ module _ (n : ℕ) (base size : ℕ → ℕ) (P : ℕ → Type 0) (numbers : Num
   abbrev Fits : Op → ℕ → Type 0
   Fits op prefix = (q : ℕ) → q < count → (p : ℕ) → p < prefix → (q * prefix + p) * widest op + widest op ≤ 16
 
-  -- what the loads of an action's sources leave
-  record Read (op : Op) (prefix : ℕ) (ss : List Source) (sig : ℕ → Local) (c d : Core) : Type 0 where
+  -- what the loads of an action's sources to registers a and b leave
+  record Read (op : Op) (prefix : ℕ) (ss : List Source) (sig : ℕ → Local) (a b : ℕ) (c d : Core) : Type 0 where
     memory : d.memory ≡ c.memory
     gpr : (r : ℕ) → r ≢ 0 → d.gpr r ≡ c.gpr r
+    others : (y : ℕ) → y ≢ a → y ≢ b → d.xmm y ≡ c.xmm y
     bounded : Bounded d
-    value : Values op prefix ss sig d.xmm
+    value : (x : ℕ → List ℕ) → x 0 ≡ d.xmm a → x 1 ≡ d.xmm b → Values op prefix ss sig x
 
-  sources_line : (i : ℕ) (op : Op) (prefix : ℕ) (ss : List Source) (c : Core) (sig : ℕ → Local) (totals : ℕ → ℕ) → AreFrom n base size P numbers op prefix ss → Fits op prefix → Each (IsMovedFrom count size) ss → Each IsIns (sources_far_code count size far ss) → i + count ≤ n
-      → Points i c.gpr → c.gpr 4 ≡ rsp → Lanes n base size P i count c.memory sig → Framed numbers rsp c.memory totals → Bounded c → Stays c → (d : Core) × Line Q (sources_far_code count size far ss) c d × Read op prefix ss sig c d
-  sources_line i op prefix [] c sig totals known fits wide ins w at stack h framed bound stays = absurd known
-  sources_line i op prefix (s ∷ []) c sig totals known fits wide ins w at stack h framed bound stays =
-      let x = load_source i s (size_of_source op 0) prefix 0 c sig totals known.0 wide.0 w at stack h framed stays in
+  -- the elements of sources fit into a register
+  record Room (op : Op) (prefix : ℕ) : Type 0 where
+    first : count * (size_of_source op 0 * prefix) ≤ 16
+    second : is_shift (row op).kind ≡ false → count * (size_of_source op 1 * prefix) ≤ 16
+
+  first_room : (op : Op) (prefix : ℕ) (s : Source) → Room op prefix → HasRoom (size_of_source op 0) prefix s
+  first_room op prefix (FromArray k) room = tt
+  first_room op prefix (FromPattern j) room = tt
+  first_room op prefix (FromPlace p) room = room.first
+
+  second_room : (op : Op) (prefix : ℕ) (s : Source) → IsBeside n base size P numbers op s → Room op prefix → HasRoom (size_of_source op 1) prefix s
+  second_room op prefix (FromArray k) plain room = tt
+  second_room op prefix (FromPattern j) plain room = tt
+  second_room op prefix (FromPlace p) plain room = room.second plain
+
+  sources_line : (i : ℕ) (op : Op) (prefix : ℕ) (ss : List Source) (ts : List Target) (c : Core) (live : ℕ → ℕ) (sig : ℕ → Local) (totals : ℕ → ℕ) → AreFrom n base size P numbers live op prefix ss → Each (IsKept n base size P numbers ts) ss → first_register ts ≢ second_register ts
+      → Fits op prefix → Room op prefix → Each (IsMovedFrom count size) ss → Each IsIns (sources_far_code count size far (first_register ts) (second_register ts) ss) → i + count ≤ n
+      → Points i c.gpr → c.gpr 4 ≡ rsp → Lanes n base size P i count c.memory sig → Framed numbers rsp c.memory totals → Standing live sig c.xmm → Bounded c → Stays c
+      → (d : Core) × Line Q (sources_far_code count size far (first_register ts) (second_register ts) ss) c d × Read op prefix ss sig (first_register ts) (second_register ts) c d
+  sources_line i op prefix [] ts c live sig totals known kept apart fits room wide ins w at stack h framed stand bound stays = absurd known
+  sources_line i op prefix (s ∷ []) ts c live sig totals known kept apart fits room wide ins w at stack h framed stand bound stays =
+      let a = first_register ts in
+      let x = load_source i s (size_of_source op 0) prefix a c live sig totals known.0 wide.0 w at stack h framed (is_there live sig c.xmm (size_of_source op 0) prefix s known.0 stand) (first_room op prefix s room) bound stays in
       let d = x.0 in
-      let b = line_bounded Q (source_far_code count size far 0 s) c d ins x.1 bound in (
+      let b = line_bounded Q (source_far_code count size far a s) c d ins x.1 bound in (
         d,
         x.1,
         record {
           memory = x.2.memory;
           gpr = x.2.gpr;
+          others = λ y na nb. x.2.others y na;
           bounded = b;
-          value = λ q l p lp.
-              ap (formula op (lane (size_of_source op 0) (q * prefix + p) (d.xmm 0))) (second_is op (q * prefix + p) d.xmm (one_shift op known.1) ∙ no_lane (d.xmm 1) (size_of_source op 1) (q * prefix + p) known.1)
-              ∙ first_value op prefix s sig (d.xmm 0) known.0 (x.2.lanes (b.xmm 0)) q l p lp (fits q l p lp) 0;
+          value = λ v e0 e1 q l p lp.
+              ap (formula op (lane (size_of_source op 0) (q * prefix + p) (v 0))) (second_is op (q * prefix + p) v (one_shift op known.1) ∙ no_lane (v 1) (size_of_source op 1) (q * prefix + p) known.1)
+              ∙ first_value op prefix s live sig (v 0) known.0 (subst (InRegister (size_of_source op 0) prefix sig s) (sym e0) (x.2.lanes (b.xmm a))) q l p lp (fits q l p lp) 0;
         },
       )
-  sources_line i op prefix (s ∷ t ∷ more) c sig totals known fits wide ins w at stack h framed bound stays =
-      let one = source_far_code count size far 0 s in
-      let two = source_far_code count size far 1 t in
-      let x = load_source i s (size_of_source op 0) prefix 0 c sig totals known.0 wide.0 w at stack h framed stays in
+  sources_line i op prefix (s ∷ t ∷ more) ts c live sig totals known kept apart fits room wide ins w at stack h framed stand bound stays =
+      let a = first_register ts in
+      let e = second_register ts in
+      let one = source_far_code count size far a s in
+      let two = source_far_code count size far e t in
+      let x = load_source i s (size_of_source op 0) prefix a c live sig totals known.0 wide.0 w at stack h framed (is_there live sig c.xmm (size_of_source op 0) prefix s known.0 stand) (first_room op prefix s room) bound stays in
       let b = x.0 in
       let at' : Points i b.gpr = λ j hj s. (ap (λ y. y + far j) (x.2.gpr (pointer j) (not_0 j)) ∙ (at j hj s).0, (at j hj s).1) in
       let h' : Lanes n base size P i count b.memory sig = λ j hj q l r lr. ap (λ f. f (base j + (i + q) * size j + r)) x.2.memory ∙ h j hj q l r lr in
-      let y = load_source i t (size_of_source op 1) prefix 1 b sig totals known.1 wide.1.0 w at' (x.2.gpr 4 (λ e. omega (arith, e)) ∙ stack) h' (subst (λ m. Framed numbers rsp m totals) (sym x.2.memory) framed) (λ u i m g. stays u i (m ∙ x.2.memory) (λ r ne. g r ne ∙ x.2.gpr r ne)) in
+      let there : IsThere live sig b.xmm t = there_still live sig c.xmm b.xmm a e t ts refl kept.1.0 (λ z ne. x.2.others z ne) (is_there live sig c.xmm (size_of_source op 1) prefix t known.1 stand) in
+      let y = load_source i t (size_of_source op 1) prefix e b live sig totals known.1 wide.1.0 w at' (x.2.gpr 4 (λ e. omega (arith, e)) ∙ stack) h' (subst (λ m. Framed numbers rsp m totals) (sym x.2.memory) framed) there (second_room op prefix t known.2 room) (line_bounded Q one c b (each_front IsIns one two ins) x.1 bound) (λ u i m g. stays u i (m ∙ x.2.memory) (λ r ne. g r ne ∙ x.2.gpr r ne)) in
       let d = y.0 in
       let line : Line Q (one ++ two) c d = line_append Q one two c b d x.1 y.1 in
       let bd = line_bounded Q (one ++ two) c d ins line bound in
-      let same : d.xmm 0 ≡ b.xmm 0 = y.2.others 0 (λ e. omega (arith, e)) in
-      let first : InRegister (size_of_source op 0) prefix sig s (d.xmm 0) = subst (InRegister (size_of_source op 0) prefix sig s) (sym same) (x.2.lanes (subst AreBytes same (bd.xmm 0))) in (
+      let same : d.xmm a ≡ b.xmm a = y.2.others a apart in
+      let first : InRegister (size_of_source op 0) prefix sig s (d.xmm a) = subst (InRegister (size_of_source op 0) prefix sig s) (sym same) (x.2.lanes (subst AreBytes same (bd.xmm a))) in (
         d,
         line,
         record {
           memory = y.2.memory ∙ x.2.memory;
           gpr = λ r ne. y.2.gpr r ne ∙ x.2.gpr r ne;
+          others = λ z na nb. y.2.others z nb ∙ x.2.others z na;
           bounded = bd;
-          value = λ q l p lp.
-              second_value op prefix t sig d.xmm known.1 known.2 (y.2.lanes (bd.xmm 1)) q l p lp (fits q l p lp) (lane (size_of_source op 0) (q * prefix + p) (d.xmm 0))
-              ∙ first_value op prefix s sig (d.xmm 0) known.0 first q l p lp (fits q l p lp) (given_by numbers.number (size_of_source op 1) (sig q) t p);
+          value = λ v e0 e1 q l p lp.
+              second_value op prefix t live sig v known.1 known.2 (subst (InRegister (size_of_source op 1) prefix sig t) (sym e1) (y.2.lanes (bd.xmm e))) q l p lp (fits q l p lp) (lane (size_of_source op 0) (q * prefix + p) (v 0))
+              ∙ first_value op prefix s live sig (v 0) known.0 (subst (InRegister (size_of_source op 0) prefix sig s) (sym e0) first) q l p lp (fits q l p lp) (given_by numbers.number (size_of_source op 1) (sig q) t p);
         },
       )
 
@@ -326,19 +416,20 @@ module _ (n : ℕ) (base size : ℕ → ℕ) (P : ℕ → Type 0) (numbers : Num
         },
       )
 
-  -- the registers hold these numbers
-  record Holds (op : Op) (prefix : ℕ) (g : ℕ → ℕ → ℕ × ℕ) (x : ℕ → List ℕ) : Type 0 where
+  -- registers a and b hold these numbers
+  record Holds (op : Op) (prefix : ℕ) (g : ℕ → ℕ → ℕ × ℕ) (x : ℕ → List ℕ) (a b : ℕ) : Type 0 where
     bytes : (r : ℕ) → AreBytes (x r)
-    first : (q : ℕ) → q < count → (p : ℕ) → p < prefix → lane (size_of_result op 0) (q * prefix + p) (x 0) ≡ (g q p).0
-    second : (q : ℕ) → q < count → (p : ℕ) → p < prefix → lane (size_of_result op 1) (q * prefix + p) (x 1) ≡ (g q p).1
+    first : (q : ℕ) → q < count → (p : ℕ) → p < prefix → lane (size_of_result op 0) (q * prefix + p) (x a) ≡ (g q p).0
+    second : (q : ℕ) → q < count → (p : ℕ) → p < prefix → lane (size_of_result op 1) (q * prefix + p) (x b) ≡ (g q p).1
 
   abbrev packed : Op → ℕ → (ℕ → ℕ × ℕ) → ℕ × ℕ
   packed op prefix g = (pack (8 * size_of_result op 0) prefix (λ p. (g p).0), pack (8 * size_of_result op 1) prefix (λ p. (g p).1))
 
   -- what the rule and the stores of an action leave
-  record Wrote (i : ℕ) (ts : List Target) (v : ℕ → ℕ × ℕ) (sig : ℕ → Local) (totals : ℕ → ℕ) (first : Memory) (c d : Core) : Type 0 where
+  record Wrote (i : ℕ) (op : Op) (prefix : ℕ) (ts : List Target) (v : ℕ → ℕ × ℕ) (live : ℕ → ℕ) (sig : ℕ → Local) (totals : ℕ → ℕ) (first : Memory) (c d : Core) : Type 0 where
     gpr : (r : ℕ) → r ≢ 0 → d.gpr r ≡ c.gpr r
     lanes : Lanes n base size P i count d.memory (λ q. set_results n base size P (sig q) ts (v q))
+    standing : Standing (live_targets live op prefix ts) (λ q. set_results n base size P (sig q) ts (v q)) d.xmm
     framed : Framed numbers rsp d.memory (λ g. totals g + sum_below count (λ q. results_add ts (v q) g))
     others : Rest i first d.memory
 
@@ -356,56 +447,143 @@ module _ (n : ℕ) (base size : ℕ → ℕ) (P : ℕ → Type 0) (numbers : Num
   nothing_added : (totals : ℕ → ℕ) (mem : Memory) (g : ℕ → ℕ → ℕ) → ((q h : ℕ) → g q h ≡ 0) → Framed numbers rsp mem totals → Framed numbers rsp mem (λ h. totals h + sum_below count (λ q. g q h))
   nothing_added totals mem g none = framed_totals numbers rsp mem totals (λ h. totals h + sum_below count (λ q. g q h)) (λ h. let e = sum_below-same count (λ q. g q h) (λ q. 0) (λ q l. none q h) ∙ no_sum count in omega (arith, e))
 
-  arrays_line : (i : ℕ) (op : Op) (prefix : ℕ) (g : ℕ → ℕ → ℕ × ℕ) (k : ℕ) (c : Core) (first : Memory) (sig : ℕ → Local) (totals : ℕ → ℕ) → IsTo n base size P k (size_of_result op 0 * prefix) → IsWidth (count * size k) → i + count ≤ n
-      → Points i c.gpr → Lanes n base size P i count c.memory sig → Framed numbers rsp c.memory totals → Holds op prefix g c.xmm → Rest i first c.memory → Keeps i c.gpr first
-      → (d : Core) × Line Q (store_either_code (aligned k) (count * size k) 0 (pointer k) (far k)) c d × Wrote i (ToArray k ∷ []) (λ q. packed op prefix (g q)) sig totals first c d
-  arrays_line i op prefix g k c first sig totals known wide w at h framed holds o keeps =
-      let x = store_cells i k (size_of_result op 0) prefix 0 (λ q p. (g q p).0) c sig known wide w at h (stay i c c.gpr first (λ r ne. refl) o keeps) (holds.bytes 0) holds.first in (
+  -- ---- results that are no running sums
+
+  -- what one result leaves: cells are stored, and what goes to a place stands there
+  record Result (i : ℕ) (t : Target) (v : ℕ → ℕ) (sig : ℕ → Local) (totals : ℕ → ℕ) (first : Memory) (c d : Core) : Type 0 where
+    gpr : (r : ℕ) → r ≢ 0 → d.gpr r ≡ c.gpr r
+    xmm : d.xmm ≡ c.xmm
+    lanes : Lanes n base size P i count d.memory (λ q. set_target n base size P (sig q) t (v q))
+    framed : Framed numbers rsp d.memory totals
+    others : Rest i first d.memory
+
+  result_line : (i w prefix x : ℕ) (t : Target) (g : ℕ → ℕ → ℕ) (c : Core) (first : Memory) (sig : ℕ → Local) (totals : ℕ → ℕ) → IsMade n base size P numbers (w * prefix) t → IsMovedTo count size t → i + count ≤ n
+      → Points i c.gpr → Lanes n base size P i count c.memory sig → Framed numbers rsp c.memory totals → AreBytes (c.xmm (made_in x t)) → ((q : ℕ) → q < count → (p : ℕ) → p < prefix → lane w (q * prefix + p) (c.xmm (made_in x t)) ≡ g q p) → Rest i first c.memory → Keeps i c.gpr first
+      → (d : Core) × Line Q (result_far_code count size far aligned x t) c d × Result i t (λ q. pack (8 * w) prefix (g q)) sig totals first c d
+  result_line i w prefix x (ToSum k) g c first sig totals known wide fits at h framed bytes lanes o keeps = absurd known
+  result_line i w prefix x (ToPlace p) g c first sig totals known wide fits at h framed bytes lanes o keeps = (c, refl, record { gpr = λ r ne. refl; xmm = refl; lanes = h; framed = framed; others = o })
+  result_line i w prefix x (ToArray k) g c first sig totals known wide fits at h framed bytes lanes o keeps =
+      let s = store_cells i k w prefix x g c sig known wide fits at h (stay i c c.gpr first (λ r ne. refl) o keeps) bytes lanes in (
+        s.0,
+        s.1,
+        record {
+          gpr = s.2.gpr;
+          xmm = s.2.xmm;
+          lanes = s.2.lanes;
+          framed = frame_kept i c.memory s.0.memory totals fits s.2.others framed;
+          others = rest_more i first c.memory s.0.memory o s.2.others;
+        },
+      )
+
+  -- what stands at places after one result, but for places that are left out
+  stands_on : (w prefix x : ℕ) (t : Target) (g : ℕ → ℕ → ℕ) (live : ℕ → ℕ) (sig : ℕ → Local) (r : ℕ → List ℕ) (Out : ℕ → Type 0) → x < 6 → IsMade n base size P numbers (w * prefix) t → AreBytes (r (made_in x t))
+      → ((q : ℕ) → q < count → (p : ℕ) → p < prefix → lane w (q * prefix + p) (r (made_in x t)) ≡ g q p) → ((p : ℕ) → p < 10 → (Out p → ⊥) → made_in x t ≢ place_register p → StandsAt live sig r p)
+      → (p : ℕ) → p < 10 → (Out p → ⊥) → StandsAt (live_target live t (w * prefix)) (λ q. set_target n base size P (sig q) t (pack (8 * w) prefix (g q))) r p
+  stands_on w prefix x (ToSum k) g live sig r Out few known bytes lanes stand p l out = absurd known
+  stands_on w prefix x (ToArray k) g live sig r Out few known bytes lanes stand p l out = stand p l out (λ e. omega (arith, e, few))
+  stands_on w prefix x (ToPlace k) g live sig r Out few known bytes lanes stand p l out = ⊎_elim here there (cases_eq p k)
+    where
+      value : ℕ → ℕ
+      value q = pack (8 * w) prefix (g q)
+
+      Here : ℕ → Type 0
+      Here j = StandsAt (change live k (w * prefix)) (λ q. set_target n base size P (sig q) (ToPlace k) (value q)) r j
+
+      at_place : Here k
+      at_place q lq b lb =
+          let size_is : change live k (w * prefix) k ≡ w * prefix = change_same live k (w * prefix) in
+          ap (λ n. get_or (r (place_register k)) (q * n + b) 0) size_is
+          ∙ packed_bytes (r (place_register k)) bytes w prefix q (g q) (lanes q lq) b (subst (λ n. b < n) size_is lb)
+          ∙ ap (λ v. digit v b) (sym (change_same (sig q).values k (value q)))
+
+      here : p ≡ k → Here p
+      here e = subst Here (sym e) at_place
+
+      there : p ≢ k → Here p
+      there ne q lq b lb =
+          let size_is : change live k (w * prefix) p ≡ live p = change_other live k (w * prefix) p ne in
+          ap (λ n. get_or (r (place_register p)) (q * n + b) 0) size_is
+          ∙ stand p l out (λ e. ne (omega (arith, e))) q lq b (subst (λ n. b < n) size_is lb)
+          ∙ ap (λ v. digit v b) (sym (change_other (sig q).values k (value q) p ne))
+
+  no_sum_added : (bytes : ℕ) (t : Target) (v g : ℕ) → IsMade n base size P numbers bytes t → adds_to t v g ≡ 0
+  no_sum_added bytes (ToArray k) v g known = refl
+  no_sum_added bytes (ToPlace k) v g known = refl
+  no_sum_added bytes (ToSum k) v g known = absurd known
+
+  -- what a rule leaves, before its results are stored: the values at places that have no result
+  abbrev Remains : List Target → (ℕ → ℕ) → (ℕ → Local) → (ℕ → List ℕ) → Type 0
+  Remains ts live sig x = (p : ℕ) → p < 10 → first_register ts ≢ place_register p → second_register ts ≢ place_register p → StandsAt live sig x p
+
+  one_result_line : (i : ℕ) (op : Op) (prefix : ℕ) (g : ℕ → ℕ → ℕ × ℕ) (t : Target) (c : Core) (first : Memory) (live : ℕ → ℕ) (sig : ℕ → Local) (totals : ℕ → ℕ) → IsMade n base size P numbers (size_of_result op 0 * prefix) t → IsMovedTo count size t → i + count ≤ n
+      → Points i c.gpr → Lanes n base size P i count c.memory sig → Framed numbers rsp c.memory totals → Holds op prefix g c.xmm (made_in 0 t) 1 → Remains (t ∷ []) live sig c.xmm → Rest i first c.memory → Keeps i c.gpr first
+      → (d : Core) × Line Q (result_far_code count size far aligned 0 t) c d × Wrote i op prefix (t ∷ []) (λ q. packed op prefix (g q)) live sig totals first c d
+  one_result_line i op prefix g t c first live sig totals known wide w at h framed holds remains o keeps =
+      let x = result_line i (size_of_result op 0) prefix 0 t (λ q p. (g q p).0) c first sig totals known wide w at h framed (holds.bytes (made_in 0 t)) holds.first o keeps in
+      let stand = stands_on (size_of_result op 0) prefix 0 t (λ q p. (g q p).0) live sig c.xmm (λ p. ⊥) (omega arith) known (holds.bytes (made_in 0 t)) holds.first (λ p l out ne. remains p l ne (λ e. omega (arith, e))) in (
         x.0,
         x.1,
         record {
           gpr = x.2.gpr;
           lanes = x.2.lanes;
-          framed = nothing_added totals x.0.memory (λ q h. 0) (λ q h. refl) (frame_kept i c.memory x.0.memory totals w x.2.others framed);
-          others = rest_more i first c.memory x.0.memory o x.2.others;
+          standing = λ p l. subst (λ y. StandsAt (live_target live t (size_of_result op 0 * prefix)) (λ q. set_target n base size P (sig q) t (packed op prefix (g q)).0) y p) (sym x.2.xmm) (stand p l (λ z. z));
+          framed = nothing_added totals x.0.memory (λ q h. adds_to t (packed op prefix (g q)).0 h) (λ q h. no_sum_added (size_of_result op 0 * prefix) t (packed op prefix (g q)).0 h known) x.2.framed;
+          others = x.2.others;
         },
       )
 
-  two_arrays_line : (i : ℕ) (op : Op) (prefix : ℕ) (g : ℕ → ℕ → ℕ × ℕ) (k m : ℕ) (c : Core) (first : Memory) (sig : ℕ → Local) (totals : ℕ → ℕ) → IsTo n base size P k (size_of_result op 0 * prefix) → IsTo n base size P m (size_of_result op 1 * prefix)
-      → IsWidth (count * size k) → IsWidth (count * size m) → i + count ≤ n
-      → Points i c.gpr → Lanes n base size P i count c.memory sig → Framed numbers rsp c.memory totals → Holds op prefix g c.xmm → Rest i first c.memory → Keeps i c.gpr first
-      → (d : Core) × Line Q (store_either_code (aligned k) (count * size k) 0 (pointer k) (far k) ++ store_either_code (aligned m) (count * size m) 1 (pointer m) (far m)) c d × Wrote i (ToArray k ∷ ToArray m ∷ []) (λ q. packed op prefix (g q)) sig totals first c d
-  two_arrays_line i op prefix g k m c first sig totals known known' wide wide' w at h framed holds o keeps =
-      let one = store_either_code (aligned k) (count * size k) 0 (pointer k) (far k) in
-      let two = store_either_code (aligned m) (count * size m) 1 (pointer m) (far m) in
-      let x = store_cells i k (size_of_result op 0) prefix 0 (λ q p. (g q p).0) c sig known wide w at h (stay i c c.gpr first (λ r ne. refl) o keeps) (holds.bytes 0) holds.first in
+  two_results_line : (i : ℕ) (op : Op) (prefix : ℕ) (g : ℕ → ℕ → ℕ × ℕ) (t u : Target) (more : List Target) (c : Core) (first : Memory) (live : ℕ → ℕ) (sig : ℕ → Local) (totals : ℕ → ℕ) → IsMade n base size P numbers (size_of_result op 0 * prefix) t → IsMade n base size P numbers (size_of_result op 1 * prefix) u
+      → made_in 0 t ≢ made_in 1 u → IsMovedTo count size t → IsMovedTo count size u → i + count ≤ n
+      → Points i c.gpr → Lanes n base size P i count c.memory sig → Framed numbers rsp c.memory totals → Holds op prefix g c.xmm (made_in 0 t) (made_in 1 u) → Remains (t ∷ u ∷ more) live sig c.xmm → Rest i first c.memory → Keeps i c.gpr first
+      → (d : Core) × Line Q (result_far_code count size far aligned 0 t ++ result_far_code count size far aligned 1 u) c d × Wrote i op prefix (t ∷ u ∷ more) (λ q. packed op prefix (g q)) live sig totals first c d
+  two_results_line i op prefix g t u more c first live sig totals known known' apart wide wide' w at h framed holds remains o keeps =
+      let one = result_far_code count size far aligned 0 t in
+      let two = result_far_code count size far aligned 1 u in
+      let x = result_line i (size_of_result op 0) prefix 0 t (λ q p. (g q p).0) c first sig totals known wide w at h framed (holds.bytes (made_in 0 t)) holds.first o keeps in
       let b = x.0 in
-      let ob = rest_more i first c.memory b.memory o x.2.others in
-      let same : b.xmm 1 ≡ c.xmm 1 = ap (λ f. f 1) x.2.xmm in
-      let y = store_cells i m (size_of_result op 1) prefix 1 (λ q p. (g q p).1) b (λ q. set_local n base size P (sig q) k (packed op prefix (g q)).0) known' wide' w (λ j hj s. (ap (λ y. y + far j) (x.2.gpr (pointer j) (not_0 j)) ∙ (at j hj s).0, (at j hj s).1)) x.2.lanes (stay i b c.gpr first x.2.gpr ob keeps)
-      (subst AreBytes (sym same) (holds.bytes 1)) (λ q l p lp. ap (lane (size_of_result op 1) (q * prefix + p)) same ∙ holds.second q l p lp) in
-      let d = y.0 in (
+      let same : b.xmm (made_in 1 u) ≡ c.xmm (made_in 1 u) = ap (λ f. f (made_in 1 u)) x.2.xmm in
+      let sig' : ℕ → Local = λ q. set_target n base size P (sig q) t (packed op prefix (g q)).0 in
+      let y = result_line i (size_of_result op 1) prefix 1 u (λ q p. (g q p).1) b first sig' totals known' wide' w (λ j hj s. (ap (λ y. y + far j) (x.2.gpr (pointer j) (not_0 j)) ∙ (at j hj s).0, (at j hj s).1)) x.2.lanes x.2.framed
+      (subst AreBytes (sym same) (holds.bytes (made_in 1 u))) (λ q l p lp. ap (lane (size_of_result op 1) (q * prefix + p)) same ∙ holds.second q l p lp) x.2.others (λ v ins gs m. keeps v ins (λ r ne. gs r ne ∙ x.2.gpr r ne) m) in
+      let d = y.0 in
+      let stand_one = stands_on (size_of_result op 0) prefix 0 t (λ q p. (g q p).0) live sig c.xmm (λ p. made_in 1 u ≡ place_register p) (omega arith) known (holds.bytes (made_in 0 t)) holds.first (λ p l out ne. remains p l ne out) in
+      let stand_two = stands_on (size_of_result op 1) prefix 1 u (λ q p. (g q p).1) (live_target live t (size_of_result op 0 * prefix)) sig' c.xmm (λ p. ⊥) (omega arith) known' (holds.bytes (made_in 1 u)) holds.second (λ p l out ne. stand_one p l ne) in (
         d,
         line_append Q one two c b d x.1 y.1,
         record {
           gpr = λ r ne. y.2.gpr r ne ∙ x.2.gpr r ne;
           lanes = y.2.lanes;
-          framed = nothing_added totals d.memory (λ q h. 0 + 0) (λ q h. omega arith) (frame_kept i b.memory d.memory totals w y.2.others (frame_kept i c.memory b.memory totals w x.2.others framed));
-          others = rest_more i first b.memory d.memory ob y.2.others;
+          standing = λ p l. subst (λ z. StandsAt (live_targets live op prefix (t ∷ u ∷ more)) (λ q. set_results n base size P (sig q) (t ∷ u ∷ more) (packed op prefix (g q))) z p) (sym (y.2.xmm ∙ x.2.xmm)) (stand_two p l (λ z. z));
+          framed = nothing_added totals d.memory (λ q h. adds_to t (packed op prefix (g q)).0 h + adds_to u (packed op prefix (g q)).1 h) (λ q h. let a = no_sum_added (size_of_result op 0 * prefix) t (packed op prefix (g q)).0 h known in let b = no_sum_added (size_of_result op 1 * prefix) u (packed op prefix (g q)).1 h known' in omega (arith, a, b)) y.2.framed;
+          others = y.2.others;
         },
       )
 
-  -- a rule that computes leaves its results
-  computed_line : (op : Op) (prefix : ℕ) (ss : List Source) (rule : List Ins) (c : Core) (sig : ℕ → Local) → Meets op rule → Fits op prefix → Values op prefix ss sig c.xmm → Bounded c → Stays c
-      → Line Q rule c (with_lanes c (after rule c.xmm)) × Holds op prefix (λ q. made op (sig q) ss) (after rule c.xmm)
-  computed_line op prefix ss rule c sig meets fits value bound stays = (
-    rule_line Q rule meets.vectors c (λ t ins gs fs ms. stays t ins ms (λ r ne. ap (λ f. f r) gs)),
-    record {
-      bytes = registers_after rule c.xmm bound.xmm;
-      first = λ q l p lp. meets.first c.xmm bound.xmm (q * prefix + p) (fits q l p lp) ∙ ap (λ (z : ℕ × ℕ). z.0) (value q l p lp);
-      second = λ q l p lp. meets.second c.xmm bound.xmm (q * prefix + p) (fits q l p lp) ∙ ap (λ (z : ℕ × ℕ). z.1) (value q l p lp);
-    },
-  )
+  -- a rule that computes leaves its results in the registers that they go to
+  computed_line : (op : Op) (prefix : ℕ) (ss : List Source) (ts : List Target) (rule : List Ins) (c : Core) (live : ℕ → ℕ) (sig : ℕ → Local) → Meets op rule → first_register ts ≢ second_register ts → Fits op prefix
+      → Values op prefix ss sig (λ r. c.xmm (rule_register ts r)) → Bounded c → Stays c → Remains ts live sig c.xmm
+      → Line Q (map (renamed (rule_register ts)) rule) c (with_lanes c (after (map (renamed (rule_register ts)) rule) c.xmm))
+      × Holds op prefix (λ q. made op (sig q) ss) (after (map (renamed (rule_register ts)) rule) c.xmm) (first_register ts) (second_register ts)
+      × Remains ts live sig (after (map (renamed (rule_register ts)) rule) c.xmm)
+  computed_line op prefix ss ts rule c live sig meets apart fits value bound stays remains =
+      let f : ℕ → ℕ = rule_register ts in
+      let list = map (renamed f) rule in
+      let x : ℕ → List ℕ = λ r. c.xmm (f r) in
+      let turned : (r : ℕ) → after list c.xmm (f r) ≡ after rule x r = after_renamed f (register_one ts) rule c.xmm in
+      let at_first : after list c.xmm (first_register ts) ≡ after rule x 0 = ap (after list c.xmm) (sym (register_0 ts)) ∙ turned 0 in
+      let at_second : after list c.xmm (second_register ts) ≡ after rule x 1 = ap (after list c.xmm) (sym (register_1 ts apart)) ∙ turned 1 in
+      let small : (r : ℕ) → AreBytes (x r) = λ r. bound.xmm (f r) in (
+        rule_line Q list (simd_renamed f rule ∙ meets.vectors) c (λ t ins gs fs ms. stays t ins ms (λ r ne. ap (λ g. g r) gs)),
+        record {
+          bytes = registers_after list c.xmm bound.xmm;
+          first = λ q l p lp. ap (lane (size_of_result op 0) (q * prefix + p)) at_first ∙ meets.first x small (q * prefix + p) (fits q l p lp) ∙ ap (λ (z : ℕ × ℕ). z.0) (value q l p lp);
+          second = λ q l p lp. ap (lane (size_of_result op 1) (q * prefix + p)) at_second ∙ meets.second x small (q * prefix + p) (fits q l p lp) ∙ ap (λ (z : ℕ × ℕ). z.1) (value q l p lp);
+        },
+        λ p l nf ns q lq r lr.
+            let here : f (place_register p) ≡ place_register p = register_place ts p nf ns in
+            let same : after list c.xmm (place_register p) ≡ c.xmm (place_register p) = ap (after list c.xmm) (sym here) ∙ turned (place_register p) ∙ meets.keeps x (place_register p) (omega arith) ∙ ap c.xmm here in
+            ap (λ v. get_or v (q * live p + r) 0) same ∙ remains p l nf ns q lq r lr,
+      )
 
   -- ---- one running sum
 
@@ -453,10 +631,10 @@ module _ (n : ℕ) (base size : ℕ → ℕ) (P : ℕ → Type 0) (numbers : Num
     λ x m s. f.outside x (λ j lj e. s (omega (arith, e), omega (arith, e, lj, lg))) ∙ o x m s,
   )
 
-  sum_line : (i : ℕ) (op : Op) (prefix : ℕ) (ss : List Source) (rule : List Ins) (g : ℕ) (c : Core) (first : Memory) (sig : ℕ → Local) (totals : ℕ → ℕ) → g < numbers.sums → numbers.width g ≡ size_of_result op 0 → prefix ≡ 1 → AddsUp op count rule → i + count ≤ n
-      → c.gpr 4 ≡ rsp → Lanes n base size P i count c.memory sig → Framed numbers rsp c.memory totals → Values op prefix ss sig c.xmm → Bounded c → Each IsIns (load_sum g ∷ []) → Rest i first c.memory → Keeps i c.gpr first
-      → (d : Core) × Line Q (load_sum g ∷ (rule ++ store_sum g ∷ [])) c d × Wrote i (ToSum g ∷ []) (λ q. packed op prefix (made op (sig q) ss)) sig totals first c d
-  sum_line i op prefix ss rule g c first sig totals lg width one adds w stack h framed value bound ins o keeps =
+  sum_line : (i : ℕ) (op : Op) (prefix : ℕ) (ss : List Source) (rule : List Ins) (g : ℕ) (c : Core) (first : Memory) (live : ℕ → ℕ) (sig : ℕ → Local) (totals : ℕ → ℕ) → g < numbers.sums → numbers.width g ≡ size_of_result op 0 → prefix ≡ 1 → AddsUp op count rule → i + count ≤ n
+      → c.gpr 4 ≡ rsp → Lanes n base size P i count c.memory sig → Framed numbers rsp c.memory totals → Standing live sig c.xmm → Values op prefix ss sig c.xmm → Bounded c → Each IsIns (load_sum g ∷ []) → Rest i first c.memory → Keeps i c.gpr first
+      → (d : Core) × Line Q (load_sum g ∷ (rule ++ store_sum g ∷ [])) c d × Wrote i op prefix (ToSum g ∷ []) (λ q. packed op prefix (made op (sig q) ss)) live sig totals first c d
+  sum_line i op prefix ss rule g c first live sig totals lg width one adds w stack h framed stand value bound ins o keeps =
       let stays = stay i c c.gpr first (λ r ne. refl) o keeps in
       let l = load_slot c 2 rsp (sum_slot g) (λ b. get_or (framed.running g) b 0) stack (sum_low g lg) (framed.sums g lg) in
       let b = l.0 in
@@ -478,6 +656,7 @@ module _ (n : ℕ) (base size : ℕ → ℕ) (P : ℕ → Type 0) (numbers : Num
         record {
           gpr = λ r ne. ap (λ f. f r) s.2 ∙ gpr r;
           lanes = kept.0;
+          standing = λ p lp q lq r lr. ap (λ v. get_or v (q * live p + r) 0) (ap (λ f. f (place_register p)) s.3 ∙ adds.keeps b.xmm (place_register p) (omega arith) ∙ l.2.others (place_register p) (λ e. omega (arith, e))) ∙ stand p lp q lq r lr;
           framed = framed_totals numbers rsp d.memory _ _ (λ k. ap (λ t. totals k + t) (adds_all count g k (λ q. (packed op prefix (made op (sig q) ss)).0))) grown;
           others = kept.1;
         },
@@ -485,24 +664,53 @@ module _ (n : ℕ) (base size : ℕ → ℕ) (P : ℕ → Type 0) (numbers : Num
 
   -- ---- an action
 
-  finish_line : (i : ℕ) (op : Op) (prefix : ℕ) (ss : List Source) (rule : List Ins) (ts : List Target) (c : Core) (first : Memory) (sig : ℕ → Local) (totals : ℕ → ℕ) → AreTo n base size P numbers op prefix ts → IsRule count op rule → Each (IsMovedTo count size) ts → Fits op prefix
-      → Each IsIns (sum_code ts) → i + count ≤ n → Points i c.gpr → c.gpr 4 ≡ rsp → Lanes n base size P i count c.memory sig → Framed numbers rsp c.memory totals → Values op prefix ss sig c.xmm → Bounded c → Rest i first c.memory → Keeps i c.gpr first
-      → (d : Core) × Line Q (sum_code ts ++ (rule ++ results_far_code count size far aligned ts)) c d × Wrote i ts (λ q. packed op prefix (made op (sig q) ss)) sig totals first c d
-  finish_line i op prefix ss rule [] c first sig totals known is wide fits ins w at stack h framed value bound o keeps = absurd known
-  finish_line i op prefix ss rule (ToArray k ∷ []) c first sig totals known is wide fits ins w at stack h framed value bound o keeps =
-      let x = computed_line op prefix ss rule c sig (is.meets known.1) fits value bound (stay i c c.gpr first (λ r ne. refl) o keeps) in
-      let u : Core = with_lanes c (after rule c.xmm) in
-      let s = arrays_line i op prefix (λ q. made op (sig q) ss) k u first sig totals known.0 wide.0 w at h framed x.1 o keeps in
-      (s.0, line_append Q rule (store_either_code (aligned k) (count * size k) 0 (pointer k) (far k)) c u s.0 x.0 s.1, record { gpr = s.2.gpr; lanes = s.2.lanes; framed = s.2.framed; others = s.2.others })
-  finish_line i op prefix ss rule (ToArray k ∷ ToArray m ∷ more) c first sig totals known is wide fits ins w at stack h framed value bound o keeps =
-      let x = computed_line op prefix ss rule c sig (is.meets known.1) fits value bound (stay i c c.gpr first (λ r ne. refl) o keeps) in
-      let u : Core = with_lanes c (after rule c.xmm) in
-      let s = two_arrays_line i op prefix (λ q. made op (sig q) ss) k m u first sig totals known.0 known.2 wide.0 wide.1.0 w at h framed x.1 o keeps in
-      (s.0, line_append Q rule (store_either_code (aligned k) (count * size k) 0 (pointer k) (far k) ++ store_either_code (aligned m) (count * size m) 1 (pointer m) (far m)) c u s.0 x.0 s.1, record { gpr = s.2.gpr; lanes = s.2.lanes; framed = s.2.framed; others = s.2.others })
-  finish_line i op prefix ss rule (ToArray k ∷ ToSum g ∷ more) c first sig totals known is wide fits ins w at stack h framed value bound o keeps = absurd known
-  finish_line i op prefix ss rule (ToSum g ∷ []) c first sig totals known is wide fits ins w at stack h framed value bound o keeps =
-      sum_line i op prefix ss rule g c first sig totals known.0 known.2 known.3 (is.adds known.1) w stack h framed value bound ins o keeps
-  finish_line i op prefix ss rule (ToSum g ∷ t ∷ more) c first sig totals known is wide fits ins w at stack h framed value bound o keeps = absurd known
+  abbrev Known : Op → ℕ → List Source → List Target → (ℕ → Local) → (ℕ → List ℕ) → Type 0
+  Known op prefix ss ts sig y = (x : ℕ → List ℕ) → x 0 ≡ y (first_register ts) → x 1 ≡ y (second_register ts) → Values op prefix ss sig x
+
+  in_rule : (op : Op) (prefix : ℕ) (ss : List Source) (ts : List Target) (sig : ℕ → Local) (y : ℕ → List ℕ) → first_register ts ≢ second_register ts → Known op prefix ss ts sig y → Values op prefix ss sig (λ r. y (rule_register ts r))
+  in_rule op prefix ss ts sig y apart value = value (λ r. y (rule_register ts r)) (ap y (register_0 ts)) (ap y (register_1 ts apart))
+
+  -- the rule, and the store of one result
+  one_finish : (i : ℕ) (op : Op) (prefix : ℕ) (ss : List Source) (rule : List Ins) (t : Target) (c : Core) (first : Memory) (live : ℕ → ℕ) (sig : ℕ → Local) (totals : ℕ → ℕ) → AreMade n base size P numbers op prefix (t ∷ []) → Meets op rule → made_in 0 t ≢ 1 → IsMovedTo count size t → Fits op prefix
+      → i + count ≤ n → Points i c.gpr → Lanes n base size P i count c.memory sig → Framed numbers rsp c.memory totals → Remains (t ∷ []) live sig c.xmm → Known op prefix ss (t ∷ []) sig c.xmm → Bounded c → Rest i first c.memory → Keeps i c.gpr first
+      → (d : Core) × Line Q (map (renamed (rule_register (t ∷ []))) rule ++ result_far_code count size far aligned 0 t) c d × Wrote i op prefix (t ∷ []) (λ q. packed op prefix (made op (sig q) ss)) live sig totals first c d
+  one_finish i op prefix ss rule t c first live sig totals known meets apart wide fits w at h framed remains value bound o keeps =
+      let ts = t ∷ [] in
+      let list = map (renamed (rule_register ts)) rule in
+      let x = computed_line op prefix ss ts rule c live sig meets apart fits (in_rule op prefix ss ts sig c.xmm apart value) bound (stay i c c.gpr first (λ r ne. refl) o keeps) remains in
+      let u : Core = with_lanes c (after list c.xmm) in
+      let s = one_result_line i op prefix (λ q. made op (sig q) ss) t u first live sig totals known.0 wide w at h framed x.1 x.2 o keeps in
+      (s.0, line_append Q list (result_far_code count size far aligned 0 t) c u s.0 x.0 s.1, record { gpr = s.2.gpr; lanes = s.2.lanes; standing = s.2.standing; framed = s.2.framed; others = s.2.others })
+
+  -- the same with two
+  two_finish : (i : ℕ) (op : Op) (prefix : ℕ) (ss : List Source) (rule : List Ins) (t u : Target) (more : List Target) (c : Core) (first : Memory) (live : ℕ → ℕ) (sig : ℕ → Local) (totals : ℕ → ℕ) → AreMade n base size P numbers op prefix (t ∷ u ∷ more) → Meets op rule → made_in 0 t ≢ made_in 1 u
+      → IsMovedTo count size t → IsMovedTo count size u → Fits op prefix → i + count ≤ n → Points i c.gpr → Lanes n base size P i count c.memory sig → Framed numbers rsp c.memory totals → Remains (t ∷ u ∷ more) live sig c.xmm → Known op prefix ss (t ∷ u ∷ more) sig c.xmm → Bounded c → Rest i first c.memory → Keeps i c.gpr first
+      → (d : Core) × Line Q (map (renamed (rule_register (t ∷ u ∷ more))) rule ++ (result_far_code count size far aligned 0 t ++ result_far_code count size far aligned 1 u)) c d × Wrote i op prefix (t ∷ u ∷ more) (λ q. packed op prefix (made op (sig q) ss)) live sig totals first c d
+  two_finish i op prefix ss rule t u more c first live sig totals known meets apart wide wide' fits w at h framed remains value bound o keeps =
+      let ts = t ∷ u ∷ more in
+      let list = map (renamed (rule_register ts)) rule in
+      let stores = result_far_code count size far aligned 0 t ++ result_far_code count size far aligned 1 u in
+      let x = computed_line op prefix ss ts rule c live sig meets apart fits (in_rule op prefix ss ts sig c.xmm apart value) bound (stay i c c.gpr first (λ r ne. refl) o keeps) remains in
+      let v : Core = with_lanes c (after list c.xmm) in
+      let s = two_results_line i op prefix (λ q. made op (sig q) ss) t u more v first live sig totals known.0 known.2 apart wide wide' w at h framed x.1 x.2 o keeps in
+      (s.0, line_append Q list stores c v s.0 x.0 s.1, record { gpr = s.2.gpr; lanes = s.2.lanes; standing = s.2.standing; framed = s.2.framed; others = s.2.others })
+
+  finish_line : (i : ℕ) (op : Op) (prefix : ℕ) (ss : List Source) (rule : List Ins) (ts : List Target) (c : Core) (first : Memory) (live : ℕ → ℕ) (sig : ℕ → Local) (totals : ℕ → ℕ) → AreTo n base size P numbers op prefix ts → IsRule count op rule → first_register ts ≢ second_register ts → Each (IsMovedTo count size) ts → Fits op prefix
+      → Each IsIns (sum_code ts) → i + count ≤ n → Points i c.gpr → c.gpr 4 ≡ rsp → Lanes n base size P i count c.memory sig → Framed numbers rsp c.memory totals → Remains ts live sig c.xmm
+      → ((x : ℕ → List ℕ) → x 0 ≡ c.xmm (first_register ts) → x 1 ≡ c.xmm (second_register ts) → Values op prefix ss sig x) → Bounded c → Rest i first c.memory → Keeps i c.gpr first
+      → (d : Core) × Line Q (sum_code ts ++ (map (renamed (rule_register ts)) rule ++ results_far_code count size far aligned ts)) c d × Wrote i op prefix ts (λ q. packed op prefix (made op (sig q) ss)) live sig totals first c d
+  finish_line i op prefix ss rule [] c first live sig totals known is apart wide fits ins w at stack h framed remains value bound o keeps = absurd known
+  finish_line i op prefix ss rule (ToSum g ∷ []) c first live sig totals known is apart wide fits ins w at stack h framed remains value bound o keeps =
+      sum_line i op prefix ss (map (renamed (rule_register (ToSum g ∷ []))) rule) g c first live sig totals known.0 known.2 known.3 (adds_renamed g op count rule (is.adds known.1)) w stack h framed (λ p l. remains p l (λ e. omega (arith, e)) (λ e. omega (arith, e))) (value c.xmm refl refl) bound ins o keeps
+  finish_line i op prefix ss rule (ToArray k ∷ []) c first live sig totals known is apart wide fits ins w at stack h framed remains value bound o keeps =
+      one_finish i op prefix ss rule (ToArray k) c first live sig totals known (is.meets known.1) apart wide.0 fits w at h framed remains value bound o keeps
+  finish_line i op prefix ss rule (ToPlace p ∷ []) c first live sig totals known is apart wide fits ins w at stack h framed remains value bound o keeps =
+      one_finish i op prefix ss rule (ToPlace p) c first live sig totals known (is.meets known.1) apart wide.0 fits w at h framed remains value bound o keeps
+  finish_line i op prefix ss rule (ToSum g ∷ t ∷ more) c first live sig totals known is apart wide fits ins w at stack h framed remains value bound o keeps = absurd known.0
+  finish_line i op prefix ss rule (ToArray k ∷ u ∷ more) c first live sig totals known is apart wide fits ins w at stack h framed remains value bound o keeps =
+      two_finish i op prefix ss rule (ToArray k) u more c first live sig totals known (is.meets known.1) apart wide.0 wide.1.0 fits w at h framed remains value bound o keeps
+  finish_line i op prefix ss rule (ToPlace p ∷ u ∷ more) c first live sig totals known is apart wide fits ins w at stack h framed remains value bound o keeps =
+      two_finish i op prefix ss rule (ToPlace p) u more c first live sig totals known (is.meets known.1) apart wide.0 wide.1.0 fits w at h framed remains value bound o keeps
 
   -- what an action adds to the totals
   abbrev Grown : List Action → (ℕ → Local) → (ℕ → ℕ) → ℕ → ℕ
@@ -511,19 +719,30 @@ module _ (n : ℕ) (base size : ℕ → ℕ) (P : ℕ → Type 0) (numbers : Num
   abbrev GrownBy : Action → (ℕ → Local) → (ℕ → ℕ) → ℕ → ℕ
   GrownBy a sig totals g = totals g + sum_below count (λ q. results_add a.to (value_of n base size P numbers a (sig q)) g)
 
-  action_line : (i : ℕ) (a : Action) (c : Core) (first : Memory) (sig : ℕ → Local) (totals : ℕ → ℕ) → IsKnown n base size P numbers a → IsFit count size a → Each IsIns (action_far_code count size far aligned a) → i + count ≤ n → Points i c.gpr → c.gpr 4 ≡ rsp → Lanes n base size P i count c.memory sig → Framed numbers rsp c.memory totals
-      → Bounded c → Rest i first c.memory → Keeps i c.gpr first → (d : Core) × Line Q (action_far_code count size far aligned a) c d × After i c d first (λ q. local_act n base size P numbers a (sig q)) (GrownBy a sig totals)
-  action_line i a c first sig totals known fit ins_a w at stack h framed bound o keeps =
-      let loads = sources_far_code count size far a.sources in
-      let rest = sum_code a.to ++ (a.rule ++ results_far_code count size far aligned a.to) in
+  room_of : (a : Action) → count * a.prefix * widest a.op ≤ 16 → Room a.op a.prefix
+  room_of a h = record { first = within (size_of_source a.op 0) (first_width a.op); second = λ plain. within (size_of_source a.op 1) (second_width a.op plain) }
+    where
+      within : (w : ℕ) → w ≤ widest a.op → count * (w * a.prefix) ≤ 16
+      within w l =
+          let m : count * a.prefix * w ≤ count * a.prefix * widest a.op = mul-le-mul_left (count * a.prefix) l in
+          let e : count * (w * a.prefix) ≡ count * a.prefix * w = omega arith in
+          omega (arith, m, e, h)
+
+  action_line : (i : ℕ) (a : Action) (c : Core) (first : Memory) (live : ℕ → ℕ) (sig : ℕ → Local) (totals : ℕ → ℕ) → IsKnown n base size P numbers live a → IsFit count size a → Each IsIns (action_far_code count size far aligned a) → i + count ≤ n → Points i c.gpr → c.gpr 4 ≡ rsp
+      → Lanes n base size P i count c.memory sig → Framed numbers rsp c.memory totals → Standing live sig c.xmm
+      → Bounded c → Rest i first c.memory → Keeps i c.gpr first → (d : Core) × Line Q (action_far_code count size far aligned a) c d × After i c d first (live_act live a) (λ q. local_act n base size P numbers a (sig q)) (GrownBy a sig totals)
+  action_line i a c first live sig totals known fit ins_a w at stack h framed stand bound o keeps =
+      let loads = sources_far_code count size far (first_register a.to) (second_register a.to) a.sources in
+      let rest = sum_code a.to ++ (rule_code a ++ results_far_code count size far aligned a.to) in
       let stays = stay i c c.gpr first (λ r ne. refl) o keeps in
       let fits : Fits a.op a.prefix = λ q l p lp. lane_fits (q * a.prefix + p) (count * a.prefix) (widest a.op) (byte_within q count a.prefix p l lp) fit.lanes in
-      let x = sources_line i a.op a.prefix a.sources c sig totals known.sources fits fit.sources (each_front IsIns loads rest ins_a) w at stack h framed bound stays in
+      let x = sources_line i a.op a.prefix a.sources a.to c live sig totals known.sources known.kept known.apart fits (room_of a fit.lanes) fit.sources (each_front IsIns loads rest ins_a) w at stack h framed stand bound stays in
       let e = x.0 in
       let g = x.2 in
-      let s = finish_line i a.op a.prefix a.sources a.rule a.to e first sig totals known.to fit.rule fit.to fits
-      (each_front IsIns (sum_code a.to) (a.rule ++ results_far_code count size far aligned a.to) (each_back IsIns loads rest ins_a)) w (λ k hk t. (ap (λ y. y + far k) (g.gpr (pointer k) (not_0 k)) ∙ (at k hk t).0, (at k hk t).1)) (g.gpr 4 (λ z. omega (arith, z)) ∙ stack)
-      (λ k hk q l r lr. ap (λ f. f (base k + (i + q) * size k + r)) g.memory ∙ h k hk q l r lr) (subst (λ m. Framed numbers rsp m totals) (sym g.memory) framed) g.value g.bounded
+      let s = finish_line i a.op a.prefix a.sources a.rule a.to e first live sig totals known.to fit.rule known.apart fit.to fits
+      (each_front IsIns (sum_code a.to) (rule_code a ++ results_far_code count size far aligned a.to) (each_back IsIns loads rest ins_a)) w (λ k hk t. (ap (λ y. y + far k) (g.gpr (pointer k) (not_0 k)) ∙ (at k hk t).0, (at k hk t).1)) (g.gpr 4 (λ z. omega (arith, z)) ∙ stack)
+      (λ k hk q l r lr. ap (λ f. f (base k + (i + q) * size k + r)) g.memory ∙ h k hk q l r lr) (subst (λ m. Framed numbers rsp m totals) (sym g.memory) framed)
+      (λ p l nf ns q lq r lr. ap (λ v. get_or v (q * live p + r) 0) (g.others (place_register p) (λ z. nf (sym z)) (λ z. ns (sym z))) ∙ stand p l q lq r lr) g.value g.bounded
       (λ v out sums. ap (λ f. f v) g.memory ∙ o v out sums) (λ t ins gs m. keeps t ins (λ r ne. gs r ne ∙ g.gpr r ne) m) in
       let d = s.0 in
       let line : Line Q (action_far_code count size far aligned a) c d = line_append Q loads rest c e d x.1 s.1 in (
@@ -532,6 +751,7 @@ module _ (n : ℕ) (base size : ℕ → ℕ) (P : ℕ → Type 0) (numbers : Num
         record {
           gpr = λ r ne. s.2.gpr r ne ∙ g.gpr r ne;
           lanes = s.2.lanes;
+          standing = s.2.standing;
           framed = s.2.framed;
           others = s.2.others;
           bounded = line_bounded Q (action_far_code count size far aligned a) c d ins_a line bound;
@@ -547,19 +767,26 @@ module _ (n : ℕ) (base size : ℕ → ℕ) (P : ℕ → Type 0) (numbers : Num
   no_growth : (totals : ℕ → ℕ) (g : ℕ) → totals g ≡ totals g + sum_below count (λ q. 0)
   no_growth totals g = let e = no_sum count in omega (arith, e)
 
+  -- the values at places after actions
+  abbrev pub live_after : (ℕ → ℕ) → List Action → ℕ → ℕ
+  live_after live [] = live
+  live_after live (a ∷ rest) = live_after (live_act live a) rest
+
   -- a whole block
-  pub actions_line : (i : ℕ) (actions : List Action) (c : Core) (first : Memory) (sig : ℕ → Local) (totals : ℕ → ℕ) → AllKnown n base size P numbers actions → Each (IsFit count size) actions → Each (λ a. Each IsIns (action_far_code count size far aligned a)) actions → i + count ≤ n → Points i c.gpr → c.gpr 4 ≡ rsp → Lanes n base size P i count c.memory sig
-      → Framed numbers rsp c.memory totals → Bounded c → Rest i first c.memory → Keeps i c.gpr first → (d : Core) × Line Q (actions_far_code count size far aligned actions) c d × After i c d first (λ q. local n base size P numbers actions (sig q)) (Grown actions sig totals)
-  actions_line i [] c first sig totals known fit ins_all w at stack h framed bound o keeps = (c, refl, record { gpr = λ r ne. refl; lanes = h; framed = framed_totals numbers rsp c.memory totals (λ g. totals g + sum_below count (λ q. 0)) (no_growth totals) framed; others = o; bounded = bound })
-  actions_line i (a ∷ rest) c first sig totals known fit ins_all w at stack h framed bound o keeps =
-      let x = action_line i a c first sig totals known.0 fit.0 ins_all.0 w at stack h framed bound o keeps in
-      let y = actions_line i rest x.0 first (λ q. local_act n base size P numbers a (sig q)) (GrownBy a sig totals) known.1 fit.1 ins_all.1 w (λ k hk s. (ap (λ y. y + far k) (x.2.gpr (pointer k) (not_0 k)) ∙ (at k hk s).0, (at k hk s).1)) (x.2.gpr 4 (λ z. omega (arith, z)) ∙ stack) x.2.lanes x.2.framed x.2.bounded x.2.others
+  pub actions_line : (i : ℕ) (actions : List Action) (c : Core) (first : Memory) (live : ℕ → ℕ) (sig : ℕ → Local) (totals : ℕ → ℕ) → AllKnown n base size P numbers live actions → Each (IsFit count size) actions → Each (λ a. Each IsIns (action_far_code count size far aligned a)) actions → i + count ≤ n → Points i c.gpr → c.gpr 4 ≡ rsp
+      → Lanes n base size P i count c.memory sig → Framed numbers rsp c.memory totals → Standing live sig c.xmm → Bounded c → Rest i first c.memory → Keeps i c.gpr first
+      → (d : Core) × Line Q (actions_far_code count size far aligned actions) c d × After i c d first (live_after live actions) (λ q. local n base size P numbers actions (sig q)) (Grown actions sig totals)
+  actions_line i [] c first live sig totals known fit ins_all w at stack h framed stand bound o keeps = (c, refl, record { gpr = λ r ne. refl; lanes = h; standing = stand; framed = framed_totals numbers rsp c.memory totals (λ g. totals g + sum_below count (λ q. 0)) (no_growth totals) framed; others = o; bounded = bound })
+  actions_line i (a ∷ rest) c first live sig totals known fit ins_all w at stack h framed stand bound o keeps =
+      let x = action_line i a c first live sig totals known.0 fit.0 ins_all.0 w at stack h framed stand bound o keeps in
+      let y = actions_line i rest x.0 first (live_act live a) (λ q. local_act n base size P numbers a (sig q)) (GrownBy a sig totals) known.1 fit.1 ins_all.1 w (λ k hk s. (ap (λ y. y + far k) (x.2.gpr (pointer k) (not_0 k)) ∙ (at k hk s).0, (at k hk s).1)) (x.2.gpr 4 (λ z. omega (arith, z)) ∙ stack) x.2.lanes x.2.framed x.2.standing x.2.bounded x.2.others
       (λ u ins g. keeps u ins (λ r ne. g r ne ∙ x.2.gpr r ne)) in (
         y.0,
         line_append Q (action_far_code count size far aligned a) (actions_far_code count size far aligned rest) c x.0 y.0 x.1 y.1,
         record {
           gpr = λ r ne. y.2.gpr r ne ∙ x.2.gpr r ne;
           lanes = y.2.lanes;
+          standing = y.2.standing;
           framed = framed_totals numbers rsp y.0.memory _ (Grown (a ∷ rest) sig totals) (grown_on a rest sig totals) y.2.framed;
           others = y.2.others;
           bounded = y.2.bounded;

@@ -1,5 +1,5 @@
 -- What emulation does at several elements, said of their cells.
-use Rattle.std.proofs.Common.{◌≡◌, ℕ, zero, suc, ◌+◌, ◌*◌, ◌%◌, ◌^◌, ◌≢◌, length, ◌<◌, ◌≤◌, List, [], ◌∷◌, Some, is_some, Result, Ok, slice_index, if◌then◌else◌, refl, sym, ap, ap₂, ◌∙◌, subst, arith, ⊎_elim}
+use Rattle.std.proofs.Common.{◌≡◌, ℕ, zero, suc, ◌+◌, ◌*◌, ◌%◌, ◌^◌, ◌≢◌, length, ◌<◌, ◌≤◌, List, [], ◌∷◌, Some, is_some, Result, Ok, slice_index, if◌then◌else◌, refl, sym, ap, ap₂, ◌∙◌, subst, arith, ◌⊎◌, ⊎_elim}
 use Rattle.std.proofs.lemmas.Bool.{cases_lt, cases_eq}
 use Rattle.std.proofs.Math.Nat.{mod-add-mod}
 use Rattle.orc_bits.specs.Lanes.{change}
@@ -19,10 +19,10 @@ use Rattle.orc_program.specs.Slots.{slot_of}
 use Rattle.orc_program.specs.Meaning.{State, Gap, cell, sub_lane, go_on, write_result, write_results, act, element, row_of}
 use Rattle.orc_program.specs.Checks.{number_in}
 use Rattle.x86_flow.proofs.Moves.{IsFill}
-use Rattle.orc_asm.specs.Code.{Action, Source, FromArray, FromPattern, Target, ToArray, ToSum}
+use Rattle.orc_asm.specs.Code.{Action, Source, FromArray, FromPattern, FromPlace, Target, ToArray, ToSum, ToPlace}
 use Rattle.orc_asm.proofs.Digits.{digit}
 use Rattle.orc_asm.proofs.Cells.{Numbers, Local, given_by, given, computed, adds_to, results_add, eq_yes, Lanes, Others, IsOf, Separate, Low, set_local, set_target, set_results, value_of, local_act, local, adds, store_lanes, store_others, others_more, cell_apart}
-use Rattle.orc_asm.proofs.Emulated.{IsCells, IsDest, IsSum, state, meant, Holds, IsLow, Gives, array_gives, number_gives, array_takes, sum_takes, Writes, act_one, act_two}
+use Rattle.orc_asm.proofs.Emulated.{IsCells, IsDest, IsSum, IsTemp, state, meant, Holds, IsLow, Gives, array_gives, temp_gives, number_gives, array_takes, sum_takes, temp_takes, Writes, act_one, act_two}
 use Rattle.orc_asm.proofs.Places.{place_again}
 
 -- ---- what an instruction's operands and an action's say alike; `patterns` are the patterns' numbers
@@ -69,6 +69,11 @@ module _ {View : Type 0} (At : View → ℕ → ℕ → Type 0) where
   AreMeant f patterns v (insn ∷ insns) (a ∷ rest) = (w : View) × IsMeant f patterns v w insn a × AreMeant f patterns w insns rest
   AreMeant f patterns v [] (a ∷ rest) = ⊥
   AreMeant f patterns v (insn ∷ insns) [] = ⊥
+
+-- the place of a variable
+abbrev number_of_var : Operand → ℕ
+number_of_var (operand.Var x) = x
+number_of_var (operand.Number n) = 0
 
 -- emulation's temps have the values that stand at places
 abbrev pub Carries : (ℕ → ℕ → Type 0) → (ℕ → ℕ) → Local → Type 0
@@ -134,7 +139,7 @@ pub record Reached (f : FunctionValue) (call : Call) (r : ℕ) (first : State) (
 module _ (f : FunctionValue) (call : Call) (r : ℕ) (base size : ℕ → ℕ) (P : ℕ → Type 0) (separate : Separate call.n base size P) (low : Low call.n base size P)
     (has : (p b : ℕ) → IsCells f p b → IsOf call.n base size P (slot_of f.vars p) b)
     (cell_is : (p b : ℕ) → IsCells f p b → (i : ℕ) → i < call.n → cell f call p r i ≡ base (slot_of f.vars p) + i * size (slot_of f.vars p))
-    (numbers : Numbers) (patterns : ℕ → Operand) (number_is : (j : ℕ) → numbers.number j ≡ meant f call (patterns j)) where
+    (numbers : Numbers) (patterns : ℕ → Operand) (number_is : (j : ℕ) → numbers.number j ≡ meant f call (patterns j)) {View : Type 0} (At : View → ℕ → ℕ → Type 0) where
   abbrev Cells : ℕ → ℕ → Memory → (ℕ → Local) → Type 0
   Cells = Lanes call.n base size P
 
@@ -152,7 +157,7 @@ module _ (f : FunctionValue) (call : Call) (r : ℕ) (base size : ℕ → ℕ) (
       at_end k zero s some few = omega (arith, few 0 some)
       at_end k (suc b) s some few = omega (arith, few b (omega (arith, s)))
 
-  holds : (e p b : ℕ) (mem : Memory) (l : Local) → IsCells f p b → e < call.n → Cells e 1 mem (λ q. l) → Holds f call r e p b mem (l (slot_of f.vars p))
+  holds : (e p b : ℕ) (mem : Memory) (l : Local) → IsCells f p b → e < call.n → Cells e 1 mem (λ q. l) → Holds f call r e p b mem (l.cells (slot_of f.vars p))
   holds e p b mem l is le h j lj =
       let o = has p b is in
       let k = slot_of f.vars p in
@@ -173,92 +178,141 @@ module _ (f : FunctionValue) (call : Call) (r : ℕ) (base size : ℕ → ℕ) (
 
   -- ---- results
 
-  -- what an instruction on element e leaves, whose outcome is o
-  pub record Leaves (e : ℕ) (o : Result State Gap) (mem : Memory) (l : Local) (totals : ℕ → ℕ) : Type 0 where
+  -- what an instruction on element e leaves, whose outcome is o, where W says what stands at places
+  pub record Leaves (e : ℕ) (o : Result State Gap) (mem : Memory) (W : ℕ → ℕ → Type 0) (l : Local) (totals : ℕ → ℕ) : Type 0 where
     pub end : Memory
+    pub temps : ℕ → ℕ
     pub sums : ℕ → ℕ
-    pub is : o ≡ Ok (state end sums)
+    pub is : o ≡ Ok (state end temps sums)
     pub lanes : Cells e 1 end (λ q. l)
     pub others : Rest e 1 mem end
+    pub carries : Carries W temps l
     pub agrees : Agrees f sums totals
 
+  -- a temp's new value stands at the place that it goes to, and what else stands somewhere does so as before
+  carries_more : (V W : ℕ → ℕ → Type 0) (x a v : ℕ) (o : Operand) (temps : ℕ → ℕ) (l : Local) → o ≡ operand.Var x → Follows V o (ToPlace a) W → Carries V temps l
+      → Carries W (change temps x v) (set_target call.n base size P l (ToPlace a) v)
+  carries_more V W x a v o temps l is follows c y p s = ⊎_elim new old (follows y p s)
+    where
+      new : (o ≡ operand.Var y) × (p ≡ a) → change temps x v y ≡ change l.values a v p
+      new w =
+          let same : y ≡ x = ap number_of_var (sym w.0 ∙ is) in
+          ap (change temps x v) same ∙ change_same temps x v ∙ sym (ap (change l.values a v) w.1 ∙ change_same l.values a v)
+
+      old : V y p × ((o ≡ operand.Var y) → ⊥) × (p ≢ a) → change temps x v y ≡ change l.values a v p
+      old w =
+          let other : y ≢ x = λ e. w.1 (is ∙ ap operand.Var (sym e)) in
+          change_other temps x v y other ∙ c y p w.0 ∙ sym (change_other l.values a v p w.2)
+
   -- one write
-  write_one : (e w prefix v : ℕ) (o : Operand) (t : Target) (mem : Memory) (sums totals : ℕ → ℕ) (l : Local) → IsWritten f w prefix o t → e < call.n → Cells e 1 mem (λ q. l) → Agrees f sums totals
-      → Leaves e (write_result f call r e v (state mem sums) o) mem (set_target call.n base size P l t v) (λ g. totals g + adds_to t v g)
-  write_one e w prefix v o (ToArray k) mem sums totals l is le h a =
+  write_one : (e w prefix v : ℕ) (o : Operand) (t : Target) (V W : ℕ → ℕ → Type 0) (mem : Memory) (temps sums totals : ℕ → ℕ) (l : Local) → IsWritten f w prefix o t → Follows V o t W → e < call.n
+      → Cells e 1 mem (λ q. l) → Carries V temps l → Agrees f sums totals → Leaves e (write_result f call r e v (state mem temps sums) o) mem W (set_target call.n base size P l t v) (λ g. totals g + adds_to t v g)
+  write_one e w prefix v o (ToArray k) V W mem temps sums totals l is follows le h c a =
       let d = is.0 in
       let b = w * prefix in
-      let x = array_takes f call r e d b v mem sums is.2 is.3 (low_cell e d b is.2 le) (λ j lj. ap is_some (holds e d b mem l is.2 le h j lj)) in
+      let x = array_takes f call r e d b v mem temps sums is.2 is.3 (low_cell e d b is.2 le) (λ j lj. ap is_some (holds e d b mem l is.2 le h j lj)) in
       let y = filled_lanes e d b v mem x.0 l is.2 le h x.2 in
       record {
         end = x.0;
+        temps = temps;
         sums = sums;
-        is = ap (write_result f call r e v (state mem sums)) is.1 ∙ x.1;
+        is = ap (write_result f call r e v (state mem temps sums)) is.1 ∙ x.1;
         lanes = subst (λ k. Cells e 1 x.0 (λ q. set_local call.n base size P l k v)) is.4 y.0;
         others = y.1;
+        carries = λ x p s. c x p (follows x p s);
         agrees = agrees_same f sums totals (λ g. totals g + 0) (λ g. omega arith) a;
       }
-  write_one e w prefix v o (ToSum g) mem sums totals l is le h a =
+  write_one e w prefix v o (ToSum g) V W mem temps sums totals l is follows le h c a =
       let p = is.0 in
       record {
         end = mem;
+        temps = temps;
         sums = change sums p ((sums p + v) % 2 ^ (8 * w));
-        is = ap (write_result f call r e v (state mem sums)) is.1 ∙ sum_takes f call r e p w v mem sums is.2;
+        is = ap (write_result f call r e v (state mem temps sums)) is.1 ∙ sum_takes f call r e p w v mem temps sums is.2;
         lanes = h;
         others = λ x m. refl;
+        carries = λ x p s. c x p (follows x p s);
         agrees = subst (λ g. Agrees f (change sums p ((sums p + v) % 2 ^ (8 * w))) (λ x. totals x + adds_to (ToSum g) v x)) is.3 (agrees_more f sums totals p w v a is.2);
       }
+  write_one e w prefix v o (ToPlace p) V W mem temps sums totals l is follows le h c a = record {
+    end = mem;
+    temps = change temps is.0 v;
+    sums = sums;
+    is = ap (write_result f call r e v (state mem temps sums)) is.1 ∙ temp_takes f call r e is.0 v mem temps sums is.2;
+    lanes = h;
+    others = λ x m. refl;
+    carries = carries_more V W is.0 p v o temps l is.1 follows c;
+    agrees = agrees_same f sums totals (λ g. totals g + 0) (λ g. omega arith) a;
+  }
 
   -- the first result before the second
-  write_all : (e : ℕ) (op : Op) (prefix : ℕ) (os : List Operand) (ts : List Target) (v : ℕ × ℕ) (mem : Memory) (sums totals : ℕ → ℕ) (l : Local) → AreWritten f op prefix os ts → e < call.n → Cells e 1 mem (λ q. l) → Agrees f sums totals
-      → Leaves e (write_results f call r e v (state mem sums) os) mem (set_results call.n base size P l ts v) (λ g. totals g + results_add ts v g)
-  write_all e op prefix [] ts v mem sums totals l is le h a = absurd is
-  write_all e op prefix (x ∷ []) [] v mem sums totals l is le h a = absurd is
-  write_all e op prefix (x ∷ []) (t ∷ []) v mem sums totals l is le h a = write_one e (size_of_result op 0) prefix v.0 x t mem sums totals l is le h a
-  write_all e op prefix (x ∷ []) (t ∷ u ∷ more) v mem sums totals l is le h a = absurd is
-  write_all e op prefix (x ∷ y ∷ []) [] v mem sums totals l is le h a = absurd is
-  write_all e op prefix (x ∷ y ∷ []) (t ∷ []) v mem sums totals l is le h a = absurd is
-  write_all e op prefix (x ∷ y ∷ []) (t ∷ u ∷ []) v mem sums totals l is le h a =
-      let one = write_one e (size_of_result op 0) prefix v.0 x t mem sums totals l is.0 le h a in
-      let two = write_one e (size_of_result op 1) prefix v.1 y u one.end one.sums (λ g. totals g + adds_to t v.0 g) (set_target call.n base size P l t v.0) is.1 le one.lanes one.agrees in
+  write_all : (e : ℕ) (op : Op) (prefix : ℕ) (os : List Operand) (ts : List Target) (x : ℕ × ℕ) (v w : View) (mem : Memory) (temps sums totals : ℕ → ℕ) (l : Local) → AreWritten At f op prefix os ts v w → e < call.n
+      → Cells e 1 mem (λ q. l) → Carries (At v) temps l → Agrees f sums totals
+      → Leaves e (write_results f call r e x (state mem temps sums) os) mem (At w) (set_results call.n base size P l ts x) (λ g. totals g + results_add ts x g)
+  write_all e op prefix [] ts x v w mem temps sums totals l is le h c a = absurd is
+  write_all e op prefix (o ∷ []) [] x v w mem temps sums totals l is le h c a = absurd is
+  write_all e op prefix (o ∷ []) (t ∷ []) x v w mem temps sums totals l is le h c a = write_one e (size_of_result op 0) prefix x.0 o t (At v) (At w) mem temps sums totals l is.0 is.1 le h c a
+  write_all e op prefix (o ∷ []) (t ∷ u ∷ more) x v w mem temps sums totals l is le h c a = absurd is
+  write_all e op prefix (o ∷ y ∷ []) [] x v w mem temps sums totals l is le h c a = absurd is
+  write_all e op prefix (o ∷ y ∷ []) (t ∷ []) x v w mem temps sums totals l is le h c a = absurd is
+  write_all e op prefix (o ∷ y ∷ []) (t ∷ u ∷ []) x v w mem temps sums totals l is le h c a =
+      let between = is.2.0 in
+      let first : ℕ → ℕ = λ g. totals g + adds_to t x.0 g in
+      let one = write_one e (size_of_result op 0) prefix x.0 o t (At v) (At between) mem temps sums totals l is.0 is.2.1 le h c a in
+      let two =
+      write_one e (size_of_result op 1) prefix x.1 y u (At between) (At w) one.end one.temps one.sums first (set_target call.n base size P l t x.0) is.1 is.2.2 le one.lanes one.carries one.agrees in
       record {
         end = two.end;
+        temps = two.temps;
         sums = two.sums;
-        is = ap (λ o. go_on o (λ s. write_result f call r e v.1 s y)) one.is ∙ two.is;
+        is = ap (λ o. go_on o (λ s. write_result f call r e x.1 s y)) one.is ∙ two.is;
         lanes = two.lanes;
         others = others_more call.n base size P e 1 mem one.end two.end one.others two.others;
-        agrees = agrees_same f two.sums (λ g. totals g + adds_to t v.0 g + adds_to u v.1 g) (λ g. totals g + (adds_to t v.0 g + adds_to u v.1 g)) (λ g. omega arith) two.agrees;
+        carries = two.carries;
+        agrees = agrees_same f two.sums (λ g. totals g + adds_to t x.0 g + adds_to u x.1 g) (λ g. totals g + (adds_to t x.0 g + adds_to u x.1 g)) (λ g. omega arith) two.agrees;
       }
-  write_all e op prefix (x ∷ y ∷ []) (t ∷ u ∷ w ∷ more) v mem sums totals l is le h a = absurd is
-  write_all e op prefix (x ∷ y ∷ z ∷ rest) ts v mem sums totals l is le h a = absurd is
+  write_all e op prefix (o ∷ y ∷ []) (t ∷ u ∷ z ∷ more) x v w mem temps sums totals l is le h c a = absurd is
+  write_all e op prefix (o ∷ y ∷ z ∷ rest) ts x v w mem temps sums totals l is le h c a = absurd is
 
   -- ---- sources
 
-  gives : (e w prefix : ℕ) (o : Operand) (s : Source) (mem : Memory) (sums : ℕ → ℕ) (l : Local) → IsRead f patterns w prefix o s → e < call.n → Cells e 1 mem (λ q. l)
-      → Gives f call r e w prefix (state mem sums) o (given_by numbers.number w l s)
-  gives e w prefix o (FromArray k) mem sums l is le h =
+  gives : (e w prefix : ℕ) (o : Operand) (s : Source) (V : ℕ → ℕ → Type 0) (mem : Memory) (temps sums : ℕ → ℕ) (l : Local) → IsRead f patterns V w prefix o s → e < call.n → Cells e 1 mem (λ q. l) → Carries V temps l
+      → Gives f call r e w prefix (state mem temps sums) o (given_by numbers.number w l s)
+  gives e w prefix o (FromArray k) V mem temps sums l is le h c =
       let p = is.0 in
       let b = w * prefix in
-      subst (λ k. Gives f call r e w prefix (state mem sums) o (sub_lane (8 * w) (l k))) is.3
-      (subst (λ o. Gives f call r e w prefix (state mem sums) o (sub_lane (8 * w) (l (slot_of f.vars p)))) (sym is.1)
-      (array_gives f call r e p w prefix (l (slot_of f.vars p)) (state mem sums) is.2 (low_cell e p b is.2 le) (holds e p b mem l is.2 le h)))
-  gives e w prefix o (FromPattern j) mem sums l is le h =
-      subst (λ n. Gives f call r e w prefix (state mem sums) o (λ q. n)) (sym (number_is j)) (number_gives f call r e w prefix (state mem sums) o (patterns j) is)
+      subst (λ k. Gives f call r e w prefix (state mem temps sums) o (sub_lane (8 * w) (l.cells k))) is.3
+      (subst (λ o. Gives f call r e w prefix (state mem temps sums) o (sub_lane (8 * w) (l.cells (slot_of f.vars p)))) (sym is.1)
+      (array_gives f call r e p w prefix (l.cells (slot_of f.vars p)) (state mem temps sums) is.2 (low_cell e p b is.2 le) (holds e p b mem l is.2 le h)))
+  gives e w prefix o (FromPattern j) V mem temps sums l is le h c =
+      subst (λ n. Gives f call r e w prefix (state mem temps sums) o (λ q. n)) (sym (number_is j)) (number_gives f call r e w prefix (state mem temps sums) o (patterns j) is)
+  gives e w prefix o (FromPlace p) V mem temps sums l is le h c =
+      subst (λ o. Gives f call r e w prefix (state mem temps sums) o (sub_lane (8 * w) (l.values p))) (sym is.1)
+      (temp_gives f call r e is.0 w prefix (l.values p) (state mem temps sums) is.2 (c is.0 p is.3))
 
   abbrev WritesGiven : ℕ → Insn → State → Local → List Source → Type 0
   WritesGiven e insn s l ss = Writes f call r e insn s (given numbers.number insn.op l ss).0 (given numbers.number insn.op l ss).1
 
-  reads_all : (e : ℕ) (insn : Insn) (ss : List Source) (mem : Memory) (sums : ℕ → ℕ) (l : Local) → AreRead f patterns insn.op insn.prefix insn.sources.items ss → e < call.n → Cells e 1 mem (λ q. l) → WritesGiven e insn (state mem sums) l ss
-  reads_all e insn ss mem sums l is le h = go insn.sources.items refl ss is
+  reads_all : (e : ℕ) (insn : Insn) (ss : List Source) (V : ℕ → ℕ → Type 0) (mem : Memory) (temps sums : ℕ → ℕ) (l : Local) → AreRead f patterns V insn.op insn.prefix insn.sources.items ss → e < call.n → Cells e 1 mem (λ q. l)
+      → Carries V temps l → WritesGiven e insn (state mem temps sums) l ss
+  reads_all e insn ss V mem temps sums l is le h c = go insn.sources.items refl ss is
     where
-      go : (os : List Operand) → insn.sources.items ≡ os → (ss : List Source) → AreRead f patterns insn.op insn.prefix os ss → WritesGiven e insn (state mem sums) l ss
+      first : (o : Operand) (s : Source) → IsRead f patterns V (size_of_source insn.op 0) insn.prefix o s
+          → Gives f call r e (size_of_source insn.op 0) insn.prefix (state mem temps sums) o (given_by numbers.number (size_of_source insn.op 0) l s)
+      first o s is = gives e (size_of_source insn.op 0) insn.prefix o s V mem temps sums l is le h c
+
+      second : (o : Operand) (s : Source) → IsRead f patterns V (size_of_source insn.op 1) insn.prefix o s
+          → Gives f call r e (size_of_source insn.op 1) insn.prefix (state mem temps sums) o (given_by numbers.number (size_of_source insn.op 1) l s)
+      second o s is = gives e (size_of_source insn.op 1) insn.prefix o s V mem temps sums l is le h c
+
+      go : (os : List Operand) → insn.sources.items ≡ os → (ss : List Source) → AreRead f patterns V insn.op insn.prefix os ss → WritesGiven e insn (state mem temps sums) l ss
       go [] are ss is = absurd is
       go (x ∷ []) are [] is = absurd is
-      go (x ∷ []) are (s ∷ []) is = act_one f call r e insn (state mem sums) x _ are (gives e (size_of_source insn.op 0) insn.prefix x s mem sums l is le h)
+      go (x ∷ []) are (s ∷ []) is = act_one f call r e insn (state mem temps sums) x _ are (first x s is)
       go (x ∷ []) are (s ∷ t ∷ further) is = absurd is
       go (x ∷ y ∷ []) are [] is = absurd is
       go (x ∷ y ∷ []) are (s ∷ []) is = absurd is
-      go (x ∷ y ∷ []) are (s ∷ t ∷ []) is = act_two f call r e insn (state mem sums) x y _ _ are (gives e (size_of_source insn.op 0) insn.prefix x s mem sums l is.0 le h) (gives e (size_of_source insn.op 1) insn.prefix y t mem sums l is.1 le h)
+      go (x ∷ y ∷ []) are (s ∷ t ∷ []) is = act_two f call r e insn (state mem temps sums) x y _ _ are (first x s is.0) (second y t is.1)
       go (x ∷ y ∷ []) are (s ∷ t ∷ u ∷ further) is = absurd is
       go (x ∷ y ∷ z ∷ rest) are ss is = absurd is
 
@@ -274,61 +328,82 @@ module _ (f : FunctionValue) (call : Call) (r : ℕ) (base size : ℕ → ℕ) (
   Adds = adds call.n base size P numbers
 
   -- one instruction on one element
-  action_lanes : (e : ℕ) (insn : Insn) (a : Action) (mem : Memory) (sums totals : ℕ → ℕ) (l : Local) → IsMeant f patterns insn a → e < call.n → Cells e 1 mem (λ q. l) → Agrees f sums totals
-      → Leaves e (act f call r e insn (state mem sums)) mem (Act a l) (λ g. totals g + results_add a.to (value_of call.n base size P numbers a l) g)
-  action_lanes e insn a mem sums totals l is le h agrees =
-      let v = computed numbers.number insn.op insn.prefix l a.sources in
-      let x = write_all e insn.op insn.prefix insn.results.items a.to v mem sums totals l is.to le h agrees in
-      let value : v ≡ value_of call.n base size P numbers a l = ap₂ (λ op k. computed numbers.number op k l a.sources) (sym is.op) (sym is.prefix) in
+  action_lanes : (e : ℕ) (insn : Insn) (a : Action) (v w : View) (mem : Memory) (temps sums totals : ℕ → ℕ) (l : Local) → IsMeant At f patterns v w insn a → e < call.n → Cells e 1 mem (λ q. l)
+      → Carries (At v) temps l → Agrees f sums totals
+      → Leaves e (act f call r e insn (state mem temps sums)) mem (At w) (Act a l) (λ g. totals g + results_add a.to (value_of call.n base size P numbers a l) g)
+  action_lanes e insn a v w mem temps sums totals l is le h c agrees =
+      let made = computed numbers.number insn.op insn.prefix l a.sources in
+      let x = write_all e insn.op insn.prefix insn.results.items a.to made v w mem temps sums totals l is.to le h c agrees in
+      let value : made ≡ value_of call.n base size P numbers a l = ap₂ (λ op k. computed numbers.number op k l a.sources) (sym is.op) (sym is.prefix) in
       record {
         end = x.end;
+        temps = x.temps;
         sums = x.sums;
-        is = reads_all e insn a.sources mem sums l is.sources le h ∙ x.is;
+        is = reads_all e insn a.sources (At v) mem temps sums l is.sources le h c ∙ x.is;
         lanes = subst (λ v. Cells e 1 x.end (λ q. set_results call.n base size P l a.to v)) value x.lanes;
         others = x.others;
+        carries = subst (λ v. Carries (At w) x.temps (set_results call.n base size P l a.to v)) value x.carries;
         agrees = subst (λ v. Agrees f x.sums (λ g. totals g + results_add a.to v g)) value x.agrees;
       }
 
-  element_lanes : (e : ℕ) (insns : List Insn) (actions : List Action) (mem : Memory) (sums totals : ℕ → ℕ) (l : Local) → AreMeant f patterns insns actions → e < call.n → Cells e 1 mem (λ q. l) → Agrees f sums totals
-      → Leaves e (element f call r e insns (state mem sums)) mem (All actions l) (λ g. totals g + Adds actions l g)
-  element_lanes e [] [] mem sums totals l is le h agrees = record { end = mem; sums = sums; is = refl; lanes = h; others = λ a m. refl; agrees = agrees_same f sums totals (λ g. totals g + 0) (λ g. omega arith) agrees }
-  element_lanes e [] (a ∷ rest) mem sums totals l is le h agrees = absurd is
-  element_lanes e (insn ∷ insns) [] mem sums totals l is le h agrees = absurd is
-  element_lanes e (insn ∷ insns) (a ∷ rest) mem sums totals l is le h agrees =
-      let x = action_lanes e insn a mem sums totals l is.0 le h agrees in
+  -- at the end of an element nothing is said of places
+  abbrev nowhere : ℕ → ℕ → Type 0
+  nowhere x p = ⊥
+
+  element_lanes : (e : ℕ) (insns : List Insn) (actions : List Action) (v : View) (mem : Memory) (temps sums totals : ℕ → ℕ) (l : Local) → AreMeant At f patterns v insns actions → e < call.n → Cells e 1 mem (λ q. l)
+      → Carries (At v) temps l → Agrees f sums totals → Leaves e (element f call r e insns (state mem temps sums)) mem nowhere (All actions l) (λ g. totals g + Adds actions l g)
+  element_lanes e [] [] v mem temps sums totals l is le h c agrees = record {
+    end = mem;
+    temps = temps;
+    sums = sums;
+    is = refl;
+    lanes = h;
+    others = λ a m. refl;
+    carries = λ x p s. absurd s;
+    agrees = agrees_same f sums totals (λ g. totals g + 0) (λ g. omega arith) agrees;
+  }
+  element_lanes e [] (a ∷ rest) v mem temps sums totals l is le h c agrees = absurd is
+  element_lanes e (insn ∷ insns) [] v mem temps sums totals l is le h c agrees = absurd is
+  element_lanes e (insn ∷ insns) (a ∷ rest) v mem temps sums totals l is le h c agrees =
+      let w = is.0 in
+      let x = action_lanes e insn a v w mem temps sums totals l is.1 le h c agrees in
       let one : ℕ → ℕ = results_add a.to (value_of call.n base size P numbers a l) in
-      let y = element_lanes e insns rest x.end x.sums (λ g. totals g + one g) (Act a l) is.1 le x.lanes x.agrees in
+      let y = element_lanes e insns rest w x.end x.temps x.sums (λ g. totals g + one g) (Act a l) is.2 le x.lanes x.carries x.agrees in
       record {
         end = y.end;
+        temps = y.temps;
         sums = y.sums;
         is = ap (λ o. go_on o (element f call r e insns)) x.is ∙ y.is;
         lanes = y.lanes;
         others = others_more call.n base size P e 1 mem x.end y.end x.others y.others;
+        carries = y.carries;
         agrees = agrees_same f y.sums (λ g. totals g + one g + Adds rest (Act a l) g) (λ g. totals g + (one g + Adds rest (Act a l) g)) (λ g. omega arith) y.agrees;
       }
 
   -- what so many elements from i on leave, on the way from a first state
   pub record Rows (first : State) (i c : ℕ) (mem : Memory) (sig : ℕ → Local) (totals : ℕ → ℕ) (actions : List Action) : Type 0 where
     pub end : Memory
+    pub temps : ℕ → ℕ
     pub sums : ℕ → ℕ
-    pub is : row_of f call r (c + i) first ≡ Ok (state end sums)
+    pub is : row_of f call r (c + i) first ≡ Ok (state end temps sums)
     pub lanes : Cells i c end (λ q. All actions (sig q))
     pub others : Rest i c mem end
     pub agrees : Agrees f sums (λ g. totals g + sum_below c (λ q. Adds actions (sig q) g))
 
-  -- several elements, one after another
-  pub row_lanes : (actions : List Action) → AreMeant f patterns f.insns actions → (first : State) (i : ℕ) (mem : Memory) (sums totals : ℕ → ℕ) (sig : ℕ → Local) → row_of f call r i first ≡ Ok (state mem sums) → Agrees f sums totals
-      → (c : ℕ) → i + c ≤ call.n → Cells i c mem sig → Rows first i c mem sig totals actions
-  row_lanes actions is first i mem sums totals sig em agrees zero w h = record {
+  -- several elements, one after another; at the start of each nothing stands at places
+  pub row_lanes : (actions : List Action) (v0 : View) → ((x p : ℕ) → At v0 x p → ⊥) → AreMeant At f patterns v0 f.insns actions → (first : State) (i : ℕ) (mem : Memory) (temps sums totals : ℕ → ℕ) (sig : ℕ → Local)
+      → row_of f call r i first ≡ Ok (state mem temps sums) → Agrees f sums totals → (c : ℕ) → i + c ≤ call.n → Cells i c mem sig → Rows first i c mem sig totals actions
+  row_lanes actions v0 none is first i mem temps sums totals sig em agrees zero w h = record {
     end = mem;
+    temps = temps;
     sums = sums;
     is = ap (λ n. row_of f call r n first) (let e : 0 + i ≡ i = omega arith in e) ∙ em;
     lanes = λ k hk q l. absurd (omega (arith, l));
     others = λ a m. refl;
     agrees = agrees_same f sums totals (λ g. totals g + sum_below 0 (λ q. Adds actions (sig q) g)) (λ g. let z = sum_below-zero (λ q. Adds actions (sig q) g) in omega (arith, z)) agrees;
   }
-  row_lanes actions is first i mem sums totals sig em agrees (suc c) w h =
-      let before = row_lanes actions is first i mem sums totals sig em agrees c (omega (arith, w)) (λ k hk q l. h k hk q (omega (arith, l))) in
+  row_lanes actions v0 none is first i mem temps sums totals sig em agrees (suc c) w h =
+      let before = row_lanes actions v0 none is first i mem temps sums totals sig em agrees c (omega (arith, w)) (λ k hk q l. h k hk q (omega (arith, l))) in
       let e = i + c in
       let le : e < call.n = omega (arith, w) in
       let here : Cells e 1 before.end (λ q. sig c) = λ k hk q l r lr.
@@ -336,22 +411,24 @@ module _ (f : FunctionValue) (call : Call) (r : ℕ) (base size : ℕ → ℕ) (
       ∙ before.others (base k + (i + c) * size k + r) (λ at. cell_apart call.n base size P separate low k at.0 (i + c) (i + at.2) r at.4 hk at.1 le (omega (arith, at.3, w)) lr at.5 (λ s. omega (arith, s, at.3)) at.6)
       ∙ h k hk c (omega arith) r lr in
       let so_far : ℕ → ℕ = λ g. totals g + sum_below c (λ q. Adds actions (sig q) g) in
-      let one = element_lanes e f.insns actions before.end before.sums so_far (sig c) is le here before.agrees in
-      let step : row_of f call r (suc c + i) first ≡ Ok (state one.end one.sums) =
+      let one = element_lanes e f.insns actions v0 before.end before.temps before.sums so_far (sig c) is le here (λ x p s. absurd (none x p s)) before.agrees in
+      let step : row_of f call r (suc c + i) first ≡ Ok (state one.end one.temps one.sums) =
       ap (λ n. row_of f call r n first) (let p : suc c + i ≡ suc (c + i) = omega arith in p)
-      ∙ ap (λ o. go_on o (element f call r (c + i) f.insns)) before.is ∙ ap (λ n. element f call r n f.insns (state before.end before.sums)) (let p : c + i ≡ i + c = omega arith in p) ∙ one.is in
+      ∙ ap (λ o. go_on o (element f call r (c + i) f.insns)) before.is
+      ∙ ap (λ n. element f call r n f.insns (state before.end before.temps before.sums)) (let p : c + i ≡ i + c = omega arith in p) ∙ one.is in
       let lanes : Cells i (suc c) one.end (λ q. All actions (sig q)) = λ k hk q l r lr.
       ⊎_elim
       (λ s. one.others (base k + (i + q) * size k + r) (λ at. cell_apart call.n base size P separate low k at.0 (i + q) (e + at.2) r at.4 hk at.1 (omega (arith, l, w)) (omega (arith, at.3, le)) lr at.5 (λ t. omega (arith, t, s)) at.6) ∙ before.lanes k hk q s r lr)
       (λ g. let p : q ≡ c = omega (arith, g, l) in
       ap one.end (ap (λ x. base k + x * size k + r) (let t : i + q ≡ e + 0 = omega (arith, p) in t)) ∙ one.lanes k hk 0 (omega arith) r lr
-      ∙ ap (λ x. Some (digit (All actions (sig x) k) r)) (sym p))
+      ∙ ap (λ x. Some (digit ((All actions (sig x)).cells k) r)) (sym p))
       (cases_lt q c) in
       let others : Rest i (suc c) mem one.end = λ a m.
       one.others a (λ at. m (at.0, at.1, c, omega arith, at.4, at.5, at.6 ∙ ap (λ x. base at.0 + x * size at.0 + at.4) (let t : e + at.2 ≡ i + c = omega (arith, at.3) in t)))
       ∙ before.others a (λ at. m (at.0, at.1, at.2, omega (arith, at.3), at.4, at.5, at.6)) in
       record {
         end = one.end;
+        temps = one.temps;
         sums = one.sums;
         is = step;
         lanes = lanes;
@@ -360,8 +437,9 @@ module _ (f : FunctionValue) (call : Call) (r : ℕ) (base size : ℕ → ℕ) (
       }
 
   -- the same, as a turn's setting asks for it
-  pub reaches : (actions : List Action) → AreMeant f patterns f.insns actions → (first : State) (i : ℕ) (mem : Memory) (totals : ℕ → ℕ) (sig : ℕ → Local) → Reached f call r first i mem totals → (c : ℕ) → i + c ≤ call.n → Cells i c mem sig
+  pub reaches : (actions : List Action) (v0 : View) → ((x p : ℕ) → At v0 x p → ⊥) → AreMeant At f patterns v0 f.insns actions → (first : State) (i : ℕ) (mem : Memory) (totals : ℕ → ℕ) (sig : ℕ → Local)
+      → Reached f call r first i mem totals → (c : ℕ) → i + c ≤ call.n → Cells i c mem sig
       → (end : Memory) × Reached f call r first (c + i) end (λ g. totals g + sum_below c (λ q. Adds actions (sig q) g)) × Cells i c end (λ q. All actions (sig q)) × Rest i c mem end
-  reaches actions is first i mem totals sig h c w lanes =
-      let x = row_lanes actions is first i mem h.sums totals sig h.is h.agrees c w lanes in
-      (x.end, record { sums = x.sums; is = x.is; agrees = x.agrees }, x.lanes, x.others)
+  reaches actions v0 none is first i mem totals sig h c w lanes =
+      let x = row_lanes actions v0 none is first i mem h.temps h.sums totals sig h.is h.agrees c w lanes in
+      (x.end, record { temps = x.temps; sums = x.sums; is = x.is; agrees = x.agrees }, x.lanes, x.others)

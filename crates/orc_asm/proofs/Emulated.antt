@@ -93,6 +93,14 @@ module _ (f : FunctionValue) (call : Call) (r i : ℕ) where
     λ q l. cut_sub_lane w k q x l,
   )
 
+  -- a temp that has this value
+  pub temp_gives : (x w k v : ℕ) (s : State) → IsTemp f x → s.temps x ≡ v → Gives w k s (operand.Var x) (sub_lane (8 * w) v)
+  temp_gives x w k v s is e = (
+    sub_lane (8 * w) (s.temps x),
+    ap (λ k. read_var f call r i (8 * w) s x k) is,
+    λ q l. ap (λ v. sub_lane (8 * w) v q) e,
+  )
+
   -- the number of a parameter or of a constant
   scalar_read : (w p : ℕ) (s : State) (m : Operand) (k : VarKind) → (if same_kind kind.Param k then Some (operand.Var p) else (if same_kind kind.Const k then Some (operand.Number (var_at f.vars p).number) else None)) ≡ Some m
       → read_var f call r i w s p k ≡ Ok (λ q. meant f call m)
@@ -111,11 +119,11 @@ module _ (f : FunctionValue) (call : Call) (r i : ℕ) where
   number_gives w k s o m e = ((λ q. meant f call m), number_read (8 * w) s o m e, λ q l. refl)
 
   -- an array's number is written
-  pub array_takes : (d n v : ℕ) (mem : Memory) (sums : ℕ → ℕ) → IsCells f d n → IsDest f d → IsLow d n → ((j : ℕ) → j < n → IsMapped mem (cell f call d r i + j))
-      → (end : Memory) × (write_result f call r i v (state mem sums) (operand.Var d) ≡ Ok (state end sums)) × IsFill n mem (cell f call d r i) (digit v) end
-  array_takes d n v mem sums is dest low there =
+  pub array_takes : (d n v : ℕ) (mem : Memory) (temps sums : ℕ → ℕ) → IsCells f d n → IsDest f d → IsLow d n → ((j : ℕ) → j < n → IsMapped mem (cell f call d r i + j))
+      → (end : Memory) × (write_result f call r i v (state mem temps sums) (operand.Var d) ≡ Ok (state end temps sums)) × IsFill n mem (cell f call d r i) (digit v) end
+  array_takes d n v mem temps sums is dest low there =
       let a = cell f call d r i in
-      let s = state mem sums in
+      let s = state mem temps sums in
       let mapped : AreMapped n mem a = λ j l. subst (λ x. IsMapped mem x) (let q : a + j ≡ (a + j) % 2 ^ 64 = omega (arith, l, low) in q) (there j l) in (
         fill n mem a (byte_of n v),
         ap (λ k. write_var f call r i v s d k) dest
@@ -125,10 +133,14 @@ module _ (f : FunctionValue) (call : Call) (r i : ℕ) where
       )
 
   -- and one is added to a sum
-  pub sum_takes : (p n v : ℕ) (mem : Memory) (sums : ℕ → ℕ) → IsSum f p n → write_result f call r i v (state mem sums) (operand.Var p) ≡ Ok (state mem (change sums p ((sums p + v) % 2 ^ (8 * n))))
-  sum_takes p n v mem sums is =
-      ap (λ k. write_var f call r i v (state mem sums) p k) is.sum
-      ∙ ap (λ m. Ok (state mem (change sums p ((sums p + v) % 2 ^ (8 * m))))) is.size
+  pub sum_takes : (p n v : ℕ) (mem : Memory) (temps sums : ℕ → ℕ) → IsSum f p n → write_result f call r i v (state mem temps sums) (operand.Var p) ≡ Ok (state mem temps (change sums p ((sums p + v) % 2 ^ (8 * n))))
+  sum_takes p n v mem temps sums is =
+      ap (λ k. write_var f call r i v (state mem temps sums) p k) is.sum
+      ∙ ap (λ m. Ok (state mem temps (change sums p ((sums p + v) % 2 ^ (8 * m))))) is.size
+
+  -- and one goes to a temp
+  pub temp_takes : (x v : ℕ) (mem : Memory) (temps sums : ℕ → ℕ) → IsTemp f x → write_result f call r i v (state mem temps sums) (operand.Var x) ≡ Ok (state mem (change temps x v) sums)
+  temp_takes x v mem temps sums is = ap (λ k. write_var f call r i v (state mem temps sums) x k) is
 
   abbrev Pair : Type 0
   Pair = (ℕ → ℕ) × (ℕ → ℕ)

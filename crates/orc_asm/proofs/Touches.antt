@@ -1,5 +1,5 @@
 -- How many instructions of a turn go by the pointers of arrays: at most one for each operand that is an array.
-use Rattle.std.proofs.Common.{◌≡◌, ℕ, zero, suc, ◌+◌, ◌*◌, ◌≤◌, ◌&&◌, Bool, true, false, if◌then◌else◌, true≢false, suc-mul, pos, List, [], ◌∷◌, ◌++◌, refl, sym, ap, arith}
+use Rattle.std.proofs.Common.{◌≡◌, ℕ, zero, suc, ◌+◌, ◌*◌, ◌≤◌, ◌&&◌, Bool, true, false, if◌then◌else◌, true≢false, suc-mul, pos, List, [], ◌∷◌, ◌++◌, refl, sym, ap, ◌∙◌, arith}
 use Rattle.x86_ins.specs.declared.ins.AluOp.TheVariants.{Add, Sub}
 use Rattle.x86_ins.specs.declared.ins.Ins.{Ins}
 use Rattle.x86_ins.specs.declared.ins.Ins.TheVariants.{Vec, VecImm, Shuffle, VecLoad, VecStore, FromGpr, ToGpr, Move, Load, Store, Store8, Store16, Load8, Load16, MovImm, Alu, AluImm, Test, Shift, Imul, Lea, Push, Pop, Jump, JumpIf, Ret}
@@ -12,7 +12,9 @@ use Rattle.x86_flow.proofs.Moves.{load_weight, store_weight, aligned_store_weigh
 use Rattle.orc_ops.specs.declared.opcode.Op.{Op}
 use Rattle.orc_ops.specs.Table.{row}
 use Rattle.sse_laws.specs.Meets.{is_sum}
-use Rattle.orc_asm.specs.Code.{Action, IsRule, Source, FromArray, FromPattern, Target, ToArray, ToSum, Plan, pointer, source_far_code, sources_far_code, sum_code, result_far_code, results_far_code, action_far_code, actions_far_code, advance_code, turn_code, block_far, blocks_code, blocks_turn_code, at_pointer, unaligned}
+use Rattle.orc_asm.specs.Code.{Action, IsRule, Source, FromArray, FromPattern, FromPlace, Target, ToArray, ToSum, ToPlace, Plan, pointer, at_pointer, unaligned, first_register, second_register, rule_register, rule_code, source_far_code, sources_far_code, sum_code, result_far_code, results_far_code, action_far_code, actions_far_code, advance_code, block_far, blocks_code, turn_code, blocks_turn_code}
+use Rattle.x86_ins.proofs.Renamed.{simd_renamed}
+use Rattle.orc_asm.proofs.Sizes.{vectors_of}
 use Rattle.orc_asm.proofs.Block.{IsMovedFrom, IsMovedTo, IsFit}
 
 -- ---- operands that are arrays
@@ -21,11 +23,13 @@ abbrev pub from_arrays : List Source → ℕ
 from_arrays [] = 0
 from_arrays (FromArray k ∷ rest) = 1 + from_arrays rest
 from_arrays (FromPattern j ∷ rest) = from_arrays rest
+from_arrays (FromPlace p ∷ rest) = from_arrays rest
 
 abbrev pub to_arrays : List Target → ℕ
 to_arrays [] = 0
 to_arrays (ToArray k ∷ rest) = 1 + to_arrays rest
 to_arrays (ToSum g ∷ rest) = to_arrays rest
+to_arrays (ToPlace p ∷ rest) = to_arrays rest
 
 abbrev pub arrays_of : List Action → ℕ
 arrays_of [] = 0
@@ -79,12 +83,8 @@ module _ (by : ℕ → Bool) (by_stack : by 4 ≡ false) where
   all_free [] h = refl
   all_free (i ∷ is) h = (let x = both (is_simd (simd i)) (all_simd is) h in omega (arith, simd_free i x.0, all_free is x.1))
 
-  rule_free : (count : ℕ) (op : Op) (rule : List Ins) → IsRule count op rule → weigh v rule ≡ 0
-  rule_free count op rule is = go (is_sum (row op).kind) refl
-    where
-      go : (b : Bool) → is_sum (row op).kind ≡ b → weigh v rule ≡ 0
-      go true e = all_free rule (is.adds e).vectors
-      go false e = all_free rule (is.meets e).vectors
+  rule_free : (count : ℕ) (a : Action) → IsRule count a.op a.rule → weigh v (rule_code a) ≡ 0
+  rule_free count a is = all_free (rule_code a) (simd_renamed (rule_register a.to) a.rule ∙ vectors_of count a.op a.rule is)
 
   -- ---- blocks
 
@@ -92,14 +92,20 @@ module _ (by : ℕ → Bool) (by_stack : by 4 ≡ false) where
     from_few : (x : ℕ) (s : Source) → IsMovedFrom count size s → weigh v (source_far_code count size far x s) ≤ from_arrays (s ∷ [])
     from_few x (FromArray k) h = load_weight by (count * size k) x (pointer k) (far k) h
     from_few x (FromPattern j) h = omega (arith, none_4)
+    from_few x (FromPlace p) h = omega arith
 
-    sources_few : (ss : List Source) → Each (IsMovedFrom count size) ss → weigh v (sources_far_code count size far ss) ≤ from_arrays ss
-    sources_few [] h = omega arith
-    sources_few (s ∷ []) h = from_few 0 s h.0
-    sources_few (FromArray k ∷ FromArray m ∷ more) h = (let a = from_few 0 (FromArray k) h.0 in let b = from_few 1 (FromArray m) h.1.0 in omega (arith, a, b, weigh_append v (source_far_code count size far 0 (FromArray k)) (source_far_code count size far 1 (FromArray m))))
-    sources_few (FromArray k ∷ FromPattern m ∷ more) h = (let a = from_few 0 (FromArray k) h.0 in let b = from_few 1 (FromPattern m) h.1.0 in omega (arith, a, b, weigh_append v (source_far_code count size far 0 (FromArray k)) (source_far_code count size far 1 (FromPattern m))))
-    sources_few (FromPattern k ∷ FromArray m ∷ more) h = (let a = from_few 0 (FromPattern k) h.0 in let b = from_few 1 (FromArray m) h.1.0 in omega (arith, a, b, weigh_append v (source_far_code count size far 0 (FromPattern k)) (source_far_code count size far 1 (FromArray m))))
-    sources_few (FromPattern k ∷ FromPattern m ∷ more) h = (let a = from_few 0 (FromPattern k) h.0 in let b = from_few 1 (FromPattern m) h.1.0 in omega (arith, a, b, weigh_append v (source_far_code count size far 0 (FromPattern k)) (source_far_code count size far 1 (FromPattern m))))
+    from_front : (s : Source) (more : List Source) → from_arrays (s ∷ more) ≡ from_arrays (s ∷ []) + from_arrays more
+    from_front (FromArray k) more = omega arith
+    from_front (FromPattern j) more = refl
+    from_front (FromPlace p) more = refl
+
+    sources_few : (x y : ℕ) (ss : List Source) → Each (IsMovedFrom count size) ss → weigh v (sources_far_code count size far x y ss) ≤ from_arrays ss
+    sources_few x y [] h = omega arith
+    sources_few x y (s ∷ []) h = from_few x s h.0
+    sources_few x y (s ∷ t ∷ more) h =
+        let a = from_few x s h.0 in
+        let b = from_few y t h.1.0 in
+        omega (arith, a, b, from_front s (t ∷ more), from_front t more, weigh_append v (source_far_code count size far x s) (source_far_code count size far y t))
 
     either_few : (b : Bool) (width x r d : ℕ) → IsWidth width → weigh v (store_either_code b width x r d) ≤ 1
     either_few false width x r d is = store_weight by width x r d is
@@ -108,25 +114,41 @@ module _ (by : ℕ → Bool) (by_stack : by 4 ≡ false) where
     to_few : (x : ℕ) (t : Target) → IsMovedTo count size t → weigh v (result_far_code count size far aligned x t) ≤ to_arrays (t ∷ [])
     to_few x (ToArray k) h = either_few (aligned k) (count * size k) x (pointer k) (far k) h
     to_few x (ToSum g) h = omega (arith, none_4)
+    to_few x (ToPlace p) h = omega arith
 
     sum_free : (ts : List Target) → weigh v (sum_code ts) ≡ 0
     sum_free [] = refl
     sum_free (ToArray k ∷ rest) = refl
     sum_free (ToSum g ∷ rest) = omega (arith, none_4)
+    sum_free (ToPlace p ∷ rest) = refl
+
+    to_front : (t : Target) (more : List Target) → to_arrays (t ∷ more) ≡ to_arrays (t ∷ []) + to_arrays more
+    to_front (ToArray k) more = omega arith
+    to_front (ToSum g) more = refl
+    to_front (ToPlace p) more = refl
 
     results_few : (ts : List Target) → Each (IsMovedTo count size) ts → weigh v (results_far_code count size far aligned ts) ≤ to_arrays ts
     results_few [] h = omega arith
     results_few (t ∷ []) h = to_few 0 t h.0
-    results_few (ToArray k ∷ ToArray m ∷ more) h = (let a = to_few 0 (ToArray k) h.0 in let b = to_few 1 (ToArray m) h.1.0 in omega (arith, a, b, weigh_append v (result_far_code count size far aligned 0 (ToArray k)) (result_far_code count size far aligned 1 (ToArray m))))
-    results_few (ToArray k ∷ ToSum m ∷ more) h = (let a = to_few 0 (ToArray k) h.0 in let b = to_few 1 (ToSum m) h.1.0 in omega (arith, a, b, weigh_append v (result_far_code count size far aligned 0 (ToArray k)) (result_far_code count size far aligned 1 (ToSum m))))
-    results_few (ToSum k ∷ ToArray m ∷ more) h = (let a = to_few 0 (ToSum k) h.0 in let b = to_few 1 (ToArray m) h.1.0 in omega (arith, a, b, weigh_append v (result_far_code count size far aligned 0 (ToSum k)) (result_far_code count size far aligned 1 (ToArray m))))
-    results_few (ToSum k ∷ ToSum m ∷ more) h = (let a = to_few 0 (ToSum k) h.0 in let b = to_few 1 (ToSum m) h.1.0 in omega (arith, a, b, weigh_append v (result_far_code count size far aligned 0 (ToSum k)) (result_far_code count size far aligned 1 (ToSum m))))
+    results_few (t ∷ u ∷ more) h =
+        let a = to_few 0 t h.0 in
+        let b = to_few 1 u h.1.0 in
+        omega (arith, a, b, to_front t (u ∷ more), to_front u more, weigh_append v (result_far_code count size far aligned 0 t) (result_far_code count size far aligned 1 u))
 
     action_few : (a : Action) → IsFit count size a → weigh v (action_far_code count size far aligned a) ≤ from_arrays a.sources + to_arrays a.to
     action_few a h =
-        let loads = sources_far_code count size far a.sources in
+        let loads = sources_far_code count size far (first_register a.to) (second_register a.to) a.sources in
         let stores = results_far_code count size far aligned a.to in
-        omega (arith, weigh_append v loads (sum_code a.to ++ (a.rule ++ stores)), weigh_append v (sum_code a.to) (a.rule ++ stores), weigh_append v a.rule stores, sources_few a.sources h.sources, sum_free a.to, rule_free count a.op a.rule h.rule, results_few a.to h.to)
+        omega (
+          arith,
+          weigh_append v loads (sum_code a.to ++ (rule_code a ++ stores)),
+          weigh_append v (sum_code a.to) (rule_code a ++ stores),
+          weigh_append v (rule_code a) stores,
+          sources_few (first_register a.to) (second_register a.to) a.sources h.sources,
+          sum_free a.to,
+          rule_free count a h.rule,
+          results_few a.to h.to,
+        )
 
     pub actions_few : (actions : List Action) → Each (IsFit count size) actions → weigh v (actions_far_code count size far aligned actions) ≤ arrays_of actions
     actions_few [] h = omega arith

@@ -18,7 +18,7 @@ use Rattle.orc_frame.specs.Parts.{InRunning}
 use Rattle.orc_asm.specs.Code.{Plan, Action, pointer, at_pointer, unaligned, action_far_code, actions_far_code, actions_code, block_far, blocks_code, blocks_turn_code, advance_code, turn_code}
 use Rattle.orc_asm.proofs.Registers.{not_0, not_1, not_4, not_7, pointer_one}
 use Rattle.sse_acc.specs.Sums.{sum_below}
-use Rattle.orc_asm.proofs.Cells.{Numbers, OfDests, Local, Lanes, Others, AtElements, AllKnown, Decided, local, adds, elements_or_not, same_end}
+use Rattle.orc_asm.proofs.Cells.{Numbers, OfDests, Local, no_values, Lanes, Others, AtElements, AllKnown, Decided, local, adds, elements_or_not, same_end}
 use Rattle.orc_asm.proofs.Frames.{Framed}
 use Rattle.orc_asm.proofs.Digits.{number_of, digit_of}
 use Rattle.orc_asm.proofs.Keeping.{line_bounded}
@@ -66,7 +66,7 @@ pub record Setting (n : ℕ) (base : ℕ → ℕ) (P : ℕ → Type 0) (numbers 
   pub ground : Ground n base p.size P numbers rsp
   pub decided : Decided n base p.size P
   pub slots : (k : ℕ) → P k → IsSlot p.dests p.sources k
-  pub known : AllKnown n base p.size P numbers p.actions
+  pub known : AllKnown n base p.size P numbers no_values p.actions
   pub few_dests : p.dests ≤ 4
   pub few_sources : p.sources ≤ 8
   pub few : n < 2 ^ 31
@@ -113,7 +113,11 @@ module _ (n : ℕ) (base : ℕ → ℕ) (P : ℕ → Type 0) (numbers : Numbers)
       abbrev number_in : Memory → ℕ → ℕ → ℕ
       number_in m i k = number_of (p.size k) (λ r. or_else 0 (m (base k + i * p.size k + r)))
 
-      holds : (z i : ℕ) (e : Memory) (totals : ℕ → ℕ) (c : Core) → Inside z e totals c → i + count ≤ n → Lanes n base p.size P i count c.memory (λ q k. number_in c.memory (i + q) k)
+      -- the numbers of elements from one on; nothing is known of places
+      abbrev numbers_in : Memory → ℕ → ℕ → Local
+      numbers_in m i q = record { cells = number_in m (i + q); values = no_values }
+
+      holds : (z i : ℕ) (e : Memory) (totals : ℕ → ℕ) (c : Core) → Inside z e totals c → i + count ≤ n → Lanes n base p.size P i count c.memory (numbers_in c.memory i)
       holds z i e totals c h w k hk q l r lr =
           let lq : i + q < n = omega (arith, l, w) in
           let at : ℕ → ℕ = λ j. base k + (i + q) * p.size k + j in
@@ -144,7 +148,7 @@ module _ (n : ℕ) (base : ℕ → ℕ) (P : ℕ → Type 0) (numbers : Numbers)
           → (end : Memory) × (new : ℕ → ℕ) × (d : Core) × Emul (count + (lag + i)) end new × Line Q (actions_far_code count p.size far aligned p.actions) c d × Inside i end new d × (d.gpr 1 ≡ c.gpr 1)
       block_far_line far aligned lag far_is ins_all i aligns e totals c w h em =
           let j = lag + i in
-          let sig : ℕ → Local = λ q k. number_in c.memory (j + q) k in
+          let sig : ℕ → Local = numbers_in c.memory j in
           let hc : Lanes n base p.size P j count c.memory sig = holds i j e totals c h w in
           let he : Lanes n base p.size P j count e sig = λ k hk q l r lr. sym (h.agree (base k + (j + q) * p.size k + r) (set.apart k hk (j + q) (omega (arith, l, w)) r lr)) ∙ hc k hk q l r lr in
           let dest : (a : ℕ) → AtElements n base p.size (OfDests P) j count a → IsDestCell a = λ a at. (at.0, at.1, j + at.2, omega (arith, at.3, w), at.4, at.5, at.6) in
@@ -154,7 +158,7 @@ module _ (n : ℕ) (base : ℕ → ℕ) (P : ℕ → Type 0) (numbers : Numbers)
             stack = g 4 (λ x. omega (arith, x)) ∙ h.calm.stack;
             quiet = λ a m s. o a (λ x. m (dest a x)) s ∙ h.calm.quiet a m s;
           } in
-          let b = actions_line n base p.size P numbers rsp set.ground Q far aligned count some j p.actions c c.memory sig totals set.known fit ins_all w at h.calm.stack hc h.framed h.bounded (λ a m s. refl) (λ u ins g o. calmly u ins (calm u g o)) in
+          let b = actions_line n base p.size P numbers rsp set.ground Q far aligned count some j p.actions c c.memory no_values sig totals set.known fit ins_all w at h.calm.stack hc h.framed (λ p l q lq r lr. absurd (omega (arith, lr))) h.bounded (λ a m s. refl) (λ u ins g o. calmly u ins (calm u g o)) in
           let m = set.emulates j e totals sig em count w he in
           let d = b.0 in
           let x = b.2 in (

@@ -1,11 +1,9 @@
--- What is promised of a function's code, and which functions are built.
-use Rattle.std.specs.Prelude.{◌≡◌, ℕ, Bool, not, ◌&&◌, if◌then◌else◌, List, [], ◌∷◌, Option, Some, None}
-use Rattle.std.specs.List.{list_all}
-use Rattle.orc_program.specs.declared.program.Var.{Var}
-use Rattle.orc_program.specs.declared.program.VarKind.TheVariants as kind
-use Rattle.orc_program.specs.declared.program.Operand.{Operand}
+-- What is promised of a function's code, and which functions have none.
+use Rattle.std.specs.Prelude.{◌≡◌, ℕ, suc, nat_lt, if◌then◌else◌, List, [], ◌∷◌, Option, Some, None}
 use Rattle.orc_program.specs.declared.program.Insn.{Insn}
-use Rattle.orc_program.specs.Program.{FunctionValue, operand_is}
+use Rattle.orc_program.specs.Program.{FunctionValue}
+use Rattle.orc_program.specs.Need.{need_of, places}
+use Rattle.orc_plan.specs.declared.steps.Pressure.{Pressure}
 use Rattle.orc_frame.specs.Function.{subject_of}
 use Rattle.orc_asm.specs.declared.refusal.AsmError.{AsmError}
 use Rattle.orc_asm.specs.declared.refusal.AsmError.TheVariants as refusal
@@ -19,25 +17,18 @@ RunsAs f bytes = runs.RunsAs (subject_of f) bytes
 abbrev pub RunsQuietly : FunctionValue → List ℕ → Type 0
 RunsQuietly f bytes = runs.RunsQuietly (subject_of f) bytes
 
--- ---- what is built
+-- ---- functions that need too many values at once
 
--- an operand that is no temp
-abbrev pub is_direct : List Var → Operand → Bool
-is_direct vars o = not (operand_is kind.Temp vars o)
+-- of these instructions, the first of which has the number j, the first that needs more values than there are places: its line and its need
+abbrev pub pressure_from : FunctionValue → ℕ → List Insn → Option Pressure
+pressure_from f j [] = None
+pressure_from f j (insn ∷ insns) =
+    if nat_lt places (need_of f.vars f.insns j) then Some (record { line = insn.line; need = need_of f.vars f.insns j }) else pressure_from f (suc j) insns
 
--- an instruction without temps
-abbrev pub is_built : List Var → Insn → Bool
-is_built vars insn = list_all (is_direct vars) insn.results.items && list_all (is_direct vars) insn.sources.items
+abbrev pub first_pressure : FunctionValue → Option Pressure
+first_pressure f = pressure_from f 0 f.insns
 
--- the line of the first instruction that isn't built
-abbrev pub first_line : (Insn → Bool) → List Insn → Option ℕ
-first_line built [] = None
-first_line built (insn ∷ insns) = if built insn then first_line built insns else Some insn.line
-
-abbrev pub first_unbuilt : FunctionValue → Option ℕ
-first_unbuilt f = first_line (is_built f.vars) f.insns
-
--- why a function has no code: its first instruction that isn't built, or, where there is none, want of memory
+-- why a function has no code: its first instruction that needs too many values, or, where there is none, want of memory
 abbrev pub IsRefusal : FunctionValue → AsmError → Type 0
-IsRefusal f (refusal.NotBuilt line) = first_unbuilt f ≡ Some line
-IsRefusal f refusal.Memory = first_unbuilt f ≡ None
+IsRefusal f (refusal.Pressure line need) = first_pressure f ≡ Some (record { line = line; need = need })
+IsRefusal f refusal.Memory = first_pressure f ≡ None

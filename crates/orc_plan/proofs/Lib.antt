@@ -7,3 +7,4 @@ pub mod Numbered
 pub mod Ranges
 pub mod SameNeed
 pub mod FoundPatterns
+pub mod Standing

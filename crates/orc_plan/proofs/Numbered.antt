@@ -122,7 +122,7 @@ not_unset vars earlier op prefix position o h =
     let unset = check (is_unset vars earlier o) fault.Unset in
     unmet (is_unset vars earlier o) fault.Unset (later_none size unset (later_none kinds (or_else size unset) h))
 
-reads_made : (vars : List Var) (earlier : List Insn) (op : Op) (prefix position : ℕ) (os : List Operand) → has_no_fault (sources_fault vars earlier op prefix position os) ≡ true
+pub reads_made : (vars : List Var) (earlier : List Insn) (op : Op) (prefix position : ℕ) (os : List Operand) → has_no_fault (sources_fault vars earlier op prefix position os) ≡ true
     → list_all (λ p. is_in p (temps_made vars earlier)) (temps_among vars os) ≡ true
 reads_made vars earlier op prefix position [] h = refl
 reads_made vars earlier op prefix position (operand.Number n ∷ os) h =
@@ -146,7 +146,7 @@ below_all temps (p ∷ ps) h =
     let first : nat_lt (last_value temps p) (length temps) ≡ true = grind (arith, nat_tests, low) in
     ap (λ b. b && list_all (λ v. nat_lt v (length temps)) (map (last_value temps) ps)) first ∙ below_all temps ps x.1
 
-sources_pass : (vars : List Var) (earlier : List Insn) (insn : Insn) → has_no_fault (insn_fault vars earlier insn) ≡ true → has_no_fault (sources_fault vars earlier insn.op insn.prefix 0 insn.sources.items) ≡ true
+pub sources_pass : (vars : List Var) (earlier : List Insn) (insn : Insn) → has_no_fault (insn_fault vars earlier insn) ≡ true → has_no_fault (sources_fault vars earlier insn.op insn.prefix 0 insn.sources.items) ≡ true
 unfolding insn_fault
 sources_pass vars earlier insn h =
     let last = or_else (check (checks.is_too_many vars earlier insn) fault.TooMany) None in
@@ -163,7 +163,7 @@ all_true true true false x y z = z
 all_true true false c x y z = y
 all_true false b c x y z = x
 
-one_more : (vars : List Var) (earlier : List Insn) (insn : Insn) → temps_made vars (earlier ++ insn ∷ []) ≡ temps_made vars earlier ++ made_by vars insn
+pub one_more : (vars : List Var) (earlier : List Insn) (insn : Insn) → temps_made vars (earlier ++ insn ∷ []) ≡ temps_made vars earlier ++ made_by vars insn
 one_more vars earlier insn = flat_map-append (made_by vars) earlier (insn ∷ []) ∙ ap (λ (ts : List ℕ). temps_made vars earlier ++ ts) (append-nil (made_by vars insn))
 
 pub numbered_after : (vars : List Var) (known : List Pattern) (earlier insns : List Insn) → all_pass vars earlier insns ≡ true → is_numbered (length (temps_made vars earlier)) (steps_after vars known (temps_made vars earlier) insns) ≡ true

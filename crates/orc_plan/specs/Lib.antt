@@ -3,3 +3,4 @@ pub mod Need
 pub mod Places
 pub mod Placing
 pub mod Lowered
+pub mod Standing

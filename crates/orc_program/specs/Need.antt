@@ -5,7 +5,8 @@ use Rattle.orc_ops.specs.Table.{row}
 use Rattle.orc_program.specs.declared.program.Var.{Var}
 use Rattle.orc_program.specs.declared.program.VarKind.TheVariants as kind
 use Rattle.orc_program.specs.declared.program.Insn.{Insn}
-use Rattle.orc_program.specs.Program.{FunctionValue, is_of, count_of, array_count, temps_among}
+use Rattle.orc_program.specs.declared.program.Operand.{Operand}
+use Rattle.orc_program.specs.Program.{FunctionValue, is_of, operand_is, count_of, array_count, temps_among}
 use Rattle.orc_program.specs.Checks.{operand_sizes, patterns_of}
 
 -- ---- values: value k of instruction i is its temp result number k
@@ -94,13 +95,25 @@ lanes f = 1
 
 -- ---- cost
 
--- the cost of an instruction: twice its sources and results, and the class of its opcode
-abbrev pub insn_cost : Insn → ℕ
-insn_cost insn = 2 * length insn.sources.items + 2 * length insn.results.items + (row insn.op).class
+-- an operand is an array
+abbrev pub is_array_operand : List Var → Operand → Bool
+is_array_operand vars o = operand_is kind.Dest vars o || operand_is kind.Source vars o
+
+-- the cost of a source: 2 of an array, and 1 of a parameter, a constant, a number or a temp
+abbrev pub source_cost : List Var → Operand → ℕ
+source_cost vars o = if is_array_operand vars o then 2 else 1
+
+-- the cost of a result: 2 of a dest or an accumulator, and 0 of a temp
+abbrev pub result_cost : List Var → Operand → ℕ
+result_cost vars o = if operand_is kind.Dest vars o || operand_is kind.Accumulator vars o then 2 else 0
+
+-- the cost of an instruction: its sources', its results', and the class of its opcode
+abbrev pub insn_cost : List Var → Insn → ℕ
+insn_cost vars insn = sum_by (source_cost vars) insn.sources.items + sum_by (result_cost vars) insn.results.items + (row insn.op).class
 
 -- E: the sum over all instructions
 abbrev pub cost : FunctionValue → ℕ
-cost f = sum_by insn_cost f.insns
+cost f = sum_by (insn_cost f.vars) f.insns
 
 -- ---- steps
 
