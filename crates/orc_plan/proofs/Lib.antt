@@ -6,4 +6,3 @@ pub mod Last
 pub mod Numbered
 pub mod Ranges
 pub mod SameNeed
-pub mod FoundPatterns
