@@ -27,7 +27,7 @@ fn byte_var(alloc: Global, kind: VarKind, name: &[u8], number: u64) -> Option<Va
     })
 }
 
-fn insn(op: Op, prefix: u8, result: Operand, sources: &[Operand]) -> Insn {
+fn insn(op: Op, prefix: u8, target: Operand, sources: &[Operand]) -> Insn {
     let mut made = Insn {
         op,
         prefix,
@@ -35,7 +35,7 @@ fn insn(op: Op, prefix: u8, result: Operand, sources: &[Operand]) -> Insn {
         sources: ArrayVec::new(),
         line: 1,
     };
-    let _ = made.results.try_push(result);
+    let _ = made.results.try_push(target);
     let _ = made.sources.try_extend_from_slice(sources);
     made
 }
