@@ -1,6 +1,7 @@
 -- Plans of functions are small.
-use Rattle.std.proofs.Common.{◌≡◌, ℕ, suc, ◌+◌, ◌*◌, ◌-◌, ◌<◌, ◌≤◌, ◌&&◌, nat_le, nat_lt, true, if◌then◌else◌, List, [], ◌∷◌, ◌++◌, length, slice_index, refl, sym, ap, subst, arith, inl, inr, ⊎_elim, length-append}
+use Rattle.std.proofs.Common.{◌≡◌, ℕ, suc, ◌+◌, ◌*◌, ◌-◌, ◌<◌, ◌≤◌, ◌&&◌, nat_le, nat_lt, true, false, if◌then◌else◌, List, [], ◌∷◌, ◌++◌, length, slice_index, refl, sym, ap, ◌∙◌, subst, arith, inl, inr, ⊎_elim, length-append}
 use Rattle.std.proofs.lemmas.Bool.{cases_lt, leb-false, or_parts}
+use Rattle.std.proofs.lemmas.Bool.Decides.{nat_tests}
 use Rattle.std.proofs.lemmas.List.{get_or_past}
 use Rattle.orc_program.specs.declared.program.Var.{Var}
 use Rattle.orc_program.specs.declared.program.VarKind.TheVariants as kind
@@ -18,6 +19,8 @@ use Rattle.x86_flow.specs.Moves.{IsWidth}
 use Rattle.orc_frame.specs.Subject.{Call}
 use Rattle.orc_plan.specs.declared.steps.Step.{Step}
 use Rattle.orc_plan.specs.Lowered.{steps_after, steps_of}
+use Rattle.orc_plan.specs.Lowered.{sizes_of, is_used}
+use Rattle.orc_plan.proofs.SlotSizes.{array_sized, used_sized}
 use Rattle.orc_asm.specs.Code.{Action, Source, FromArray, FromPattern, FromPlace, Target, ToArray, ToSum, ToPlace, AreActions, plan_with}
 use Rattle.orc_asm.proofs.Emulated.{IsCells}
 use Rattle.orc_asm.proofs.Slots.{Limits, limits, SlotIs, slot_is}
@@ -100,6 +103,23 @@ module _ (f : FunctionValue) (h : is_function f ≡ true) where
 
   pub slot_small : (p b : ℕ) → IsCells f p b → slot_of f.vars p < 12
   slot_small p b is = few_slots (count_of kind.Dest f.vars) (count_of kind.Source f.vars) (slot_of f.vars p) few.dests few.sources (slot_there p b is).slot
+
+  -- the size in its slot, by the steps' sizes and by the variables
+  pub slot_same : (p b : ℕ) → IsCells f p b → slice_index (sizes_of f) (slot_of f.vars p) ≡ size_of_slot f.vars (slot_of f.vars p)
+  slot_same p b is = array_sized f h p (is.inside, is.array) ∙ sym (slot_there p b is).size
+
+  pub slot_sized : (k : ℕ) → IsSlot (count_of kind.Dest f.vars) (count_of kind.Source f.vars) k → slice_index (sizes_of f) k ≡ size_of_slot f.vars k
+  slot_sized k is = used_sized f k (few_slots (count_of kind.Dest f.vars) (count_of kind.Source f.vars) k few.dests few.sources is) (used k is)
+    where
+      used : (k : ℕ) → IsSlot (count_of kind.Dest f.vars) (count_of kind.Source f.vars) k → is_used f.vars k ≡ true
+      used k (inl l) =
+          let first : nat_lt k 4 ≡ true = grind (arith, nat_tests, l, few.dests) in
+          let here : nat_lt k (count_of kind.Dest f.vars) ≡ true = grind (arith, nat_tests, l) in
+          ap (λ b. if b then nat_lt k (count_of kind.Dest f.vars) else nat_lt (k - 4) (count_of kind.Source f.vars)) first ∙ here
+      used k (inr l) =
+          let later : nat_lt k 4 ≡ false = grind (arith, nat_tests, l.0) in
+          let here : nat_lt (k - 4) (count_of kind.Source f.vars) ≡ true = grind (arith, nat_tests, l.0, l.1) in
+          ap (λ b. if b then nat_lt k (count_of kind.Dest f.vars) else nat_lt (k - 4) (count_of kind.Source f.vars)) later ∙ here
 
   pub slot_width : (p b : ℕ) → IsCells f p b → IsWidth (1 * size_of_slot f.vars (slot_of f.vars p))
   slot_width p b is = subst (λ n. IsWidth (1 * n)) (sym (slot_there p b is).size) (one_width (var_at f.vars p).size (size_kept f h p is.inside))

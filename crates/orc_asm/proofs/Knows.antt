@@ -21,10 +21,13 @@ use Rattle.x86_flow.specs.Moves.{IsWidth}
 use Rattle.x86_ins.specs.Way.{Each}
 use Rattle.sse_laws.specs.Meets.{is_sum, widest}
 use Rattle.orc_plan.specs.declared.steps.Step.{Step}
-use Rattle.orc_plan.specs.Lowered.{result_items, source_items, step_of, steps_after, steps_of}
+use Rattle.orc_plan.specs.Lowered.{result_items, source_items, step_of, steps_after, steps_of, sizes_of}
 use Rattle.orc_plan.specs.Standing.{AllStand}
 use Rattle.orc_frame.specs.Frame.{period}
-use Rattle.orc_asm.specs.Code.{Action, Source, FromArray, FromPattern, FromPlace, Target, ToArray, ToSum, ToPlace, source_of, target_of, IsAction, AreActions, IsLoaded, IsStored, IsReady, patterns_in, first_register, second_register, action_code}
+use Rattle.orc_frame.specs.Layout.{layout_of}
+use Rattle.orc_frame.proofs.Apart.{length-acc_sizes_of}
+use Rattle.orc_program.specs.declared.program.Pattern.{Pattern}
+use Rattle.orc_asm.specs.Code.{Action, Source, FromArray, FromPattern, FromPlace, Target, ToArray, ToSum, ToPlace, source_of, target_of, IsAction, AreActions, IsLoaded, IsStored, IsReady, patterns_in, first_register, second_register, action_code, IsMoved}
 use Rattle.orc_asm.proofs.Cells.{Numbers, IsOf, IsTo, IsFrom, IsBeside, AreFrom, IsMade, AreTo, IsKept, IsKnown, AllKnown, live_target, live_targets, live_act, no_values}
 use Rattle.orc_asm.proofs.Emulated.{IsCells, IsSum, meant}
 use Rattle.orc_asm.proofs.Elements.{IsRead, AreRead, Follows, IsWritten, AreWritten, IsMeant, AreMeant}
@@ -38,7 +41,9 @@ use Rattle.orc_asm.proofs.Sizes.{fine_action}
 use Rattle.orc_asm.proofs.Sized.{HasPrefix, first_period, second_period, sum_ok}
 use Rattle.orc_asm.proofs.Direct.{pattern_of, number_of, IsSourced, IsTargeted}
 use Rattle.orc_asm.proofs.Acts.{View, StandsIn, nothing_stands, place_in, AreSourced, AreTargeted, AreFollowed, IsClear, IsPlanned, ArePlanned, are_planned}
-use Rattle.orc_asm.proofs.Fits.{slot_small, slot_width, moved_from, moved_to, lanes_fit}
+use Rattle.orc_asm.proofs.Layouts.{patterns_are, sizes_are}
+use Rattle.orc_asm.proofs.SameSizes.{SameFrom, SameTo, SameFor}
+use Rattle.orc_asm.proofs.Fits.{slot_small, slot_same, slot_width, moved_from, moved_to, lanes_fit}
 
 -- the bytes of accumulator g
 abbrev pub width_of : FunctionValue → ℕ → ℕ
@@ -296,6 +301,39 @@ module _ (f : FunctionValue) (h : is_function f ≡ true) (at : List ℕ) where
   to_slot op prefix position o (ToSum g) d = let l = before_less kind.Accumulator f.vars d.0 d.2.inside (ap (same_kind kind.Accumulator) d.2.sum) in omega (arith, l, d.3, (limits f h).accs)
   to_slot op prefix position o (ToPlace a) d = d.5
 
+  -- ---- what is asked of a source and of a result whose code is to be given
+
+  abbrev sizes : ℕ → ℕ
+  sizes = slice_index (sizes_of f)
+
+  moved : (p b k : ℕ) → IsCells f p b → slot_of f.vars p ≡ k → IsMoved sizes 1 k
+  moved p b k is e = subst (IsMoved sizes 1) e (slot_small f h p b is, subst (λ n. IsWidth (1 * n)) (sym (slot_same f h p b is)) (slot_width f h p b is))
+
+  same_size : (p b k : ℕ) → IsCells f p b → slot_of f.vars p ≡ k → sizes k ≡ size_of_slot f.vars k
+  same_size p b k is e = subst (λ k. sizes k ≡ size_of_slot f.vars k) e (slot_same f h p b is)
+
+  from_loaded : (temps : List ℕ) (steps : List Step) (op : Op) (prefix position : ℕ) (o : Operand) (s : Source) → IsSourced f at temps steps op prefix position o s → IsLoaded (layout_of f) sizes 1 s
+  from_loaded temps steps op prefix position o (FromArray k) d = moved d.0 (size_of_source op position * prefix) k d.2 d.3
+  from_loaded temps steps op prefix position o (FromPattern j) d = subst (λ (ps : List Pattern). j < length ps) (sym (patterns_are f)) d.1
+  from_loaded temps steps op prefix position o (FromPlace a) d = d.6
+
+  from_same : (temps : List ℕ) (steps : List Step) (op : Op) (prefix position : ℕ) (o : Operand) (s : Source) → IsSourced f at temps steps op prefix position o s → SameFrom sizes (size_of_slot f.vars) s
+  from_same temps steps op prefix position o (FromArray k) d = same_size d.0 (size_of_source op position * prefix) k d.2 d.3
+  from_same temps steps op prefix position o (FromPattern j) d = tt
+  from_same temps steps op prefix position o (FromPlace a) d = tt
+
+  to_stored : (op : Op) (prefix position : ℕ) (o : Operand) (t : Target) → IsTargeted f op prefix position o t → IsStored (layout_of f) sizes 1 t
+  to_stored op prefix position o (ToArray k) d = moved d.0 (size_of_result op position * prefix) k d.2 d.4
+  to_stored op prefix position o (ToSum g) d =
+      let l = before_less kind.Accumulator f.vars d.0 d.2.inside (ap (same_kind kind.Accumulator) d.2.sum) in
+      omega (arith, l, d.3, ap length (sizes_are f), length-acc_sizes_of f)
+  to_stored op prefix position o (ToPlace a) d = d.5
+
+  to_same : (op : Op) (prefix position : ℕ) (o : Operand) (t : Target) → IsTargeted f op prefix position o t → SameTo sizes (size_of_slot f.vars) t
+  to_same op prefix position o (ToArray k) d = same_size d.0 (size_of_result op position * prefix) k d.2 d.4
+  to_same op prefix position o (ToSum g) d = tt
+  to_same op prefix position o (ToPlace a) d = tt
+
   -- ---- costs
 
   abbrev cost_of_kind : VarKind → ℕ
@@ -332,6 +370,8 @@ module _ (f : FunctionValue) (h : is_function f ≡ true) (at : List ℕ) where
 
   record AreFew (os : List Operand) (ss : List Source) : Type 0 where
     slots : Each (IsFromSlot 1 (size_of_slot f.vars)) ss
+    loaded : Each (IsLoaded (layout_of f) sizes 1) ss
+    same : Each (SameFrom sizes (size_of_slot f.vars)) ss
     few : length ss ≤ 2
     cost : from_weights ss ≤ sum_by (source_cost f.vars) os
 
@@ -340,6 +380,8 @@ module _ (f : FunctionValue) (h : is_function f ≡ true) (at : List ℕ) where
   few_sources temps steps op prefix (x ∷ []) [] d = absurd d
   few_sources temps steps op prefix (x ∷ []) (s ∷ []) d = record {
     slots = (from_slot temps steps op prefix 0 x s d.0, tt);
+    loaded = (from_loaded temps steps op prefix 0 x s d.0, tt);
+    same = (from_same temps steps op prefix 0 x s d.0, tt);
     few = omega arith;
     cost = omega (arith, from_cost temps steps op prefix 0 x s d.0, sum_by-cons (source_cost f.vars) x []);
   }
@@ -348,6 +390,8 @@ module _ (f : FunctionValue) (h : is_function f ≡ true) (at : List ℕ) where
   few_sources temps steps op prefix (x ∷ y ∷ []) (s ∷ []) d = absurd d
   few_sources temps steps op prefix (x ∷ y ∷ []) (s ∷ t ∷ []) d = record {
     slots = (from_slot temps steps op prefix 0 x s d.0, (from_slot temps steps op prefix 1 y t d.1, tt));
+    loaded = (from_loaded temps steps op prefix 0 x s d.0, (from_loaded temps steps op prefix 1 y t d.1, tt));
+    same = (from_same temps steps op prefix 0 x s d.0, (from_same temps steps op prefix 1 y t d.1, tt));
     few = omega arith;
     cost = omega (
       arith,
@@ -362,6 +406,8 @@ module _ (f : FunctionValue) (h : is_function f ≡ true) (at : List ℕ) where
 
   record AreFewTo (os : List Operand) (ts : List Target) : Type 0 where
     slots : Each (IsToSlot 1 (size_of_slot f.vars)) ts
+    stored : Each (IsStored (layout_of f) sizes 1) ts
+    same : Each (SameTo sizes (size_of_slot f.vars)) ts
     few : length ts ≤ 2
     cost : to_weights ts ≤ sum_by (result_cost f.vars) os
 
@@ -370,6 +416,8 @@ module _ (f : FunctionValue) (h : is_function f ≡ true) (at : List ℕ) where
   few_targets op prefix (x ∷ []) [] d = absurd d
   few_targets op prefix (x ∷ []) (t ∷ []) d = record {
     slots = (to_slot op prefix 0 x t d, tt);
+    stored = (to_stored op prefix 0 x t d, tt);
+    same = (to_same op prefix 0 x t d, tt);
     few = omega arith;
     cost = omega (arith, to_cost op prefix 0 x t d, sum_by-cons (result_cost f.vars) x []);
   }
@@ -378,6 +426,8 @@ module _ (f : FunctionValue) (h : is_function f ≡ true) (at : List ℕ) where
   few_targets op prefix (x ∷ y ∷ []) (t ∷ []) d = absurd d
   few_targets op prefix (x ∷ y ∷ []) (t ∷ u ∷ []) d = record {
     slots = (to_slot op prefix 0 x t d.0, (to_slot op prefix 1 y u d.1, tt));
+    stored = (to_stored op prefix 0 x t d.0, (to_stored op prefix 1 y u d.1, tt));
+    same = (to_same op prefix 0 x t d.0, (to_same op prefix 1 y u d.1, tt));
     few = omega arith;
     cost = omega (arith, to_cost op prefix 0 x t d.0, to_cost op prefix 1 y u d.1, sum_by-cons (result_cost f.vars) x (y ∷ []), sum_by-cons (result_cost f.vars) y []);
   }
@@ -439,30 +489,32 @@ module _ (f : FunctionValue) (h : is_function f ≡ true) (at : List ℕ) where
 
   -- ---- what is asked of a step whose code is to be given
 
-  loaded : (ss : List Source) → Each (IsFromSlot 1 (size_of_slot f.vars)) ss → Each (IsLoaded (size_of_slot f.vars) 1) ss
-  loaded [] g = tt
-  loaded (FromArray k ∷ ss) g = ((g.0.1, g.0.0), loaded ss g.1)
-  loaded (FromPattern j ∷ ss) g = (g.0, loaded ss g.1)
-  loaded (FromPlace a ∷ ss) g = (g.0, loaded ss g.1)
-
-  stored : (ts : List Target) → Each (IsToSlot 1 (size_of_slot f.vars)) ts → Each (IsStored (size_of_slot f.vars) 1) ts
-  stored [] g = tt
-  stored (ToArray k ∷ ts) g = ((g.0.1, g.0.0), stored ts g.1)
-  stored (ToSum j ∷ ts) g = (g.0, stored ts g.1)
-  stored (ToPlace a ∷ ts) g = (g.0, stored ts g.1)
-
-  ready_one : (temps : List ℕ) (insn : Insn) (rest : List Insn) → IsPlanned f at temps insn rest → IsReady at (size_of_slot f.vars) 1 (step_at f temps insn)
+  ready_one : (temps : List ℕ) (insn : Insn) (rest : List Insn) → IsPlanned f at temps insn rest → IsReady (layout_of f) at sizes 1 (step_at f temps insn)
   ready_one temps insn rest d = record {
     has_rule = λ e. (omega arith, omega arith, (sum_ok insn.op e).some);
-    sources = loaded (sources_at f at temps insn) (from_few temps insn rest d).slots;
-    to = stored (targets_at f at temps insn) (to_few temps insn rest d).slots;
+    sources = (from_few temps insn rest d).loaded;
+    to = (to_few temps insn rest d).stored;
     apart = d.apart;
   }
 
-  ready_from : (temps : List ℕ) (insns : List Insn) → ArePlanned f at temps insns → (k : ℕ) (d : Step) → k < length (steps_from f temps insns) → IsReady at (size_of_slot f.vars) 1 (get_or (steps_from f temps insns) k d)
+  ready_from : (temps : List ℕ) (insns : List Insn) → ArePlanned f at temps insns → (k : ℕ) (d : Step) → k < length (steps_from f temps insns) → IsReady (layout_of f) at sizes 1 (get_or (steps_from f temps insns) k d)
   ready_from temps [] b k d l = absurd (omega (arith, l))
   ready_from temps (insn ∷ insns) b zero d l = ready_one temps insn insns b.0
   ready_from temps (insn ∷ insns) b (suc k) d l = ready_from (temps ++ made_by f.vars insn) insns b.1 k d (omega (arith, l))
+
+  -- ---- sizes by slots
+
+  same_one : (temps : List ℕ) (insn : Insn) (rest : List Insn) (a : Action) → IsPlanned f at temps insn rest → IsAction at 1 (step_at f temps insn) a → SameFor sizes (size_of_slot f.vars) a
+  same_one temps insn rest a d is = (
+    subst (Each (SameFrom sizes (size_of_slot f.vars))) (sym is.sources) (from_few temps insn rest d).same,
+    subst (Each (SameTo sizes (size_of_slot f.vars))) (sym is.to) (to_few temps insn rest d).same,
+  )
+
+  same_from : (temps : List ℕ) (insns : List Insn) (actions : List Action) → ArePlanned f at temps insns → AreActions at 1 (steps_from f temps insns) actions → Each (SameFor sizes (size_of_slot f.vars)) actions
+  same_from temps [] [] d is = tt
+  same_from temps [] (a ∷ rest) d is = absurd is
+  same_from temps (insn ∷ insns) [] d is = absurd is
+  same_from temps (insn ∷ insns) (a ∷ rest) d is = (same_one temps insn insns a d.0 is.0, same_from (temps ++ made_by f.vars insn) insns rest d.1 is.1)
 
   -- ---- of a function's steps
 
@@ -479,6 +531,10 @@ module _ (f : FunctionValue) (h : is_function f ≡ true) (at : List ℕ) where
     unfolding steps_of
     weights_within actions is = weights_from [] f.insns actions (are_planned f h at stand) is
 
-    pub all_ready : (k : ℕ) (d : Step) → k < length (steps_of f) → IsReady at (size_of_slot f.vars) 1 (get_or (steps_of f) k d)
+    pub all_ready : (k : ℕ) (d : Step) → k < length (steps_of f) → IsReady (layout_of f) at sizes 1 (get_or (steps_of f) k d)
     unfolding steps_of
     all_ready k d l = ready_from [] f.insns (are_planned f h at stand) k d l
+
+    pub all_same : (actions : List Action) → AreActions at 1 (steps_of f) actions → Each (SameFor sizes (size_of_slot f.vars)) actions
+    unfolding steps_of
+    all_same actions is = same_from [] f.insns actions (are_planned f h at stand) is

@@ -13,4 +13,4 @@ pub mod Reach
 pub mod Reduced
 pub mod Writes
 pub mod Addresses
-pub mod Displacements
+pub mod FieldsOf

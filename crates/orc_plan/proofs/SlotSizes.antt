@@ -11,12 +11,12 @@ use Rattle.orc_program.specs.declared.program.VarKind.TheVariants as kind
 use Rattle.orc_program.specs.Program.{FunctionValue, same_kind, is_of, is_array_kind, var_at, count_of, count_before, places_of}
 use Rattle.orc_program.specs.Good.{IsArray}
 use Rattle.orc_program.specs.Kept.{is_function}
-use Rattle.orc_program.specs.Slots.{slot_of}
+use Rattle.orc_program.specs.Slots.{slot_of, size_of_slot}
 use Rattle.orc_program.proofs.Counts.{FewVars, few_vars}
 use Rattle.orc_program.proofs.Places.{before_less}
 use Rattle.orc_program.proofs.Nth.{place_again}
 use Rattle.orc_program.proofs.Sizes.{kept_of}
-use Rattle.orc_plan.specs.Lowered.{size_in_slot, sizes_of}
+use Rattle.orc_plan.specs.Lowered.{is_used, size_in_slot, sizes_of}
 
 -- one more number of a list that a loop fills
 pub filled_more : (f : ℕ → ℕ) (xs : List ℕ) (i v : ℕ) → i < length xs → v ≡ f i → take i xs ≡ map f (range_with_len 0 i) → take (i + 1) (set xs i v) ≡ map f (range_with_len 0 (i + 1))
@@ -77,3 +77,7 @@ array_sized f h p a = go (few_vars f.vars (kept_of f h).limits) (is_of kind.Dest
         let low : n < 8 = omega (arith, few.sources, less) in
         let used : nat_lt n (count_of kind.Source f.vars) ≡ true = grind (arith, nat_tests, less) in
         in_slot f (4 + n) (omega arith) ∙ size_of_later f.vars n used ∙ ap (λ q. (var_at f.vars q).size) (place_again kind.Source f.vars p a.0 s)
+
+-- the size in a slot that is used
+pub used_sized : (f : FunctionValue) (slot : ℕ) → slot < 12 → is_used f.vars slot ≡ true → slice_index (sizes_of f) slot ≡ size_of_slot f.vars slot
+used_sized f slot l e = in_slot f slot l ∙ ap (λ b. if b then size_of_slot f.vars slot else 0) e
