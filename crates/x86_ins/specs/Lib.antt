@@ -2,3 +2,4 @@ pub mod Spelling
 pub mod Vectors
 pub mod Machine
 pub mod Way
+pub mod Renaming
