@@ -1,7 +1,7 @@
 -- The machine under a renaming of its vector registers.
 use Rattle.std.proofs.Common.{◌≡◌, ℕ, ◌%◌, ◌==◌, Bool, true, false, if◌then◌else◌, List, get_or, Option, Some, None, Result, Ok, Err, refl, sym, ap, ap₂, ◌∙◌, subst}
 use Rattle.orc_bits.specs.Lanes.{lane, change}
-use Rattle.orc_bits.specs.Memory.{Memory, read, value, word, store}
+use Rattle.orc_bits.specs.Memory.{Memory, read, word, store}
 use Rattle.x86_ins.specs.declared.ins.Ins.{Ins}
 use Rattle.x86_ins.specs.declared.ins.Ins.TheVariants.{Vec, VecImm, Shuffle, VecLoad, VecStore, FromGpr, ToGpr, Move, Load, Store, Store8, Store16, Load8, Load16, MovImm, Alu, AluImm, Test, Shift, Imul, Lea, Push, Pop, Jump, JumpIf, Ret}
 use Rattle.x86_ins.specs.declared.ins.MoveOp.{MoveOp}
@@ -10,8 +10,8 @@ use Rattle.x86_ins.specs.declared.state.Flags.{Flags}
 use Rattle.x86_ins.specs.declared.state.Trap.{Trap}
 use Rattle.x86_ins.specs.declared.state.Why.TheVariants as why
 use Rattle.x86_ins.specs.Vectors.{shape, result_of, imm_shape, imm_result, shuffle_result}
-use Rattle.x86_ins.specs.Machine.{Core, Point, with_gpr, with_xmm, with_lanes, with_memory, address, access, aligned, move_size, save, moved, below_stack, alu_core, work, at, test, jump_if, return_to, effect}
-use Rattle.x86_ins.specs.Renaming.{renamed, renaming, IsPermutation, Renames, RenamesPoint}
+use Rattle.x86_ins.specs.Machine.{Core, with_xmm, with_lanes, with_memory, address, access, aligned, move_size, save, below_stack, work, at, test, jump_if, return_to, effect}
+use Rattle.x86_ins.specs.Renaming.{renamed, renaming, Renames, RenamesPoint}
 use Rattle.x86_ins.specs.Laws.{EffectsRenamed, RenamingKeeps}
 use Rattle.x86_ins.proofs.Permutations.{renaming_one}
 use Rattle.x86_ins.proofs.Renamed.{change_alike, change_renamed}

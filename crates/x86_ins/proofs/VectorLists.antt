@@ -1,10 +1,10 @@
 -- Lists of instructions that work on vector registers alone: each takes one step, and keeps all else.
 use Rattle.std.proofs.Common.{◌≡◌, ℕ, Bool, true, false, ◌&&◌, List, [], ◌∷◌, length, Ok, refl, ap}
 use Rattle.x86_ins.specs.declared.ins.Ins.{Ins}
-use Rattle.x86_ins.specs.declared.ins.Ins.TheVariants.{Vec, VecImm, Shuffle, VecLoad, VecStore, FromGpr, ToGpr, Move, Load, Store, Store8, Store16, Load8, Load16, MovImm, Alu, AluImm, Test, Shift, Imul, Lea, Push, Pop, Jump, JumpIf, Ret}
+use Rattle.x86_ins.specs.declared.ins.Ins.TheVariants.{Vec, VecImm, Shuffle, Jump, JumpIf, Ret}
 use Rattle.x86_ins.specs.Vectors.{simd, simd_effect, is_simd, all_simd, after}
 use Rattle.x86_ins.specs.Machine.{Core, with_lanes, work, at, effect}
-use Rattle.x86_ins.specs.Laws.{Leads, VectorsLead}
+use Rattle.x86_ins.specs.Laws.{VectorsLead}
 use Rattle.x86_ins.proofs.Bounds.{ok_err}
 
 -- what `work` does is the effect, with the place behind the instruction

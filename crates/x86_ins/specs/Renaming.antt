@@ -1,4 +1,4 @@
--- Vector registers under other names: the same instructions with XMM registers exchanged (Intel SDM, volume 1, section 10.2: sixteen registers XMM0 to XMM15, all alike).
+-- Instructions under other names of the vector registers XMM0 to XMM15 (Intel SDM, volume 1, section 10.2.2). No instruction here has a fixed one of them, so the names can be exchanged.
 use Rattle.std.specs.Prelude.{◌≡◌, ℕ, ◌<◌, List, get_or, length}
 use Rattle.x86_ins.specs.declared.ins.Ins.{Ins}
 use Rattle.x86_ins.specs.declared.ins.Ins.TheVariants.{Vec, VecImm, Shuffle, VecLoad, VecStore, FromGpr, ToGpr}

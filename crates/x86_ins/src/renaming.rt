@@ -1,56 +1,36 @@
-//! Instructions with other vector registers.
+//! Instructions under other names of the vector registers.
 
 ghost use Rattle.std.specs.Prelude.{◌≡◌};
 ghost use Rattle.x86_ins.specs.Renaming.{IsPermutation, renamed, renaming};
 
 use crate::ins::{Ins, Xmm};
 
-/// The instruction with each vector register renamed: `map[r]` stands in the place of XMM `r`. General registers, addresses and numbers are kept (Intel SDM, volume 2: the operands of the kinds xmm, r32, r64, m and imm).
+/// The instruction with `map[r]` in the place of each vector register XMM `r`, and nothing else changed: general registers, addresses and numbers stay (Intel SDM, volume 1, section 10.2.2: XMM0 to XMM15). The map is a permutation, so that no two registers get one name.
 pub fn rename(ins: &Ins, map: &[u8; 16]) -> Ins
     requires { IsPermutation map.now }
     ensures { result ≡ renamed (renaming map.now) ins.now }
 {
-    match *ins {
-        Ins::Vec { op, dst, src } => Ins::Vec {
-            op,
-            dst: new_name(dst, map),
-            src: new_name(src, map),
-        },
-        Ins::VecImm { op, dst, count } => Ins::VecImm {
-            op,
-            dst: new_name(dst, map),
-            count,
-        },
-        Ins::Shuffle { op, dst, src, order } => Ins::Shuffle {
-            op,
-            dst: new_name(dst, map),
-            src: new_name(src, map),
-            order,
-        },
-        Ins::VecLoad { op, dst, at } => Ins::VecLoad {
-            op,
-            dst: new_name(dst, map),
-            at,
-        },
-        Ins::VecStore { op, src, at } => Ins::VecStore {
-            op,
-            src: new_name(src, map),
-            at,
-        },
-        Ins::FromGpr { wide, dst, src } => Ins::FromGpr {
-            wide,
-            dst: new_name(dst, map),
-            src,
-        },
-        Ins::ToGpr { wide, dst, src } => Ins::ToGpr {
-            wide,
-            dst,
-            src: new_name(src, map),
-        },
-        other => other,
+    let mut renamed = *ins;
+    match &mut renamed {
+        Ins::Vec { dst, src, .. } => {
+            *dst = new_name(*dst, map);
+            *src = new_name(*src, map);
+        }
+        Ins::Shuffle { dst, src, .. } => {
+            *dst = new_name(*dst, map);
+            *src = new_name(*src, map);
+        }
+        Ins::VecImm { dst, .. } => *dst = new_name(*dst, map),
+        Ins::VecLoad { dst, .. } => *dst = new_name(*dst, map),
+        Ins::VecStore { src, .. } => *src = new_name(*src, map),
+        Ins::FromGpr { dst, .. } => *dst = new_name(*dst, map),
+        Ins::ToGpr { src, .. } => *src = new_name(*src, map),
+        _ => {}
     }
+    renamed
 }
 
+/// The register's entry in the map.
 fn new_name(of: Xmm, map: &[u8; 16]) -> Xmm
     requires { IsPermutation map.now }
     ensures { result ≡ renaming map.now of }
