@@ -17,7 +17,7 @@ use Rattle.x86_ins.specs.declared.ins.MoveOp.TheVariants.{Movdqu}
 use Rattle.x86_ins.specs.declared.ins.VecOp.TheVariants.{Movdqa}
 use Rattle.x86_ins.specs.Renaming.{renamed}
 use Rattle.x86_ins.specs.Vectors.{after, all_simd, shape, result_of}
-use Rattle.x86_ins.specs.Machine.{Core, Bounded}
+use Rattle.x86_ins.specs.Machine.{Core, Bounded, with_lanes}
 use Rattle.x86_ins.specs.Spelling.{IsIns}
 use Rattle.x86_ins.specs.Way.{Each}
 use Rattle.x86_ins.proofs.Registers.{registers_after}
@@ -25,7 +25,7 @@ use Rattle.x86_ins.proofs.Renamed.{after_renamed, simd_renamed}
 use Rattle.x86_flow.specs.Moves.{IsWidth, away, load_far_code, store_either_code}
 use Rattle.x86_flow.specs.Does.{Line}
 use Rattle.x86_flow.proofs.Moves.{IsFill, line_append, load_line_at, store_either_line}
-use Rattle.x86_flow.proofs.Plans.{rule_line, with_lanes}
+use Rattle.x86_flow.proofs.Plans.{rule_line}
 use Rattle.sse_laws.specs.Meets.{Meets, widest, size_beside, is_shift, second_of, results_at}
 use Rattle.sse_acc.specs.Sums.{AddsUp, sum_below, sum_of}
 use Rattle.sse_acc.specs.Sums.{number_of as adds_number}
