@@ -1,5 +1,5 @@
 -- What a function's checks say of an instruction.
-use Rattle.std.proofs.Common.{◌≡◌, ℕ, ◌==◌, ◌&&◌, not, Bool, true, false, if◌then◌else◌, List, [], ◌∷◌, Option, Some, None, refl, sym}
+use Rattle.std.proofs.Common.{◌≡◌, ℕ, ◌==◌, ◌&&◌, not, Bool, true, false, List, [], ◌∷◌, Option, Some, None, refl, sym}
 use Rattle.std.proofs.lemmas.Bool.{true≢false, eqb-true}
 use Rattle.orc_ops.specs.declared.opcode.Kind.{Kind}
 use Rattle.orc_ops.specs.declared.opcode.Kind.TheVariants as ops
