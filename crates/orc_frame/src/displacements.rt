@@ -7,7 +7,6 @@ ghost use Rattle.orc_frame.specs.Layout.{pattern_slot, sum_slot};
 use crate::frame::Layout;
 
 /// Where the 16 bytes of a pattern are, in bytes above RSP as it stands after the prologue.
-#[tactic(auto, using(crate::proofs::FieldsOf::pattern_there, crate::proofs::FieldsOf::pattern_is))]
 pub fn pattern_at(layout: &Layout, number: usize) -> i32
     requires layout { IsLayout layout.now }
     requires inside { number < length layout.now.patterns.items }
@@ -17,7 +16,6 @@ pub fn pattern_at(layout: &Layout, number: usize) -> i32
 }
 
 /// Where the 16 bytes of an accumulator's running sum are.
-#[tactic(auto, using(crate::proofs::FieldsOf::sum_there, crate::proofs::FieldsOf::sum_is))]
 pub fn sum_at(layout: &Layout, number: usize) -> i32
     requires layout { IsLayout layout.now }
     requires inside { number < length layout.now.acc_sizes.items }
