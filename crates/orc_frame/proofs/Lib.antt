@@ -7,7 +7,6 @@ pub mod Entering
 pub mod Fills
 pub mod Counted
 pub mod Facts
-pub mod Found
 pub mod Grown
 pub mod Reach
 pub mod Reduced
