@@ -235,7 +235,7 @@ module _ (n : ℕ) (base size : ℕ → ℕ) (P : ℕ → Type 0) (numbers : Num
   there_still : (live : ℕ → ℕ) (sig : ℕ → Local) (x y : ℕ → List ℕ) (a b : ℕ) (s : Source) (ts : List Target) → a ≡ first_register ts → IsKept n base size P numbers ts s → ((z : ℕ) → z ≢ a → y z ≡ x z) → IsThere live sig x s → IsThere live sig y s
   there_still live sig x y a b (FromArray k) ts e kept same h = tt
   there_still live sig x y a b (FromPattern j) ts e kept same h = tt
-  there_still live sig x y a b (FromPlace p) ts e kept same h q l r lr = ap (λ v. get_or v (q * live p + r) 0) (same (place_register p) (λ z. kept.0 (sym e ∙ sym z))) ∙ h q l r lr
+  there_still live sig x y a b (FromPlace p) ts e kept same h = λ q l r lr. ap (λ v. get_or v (q * live p + r) 0) (same (place_register p) (λ z. kept.0 (sym e ∙ sym z))) ∙ h q l r lr
 
   record GotFrom (s : Source) (w prefix x : ℕ) (sig : ℕ → Local) (c d : Core) : Type 0 where
     memory : d.memory ≡ c.memory

@@ -455,7 +455,7 @@ fn a_text_has_figures(rt: HostRuntime) -> Result<(), AllocError> {
         (
             b".function volume\n.dest 2 d1 gint16\n.param 2 p1\n.temp 4 t1\nmulswl t1, d1, p1\nshrsl t1, t1, 11\nconvlw d1, t1\n.function none\n",
             Status::Done,
-            b"volume need 2 lanes 1 cost 38\nnone need 0 lanes 1 cost 0\n",
+            b"volume need 2 lanes 1 cost 30\nnone need 0 lanes 1 cost 0\n",
         ),
         (b"# nothing\n", Status::Done, b""),
         (
