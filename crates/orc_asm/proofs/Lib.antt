@@ -12,7 +12,6 @@ pub mod Emulated
 pub mod Elements
 pub mod Turn
 pub mod Slots
-pub mod Lines
 pub mod Places
 pub mod Passing
 pub mod Sized
@@ -20,6 +19,7 @@ pub mod Uses
 pub mod Direct
 pub mod Building
 pub mod Cost
+pub mod Pressed
 pub mod Counts
 pub mod Vectored
 pub mod Sizes

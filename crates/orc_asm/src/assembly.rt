@@ -1,73 +1,51 @@
 //! From functions to code.
 
 ghost use Rattle.std.specs.Prelude.{◌≡◌, ◌≤◌, All, IfOk, OnOk, IfErr, None, length, true};
-ghost use Rattle.std.specs.List.{list_all};
 ghost use Rattle.orc_program.specs.declared.program.VarKind.TheVariants as kind;
 ghost use Rattle.orc_program.specs.Program.{count_of};
 ghost use Rattle.orc_program.specs.Kept.{is_function};
-ghost use Rattle.orc_asm.specs.Function.{RunsAs, RunsQuietly, is_direct, is_built, first_unbuilt, IsRefusal};
+ghost use Rattle.orc_plan.specs.Lowered.{steps_of};
+ghost use Rattle.orc_asm.specs.Function.{RunsAs, RunsQuietly, first_pressure, IsRefusal};
 ghost use Rattle.orc_asm.specs.Code.{patterns_in, IsReady, IsTurn};
 
 use crate::arrays::count_of;
 use crate::lists::{COUNTER, push_actions, push_advances};
-use crate::operands::is_direct;
 use crate::refusal::AsmError;
 use crate::rows::whole_code;
 use orc_bits::Code;
 use orc_frame::{epilogue, layout, prologue};
-use orc_program::{Function, Insn, Operand, Var, VarKind, patterns};
+use orc_plan::{Placed, lower, place};
+use orc_program::{Function, VarKind, patterns};
 use std::alloc::{AllocError, Global};
 use x86_ins::{AluOp, Ins, InsList};
 
 /// Code that does in every good call what the function means, in at most as many steps as are stated. It does so inside any larger memory
 /// too, and on the way changes no byte but those of dests' cells, of accumulators' words and of the frame. It has 1 to 1,048,576 bytes.
-#[tactic(auto, using(crate::proofs::Weaker::quietly_as))]
+/// A function is refused exactly where some instruction needs more values of temps at once than there are places for them: with the first
+/// such instruction's line and need.
+#[tactic(auto, using(crate::proofs::Weaker::quietly_as, crate::proofs::Pressed::none_pressed, crate::proofs::Pressed::first_pressed))]
 pub fn assemble(alloc: Global, f: &Function) -> Result<Code, AsmError>
     ensures runs { IfOk result (λ code. RunsAs f.now code) }
     ensures inside { IfOk result (λ code. RunsQuietly f.now code) }
     ensures bytes { IfOk result (λ code. (1 ≤ length code) × (length code ≤ 1048576)) }
-    ensures built { OnOk result (first_unbuilt f.now ≡ None) }
+    ensures few { OnOk result (first_pressure f.now ≡ None) }
     ensures refusal { IfErr result (λ e. IsRefusal f.now e) }
 {
-    if let Some(line) = first_unbuilt(f) {
-        return Err(AsmError::NotBuilt { line });
+    match place(&lower(f)) {
+        Ok(placed) => match code_of(alloc, f, &placed) {
+            Ok(code) => Ok(code),
+            Err(_) => Err(AsmError::Memory),
+        },
+        Err(pressure) => Err(AsmError::Pressure {
+            line: pressure.line,
+            need: pressure.need,
+        }),
     }
-    match code_of(alloc, f) {
-        Ok(code) => Ok(code),
-        Err(_) => Err(AsmError::Memory),
-    }
 }
 
-/// Whether no operand is a temp.
-fn are_direct(vars: &[Var], operands: &[Operand]) -> bool
-    ensures { result ≡ list_all (is_direct vars.now) operands.now }
-{
-    operands.iter().all(|operand| is_direct(vars, *operand))
-}
-
-/// Whether no operand of an instruction is a temp.
-fn is_built(vars: &[Var], insn: &Insn) -> bool
-    ensures { result ≡ is_built vars.now insn.now }
-{
-    are_direct(vars, insn.results.as_slice()) && are_direct(vars, insn.sources.as_slice())
-}
-
-/// The line of the first instruction that isn't built.
-#[tactic(auto, using(crate::proofs::Lines::line_first, crate::proofs::Lines::line_last, crate::proofs::Lines::line_here, crate::proofs::Lines::line_next))]
-fn first_unbuilt(f: &Function) -> Option<u32>
-    ensures { result ≡ first_unbuilt f.now }
-{
-    for insn in f.insns.as_slice() {
-        if !is_built(f.vars.as_slice(), insn) {
-            return Some(insn.line);
-        }
-    }
-    None
-}
-
-/// The code of a function that is built: rows of turns, and before and after them what the frame wants.
-fn code_of(alloc: Global, f: &Function) -> Result<Code, AllocError>
-    requires { first_unbuilt f.now ≡ None }
+/// The code of a function whose values have places: rows of turns, and before and after them what the frame wants.
+fn code_of(alloc: Global, f: &Function, placed: &Placed) -> Result<Code, AllocError>
+    requires { placed.now.core.steps ≡ steps_of f.now }
     ensures inside { IfOk result (λ code. RunsQuietly f.now code) }
     ensures bytes { IfOk result (λ code. (1 ≤ length code) × (length code ≤ 1048576)) }
 {
