@@ -9,7 +9,7 @@ use Rattle.orc_program.specs.declared.program.Operand.{Operand}
 use Rattle.orc_program.specs.declared.program.Operand.TheVariants as operand
 use Rattle.orc_program.specs.declared.program.Insn.{Insn}
 use Rattle.orc_program.specs.declared.program.Pattern.{Pattern}
-use Rattle.orc_program.specs.Program.{FunctionValue, var_at, same_kind, is_of, temps_among}
+use Rattle.orc_program.specs.Program.{FunctionValue, var_at, same_kind, is_of, temps_among, is_temp}
 use Rattle.orc_program.specs.Checks.{number_in, way_of, uses_from, patterns_of, source_fault, sources_fault, result_fault, results_fault, insn_fault}
 use Rattle.orc_program.specs.Kept.{is_function, all_pass, is_shaped, is_in_range, has_no_fault, result_count, source_count}
 use Rattle.orc_program.specs.Need.{is_in, made_by, read_by}
@@ -19,7 +19,7 @@ use Rattle.sse_laws.specs.Meets.{is_sum}
 use Rattle.orc_plan.specs.declared.steps.Item.{Item}
 use Rattle.orc_plan.specs.declared.steps.Item.TheVariants as item
 use Rattle.orc_plan.specs.declared.steps.Step.{Step}
-use Rattle.orc_plan.specs.Lowered.{last_value, is_temp, acc_item, result_item, result_items, source_item, source_items, steps_after}
+use Rattle.orc_plan.specs.Lowered.{last_value, acc_item, result_item, result_items, source_item, source_items, steps_after}
 use Rattle.orc_plan.specs.Standing.{Stands, StandAt, AllStand}
 use Rattle.orc_plan.proofs.Last.{last_below}
 use Rattle.orc_program.specs.Slots.{slot_of}

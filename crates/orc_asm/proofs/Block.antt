@@ -34,7 +34,7 @@ use Rattle.orc_program.specs.Meaning.{sub_lane, pack}
 use Rattle.orc_frame.specs.Layout.{pattern_slot, sum_slot}
 use Rattle.orc_frame.specs.Parts.{InRunning}
 use Rattle.orc_asm.specs.Code.{Action, IsRule, Source, FromArray, FromPattern, FromPlace, Target, ToArray, ToSum, ToPlace, pointer, place_register, made_in, first_register, second_register, rule_register, rule_code, source_far_code, sources_far_code, sum_code, result_far_code, results_far_code, action_code, action_far_code, actions_far_code}
-use Rattle.orc_asm.proofs.Homes.{register_0, register_1, register_one, register_place, adds_renamed}
+use Rattle.orc_asm.proofs.RuleRegisters.{register_0, register_1, register_one, register_place, adds_renamed}
 use Rattle.orc_asm.proofs.Registers.{not_0}
 use Rattle.orc_asm.proofs.Digits.{digit, digit_small, byte_split, byte_within, byte_further}
 use Rattle.orc_asm.proofs.SubLanes.{lane_sub_lane, packed_bytes}

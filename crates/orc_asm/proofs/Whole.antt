@@ -30,7 +30,7 @@ use Rattle.orc_frame.proofs.Apart.{length-acc_sizes_of}
 use Rattle.orc_frame.specs.Function.{subject_of}
 use Rattle.orc_asm.specs.RunsAs.{quiet}
 use Rattle.orc_asm.specs.Function.{RunsQuietly}
-use Rattle.orc_asm.specs.Code.{Action, AreActions, Plan, IsReady, IsTurn, plan_with, at_pointer, unaligned, far_by, aligned_first, actions_far_code, advance_code, turn_code}
+use Rattle.orc_asm.specs.Code.{Action, AreActions, Plan, IsReady, IsTurn, IsTurnBy, plan_with, at_pointer, unaligned, far_by, aligned_first, actions_far_code, advance_code, turn_code}
 use Rattle.orc_asm.specs.Rows.{turns_flow, rows_flow, whole_flow}
 use Rattle.orc_asm.proofs.Layouts.{patterns_are, sizes_are}
 use Rattle.orc_asm.proofs.Cost.{weights}
@@ -52,12 +52,6 @@ ok_map (Ok x) P Q f h = f x h
 ok_map (Err e) P Q f h = h
 
 -- ---- what is known of a function whose values have places
-
--- the turn's list, as it is made from the steps, their places and the sizes of arrays
-abbrev pub IsTurnBy : List ℕ → List ℕ → List Step → ℕ → ℕ → ℕ → List Ins → Type 0
-IsTurnBy at sizes steps dests sources count list =
-    (actions : List Action) × AreActions at count steps actions
-    × (list ≡ actions_far_code count (slice_index sizes) (far_by 0 (slice_index sizes)) (aligned_first false) actions ++ (advance_code (slice_index sizes) count 0 dests ++ (advance_code (slice_index sizes) count 4 sources ++ AluImm Sub 1 (pos count) ∷ [])))
 
 module _ (f : FunctionValue) (h : is_function f ≡ true) (at : List ℕ) (good : GoodPlaces (steps_of f) at) where
   stand : AllStand f.vars (patterns_of f.vars f.insns) at [] f.insns

@@ -265,6 +265,12 @@ abbrev pub AddsActions : List ℕ → (ℕ → ℕ) → Span → List Step → L
 AddsActions at size span steps old new =
     (actions : List Action) × AreActions at span.count steps actions × (new ≡ old ++ actions_far_code span.count size (far_by span.first size) (aligned_first span.aligned) actions)
 
+-- a turn of steps with these places, by the sizes of array slots
+abbrev pub IsTurnBy : List ℕ → List ℕ → List Step → ℕ → ℕ → ℕ → List Ins → Type 0
+IsTurnBy at sizes steps dests sources count list =
+    (actions : List Action) × AreActions at count steps actions
+    × (list ≡ actions_far_code count (slice_index sizes) (far_by 0 (slice_index sizes)) (aligned_first false) actions ++ (advance_code (slice_index sizes) count 0 dests ++ (advance_code (slice_index sizes) count 4 sources ++ AluImm Sub 1 (pos count) ∷ [])))
+
 -- a turn of a function's code, by some good places of its values
 abbrev pub IsTurn : FunctionValue → ℕ → List Ins → Type 0
 IsTurn f count list =

@@ -9,7 +9,6 @@ use orc_plan::{Item, place_of};
 use x86_ins::Xmm;
 
 /// The registers in which an instruction's results are made, which are also those of its sources.
-#[derive(Clone, Copy)]
 pub struct Homes {
     /// Of the first source and result.
     pub first: Xmm,
@@ -38,7 +37,7 @@ fn made_in(at: &[u8], number: u8, item: Item) -> Xmm
 }
 
 /// The registers of an instruction with these results.
-pub fn homes(at: &[u8], results: &[Item]) -> Homes
+pub fn homes_of(at: &[u8], results: &[Item]) -> Homes
     requires { Each InPlaces (map (target_of at.now) results.now) }
     ensures first { result.first ≡ first_register (map (target_of at.now) results.now) }
     ensures second { result.second ≡ second_register (map (target_of at.now) results.now) }
@@ -68,9 +67,9 @@ fn exchange(a: u8, b: u8, r: u8) -> u8
 }
 
 /// The names of the registers of a rule in which XMM0 and XMM1 change places with those of the results.
-pub fn map_of(homes: Homes) -> [u8; 16]
-    requires apart { homes.first ≢ homes.second }
-    ensures is { (r : ℕ) → r < 16 → renaming result r ≡ exchange 0 homes.first (exchange 1 homes.second r) }
+pub fn map_of(homes: &Homes) -> [u8; 16]
+    requires apart { homes.now.first ≢ homes.now.second }
+    ensures is { (r : ℕ) → r < 16 → renaming result r ≡ exchange 0 homes.now.first (exchange 1 homes.now.second r) }
     ensures permutation { IsPermutation result }
 {
     let mut map = [0; 16];

@@ -12,7 +12,7 @@ ghost use Rattle.orc_frame.specs.Frame.{IsLayout};
 ghost use Rattle.orc_frame.specs.Layout.{pattern_slot, sum_slot};
 ghost use Rattle.orc_asm.specs.Code.{HasRule, pointer, place_register, aligned_first, far_by, source_of, target_of, source_far_code, sources_far_code, sum_code, result_far_code, results_far_code, advance_code, first_register, second_register, AddsRule, AddsAction, AddsActions, IsMoved, IsLoaded, IsStored, IsReady};
 
-use crate::homes::{Homes, homes, map_of, place_register};
+use crate::homes::{Homes, homes_of, map_of, place_register};
 use crate::rules::rule;
 use crate::span::Span;
 use orc_frame::{Layout, pattern_at, sum_at};
@@ -154,13 +154,13 @@ fn push_sources(
     sizes: &[u8; 12],
     layout: &Layout,
     sources: &[Item],
-    homes: Homes,
+    homes: &Homes,
     span: Span,
 ) -> Result<(), AllocError>
     requires layout { IsLayout layout.now }
     requires loaded { Each (IsLoaded layout.now (slice_index sizes.now) span.count) (map (source_of at.now) sources.now) }
     requires near { span.first ≤ 64 }
-    ensures { OnOk result (list.new ≡ list.old ++ sources_far_code span.count (slice_index sizes.now) (far_by span.first (slice_index sizes.now)) homes.first homes.second (map (source_of at.now) sources.now)) }
+    ensures { OnOk result (list.new ≡ list.old ++ sources_far_code span.count (slice_index sizes.now) (far_by span.first (slice_index sizes.now)) homes.now.first homes.now.second (map (source_of at.now) sources.now)) }
 {
     match sources {
         [] => Ok(()),
@@ -265,13 +265,13 @@ fn push_rule(
     at: &[u8],
     op: Op,
     results: &[Item],
-    homes: Homes,
+    homes: &Homes,
     count: usize,
 ) -> Result<(), AllocError>
     requires rule { HasRule count op }
-    requires first { homes.first ≡ first_register (map (target_of at.now) results.now) }
-    requires second { homes.second ≡ second_register (map (target_of at.now) results.now) }
-    requires apart { homes.first ≢ homes.second }
+    requires first { homes.now.first ≡ first_register (map (target_of at.now) results.now) }
+    requires second { homes.now.second ≡ second_register (map (target_of at.now) results.now) }
+    requires apart { homes.now.first ≢ homes.now.second }
     ensures { OnOk result (AddsRule count op (map (target_of at.now) results.now) list.old list.new) }
 {
     let rule = rule(op, count);
@@ -293,10 +293,10 @@ fn push_action(
     ensures { OnOk result (AddsAction at.now (slice_index sizes.now) span step.now list.old list.new) }
 {
     let results = step.results.as_slice();
-    let homes = homes(at, results);
-    push_sources(list, at, sizes, layout, step.sources.as_slice(), homes, span)?;
+    let homes = homes_of(at, results);
+    push_sources(list, at, sizes, layout, step.sources.as_slice(), &homes, span)?;
     push_sum(list, at, sizes, layout, results, span.count)?;
-    push_rule(list, at, step.op, results, homes, span.count)?;
+    push_rule(list, at, step.op, results, &homes, span.count)?;
     push_results(list, at, sizes, layout, results, span)
 }
 
