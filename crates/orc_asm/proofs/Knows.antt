@@ -494,7 +494,6 @@ module _ (f : FunctionValue) (h : is_function f ≡ true) (at : List ℕ) where
     has_rule = λ e. (omega arith, omega arith, (sum_ok insn.op e).some);
     sources = (from_few temps insn rest d).loaded;
     to = (to_few temps insn rest d).stored;
-    apart = d.apart;
   }
 
   ready_from : (temps : List ℕ) (insns : List Insn) → ArePlanned f at temps insns → (k : ℕ) (d : Step) → k < length (steps_from f temps insns) → IsReady (layout_of f) at sizes 1 (get_or (steps_from f temps insns) k d)

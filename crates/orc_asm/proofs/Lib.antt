@@ -8,6 +8,7 @@ pub mod Registers
 pub mod Keeping
 pub mod Frames
 pub mod RuleRegisters
+pub mod Names
 pub mod Block
 pub mod Emulated
 pub mod Elements

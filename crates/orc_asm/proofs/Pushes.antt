@@ -12,6 +12,7 @@ use Rattle.orc_ops.specs.declared.opcode.Op.{Op}
 use Rattle.orc_ops.specs.Table.{row}
 use Rattle.sse_laws.specs.Meets.{Meets, is_sum}
 use Rattle.sse_acc.specs.Sums.{AddsUp}
+use Rattle.orc_plan.specs.declared.steps.Item.{Item}
 use Rattle.orc_plan.specs.declared.steps.Step.{Step}
 use Rattle.orc_asm.specs.declared.span.Span.{Span}
 use Rattle.orc_asm.specs.Code.{Action, Target, AreActions, AddsRule, AddsAction, AddsActions, pointer, far_by, aligned_first, source_of, target_of, first_register, second_register, exchange, rule_register, rule_code, sources_far_code, sum_code, results_far_code, action_far_code, actions_far_code, advance_code}
@@ -20,6 +21,10 @@ use Rattle.orc_asm.specs.Code.{Action, Target, AreActions, AddsRule, AddsAction,
 pub on_ok : {A E : Type 0} (r : Result A E) (P Q : Type 0) → (P → Q) → OnOk r P → OnOk r Q
 on_ok (Ok x) P Q f h = f h
 on_ok (Err e) P Q f h = h
+
+pub on_both : {A E : Type 0} (r : Result A E) (P Q R : Type 0) → (P → Q → R) → OnOk r P → OnOk r Q → OnOk r R
+on_both (Ok x) P Q R f h g = f h g
+on_both (Err e) P Q R f h g = h
 
 next : (n : ℕ) → suc n ≡ n + 1
 next n = omega arith
@@ -79,6 +84,15 @@ module _ (size : ℕ → ℕ) (span : Span) where
         four base (sources_far_code span.count size (far_by span.first size) (first_register a.to) (second_register a.to) a.sources) (sum_code a.to) (rule_code a) (results_far_code span.count size (far_by span.first size) (aligned_first span.aligned) a.to) c1 c2 c3 c4 loads q r.2 t,
       )
 
+  -- the same where operands are read as slices
+  pub action_of_slices : (at : List ℕ) (step : Step) (rs ss : List Item) → rs ≡ step.results.items → ss ≡ step.sources.items → (x y : ℕ) (base c1 c2 c3 c4 : List Ins) → x ≡ first_register (map (target_of at) rs) → y ≡ second_register (map (target_of at) rs)
+      → c1 ≡ base ++ sources_far_code span.count size (far_by span.first size) x y (map (source_of at) ss) → c2 ≡ c1 ++ sum_code (map (target_of at) rs) → AddsRule span.count step.op (map (target_of at) rs) c2 c3
+      → c4 ≡ c3 ++ results_far_code span.count size (far_by span.first size) (aligned_first span.aligned) (map (target_of at) rs) → AddsAction at size span step base c4
+  action_of_slices at step rs ss er es x y base c1 c2 c3 c4 ex ey p q r t =
+      let to : map (target_of at) rs ≡ map (target_of at) step.results.items = ap (map (target_of at)) er in
+      action_added at step x y base c1 c2 c3 c4 (ex ∙ ap first_register to) (ey ∙ ap second_register to) (p ∙ ap (λ xs. base ++ sources_far_code span.count size (far_by span.first size) x y (map (source_of at) xs)) es)
+      (q ∙ ap (λ ts. c1 ++ sum_code ts) to) (subst (λ ts. AddsRule span.count step.op ts c2 c3) to r) (t ∙ ap (λ ts. c3 ++ results_far_code span.count size (far_by span.first size) (aligned_first span.aligned) ts) to)
+
 -- ---- a rule under other names
 
 -- instructions under names that are the same below 16
@@ -93,3 +107,9 @@ rule_added count op ts x y map_is list old new ex ey is meets adds few short kno
   record { meets = meets; adds = adds; few = few; short = short; known = known },
   e ∙ ap (λ l. old ++ l) (names_alike (renaming map_is) (rule_register ts) (λ r l. is r l ∙ ap₂ (λ a b. exchange 0 a (exchange 1 b r)) ex ey) list known),
 )
+
+-- the same where the list is read as a slice
+pub rule_of_slice : (count : ℕ) (op : Op) (ts : List Target) (x y : ℕ) (map_is : List ℕ) (list slice old new : List Ins) → slice ≡ list → x ≡ first_register ts → y ≡ second_register ts → ((r : ℕ) → r < 16 → renaming map_is r ≡ exchange 0 x (exchange 1 y r))
+    → (is_sum (row op).kind ≡ false → Meets op list) → (is_sum (row op).kind ≡ true → AddsUp op count list) → length list ≤ (row op).class → length list ≤ 100 → Each IsIns slice → new ≡ old ++ map (renamed (renaming map_is)) slice → AddsRule count op ts old new
+rule_of_slice count op ts x y map_is list slice old new same ex ey is meets adds few short known e =
+    rule_added count op ts x y map_is list old new ex ey is meets adds few short (subst (Each IsIns) same known) (e ∙ ap (λ l. old ++ map (renamed (renaming map_is)) l) same)

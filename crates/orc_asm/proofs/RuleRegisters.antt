@@ -27,7 +27,7 @@ exchanged a b r = ⊎_elim
     (cases_eq r b))
     (cases_eq r a)
 
-exchange_one : (a b x y : ℕ) → exchange a b x ≡ exchange a b y → x ≡ y
+pub exchange_one : (a b x y : ℕ) → exchange a b x ≡ exchange a b y → x ≡ y
 exchange_one a b x y e = go (exchanged a b x).cases (exchanged a b y).cases
   where
     Cases : ℕ → ℕ → Type 0
@@ -94,7 +94,7 @@ register_place ts p nf ns =
 pub register_one : (ts : List Target) (x y : ℕ) → rule_register ts x ≡ rule_register ts y → x ≡ y
 register_one ts x y e = exchange_one 1 (second_register ts) x y (exchange_one 0 (first_register ts) (exchange 1 (second_register ts) x) (exchange 1 (second_register ts) y) e)
 
-exchange_small : (a b r : ℕ) → a < 16 → b < 16 → r < 16 → exchange a b r < 16
+pub exchange_small : (a b r : ℕ) → a < 16 → b < 16 → r < 16 → exchange a b r < 16
 exchange_small a b r la lb lr = go (exchanged a b r).cases
   where
     go : ((r ≡ a) × (exchange a b r ≡ b)) ⊎ (((r ≢ a) × (r ≡ b) × (exchange a b r ≡ a)) ⊎ ((r ≢ a) × (r ≢ b) × (exchange a b r ≡ r))) → exchange a b r < 16

@@ -90,6 +90,25 @@ module _ (f : FunctionValue) (h : is_function f ≡ true) (at : List ℕ) (good 
       let sources = same_advance steps size 1 4 (count_of kind.Source f.vars) (λ k l m. slot_sized f h k (inr (l, m))) in
       (at, good, (x.0, x.1, x.2 ∙ ap₂ (λ (a b : List Ins). a ++ b) block (ap₂ (λ (a b : List Ins). a ++ (b ++ last)) dests sources)))
 
+-- in whole slices, and by the views of what is handed over
+pub ready_slices : (l : Layout) (count : ℕ) (at at' sizes sizes' : List ℕ) (steps steps' : List Step) → at' ≡ at → sizes' ≡ sizes → steps' ≡ steps → All (IsReady l at (slice_index sizes) count) steps → All (IsReady l at' (slice_index sizes') count) steps'
+ready_slices l count at at' sizes sizes' steps steps' a b c h =
+    subst (λ xs. All (IsReady l at' (slice_index sizes') count) xs) (sym c) (subst (λ xs. All (IsReady l at' (slice_index xs) count) steps) (sym b) (subst (λ xs. All (IsReady l xs (slice_index sizes) count) steps) (sym a) h))
+
+pub ready_for : (f : FunctionValue) → is_function f ≡ true → (l : Layout) (at sizes : List ℕ) (steps : List Step) → l ≡ layout_of f → sizes ≡ sizes_of f → steps ≡ steps_of f → GoodPlaces steps at → All (IsReady l at (slice_index sizes) 1) steps
+ready_for f h l at sizes steps a b c good =
+    subst (λ y. All (IsReady y at (slice_index sizes) 1) steps) (sym a)
+    (ready_slices (layout_of f) 1 at at (sizes_of f) sizes (steps_of f) steps refl b c (ready f h at (subst (λ xs. GoodPlaces xs at) c good)))
+
+pub turn_of : (f : FunctionValue) → is_function f ≡ true → (at sizes : List ℕ) (steps : List Step) (dests sources : ℕ) (list : List Ins) → sizes ≡ sizes_of f → steps ≡ steps_of f → dests ≡ count_of kind.Dest f.vars → sources ≡ count_of kind.Source f.vars → GoodPlaces steps at
+    → IsTurnBy at sizes steps dests sources 1 list → IsTurn f 1 list
+turn_of f h at sizes steps dests sources list a b c d good x =
+    turn_is f h at (subst (λ xs. GoodPlaces xs at) b good) list
+    (subst (λ n. IsTurnBy at (sizes_of f) (steps_of f) (count_of kind.Dest f.vars) n 1 list) d
+    (subst (λ n. IsTurnBy at (sizes_of f) (steps_of f) n sources 1 list) c
+    (subst (λ xs. IsTurnBy at (sizes_of f) xs dests sources 1 list) b
+    (subst (λ xs. IsTurnBy at xs steps dests sources 1 list) a x))))
+
 pub spelled_turn : (f : FunctionValue) → is_function f ≡ true → (list : List Ins) → IsTurn f 1 list → All (λ i. IsTrue (has_spelling i)) list
 spelled_turn f h list x = subst (All (λ i. IsTrue (has_spelling i))) (sym x.2.2) (fine_spelled (turn_code (plan_with f x.2.0) 1) (fine_turn (plan_with f x.2.0) (small_plan f h x.0 x.1 x.2.0 x.2.1)))
 

@@ -304,5 +304,3 @@ pub record IsReady (l : Layout) (at : List ℕ) (size : ℕ → ℕ) (count : �
   pub has_rule : HasRule count step.op
   pub sources : Each (IsLoaded l size count) (map (source_of at) step.sources.items)
   pub to : Each (IsStored l size count) (map (target_of at) step.results.items)
-  -- two results are made in two registers
-  pub apart : first_register (map (target_of at) step.results.items) ≢ second_register (map (target_of at) step.results.items)

@@ -5,6 +5,7 @@ ghost use Rattle.orc_program.specs.declared.program.VarKind.TheVariants as kind;
 ghost use Rattle.orc_program.specs.Program.{count_of};
 ghost use Rattle.orc_program.specs.Kept.{is_function};
 ghost use Rattle.orc_plan.specs.Lowered.{steps_of, sizes_of};
+ghost use Rattle.orc_plan.specs.Places.{GoodPlaces};
 ghost use Rattle.orc_frame.specs.Frame.{IsLayout};
 ghost use Rattle.orc_asm.specs.Function.{RunsAs, RunsQuietly, first_pressure, IsRefusal};
 ghost use Rattle.orc_asm.specs.Code.{IsReady, IsTurnBy};
@@ -15,7 +16,7 @@ use crate::rows::whole_code;
 use crate::span::Span;
 use orc_bits::Code;
 use orc_frame::{Layout, epilogue, layout, prologue};
-use orc_plan::{Placed, lower, place};
+use orc_plan::{Core, lower, place};
 use orc_program::variables::count_of;
 use orc_program::{Function, VarKind};
 use std::alloc::{AllocError, Global};
@@ -33,8 +34,9 @@ pub fn assemble(alloc: Global, f: &Function) -> Result<Code, AsmError>
     ensures few { OnOk result (first_pressure f.now ≡ None) }
     ensures refusal { IfErr result (λ e. IsRefusal f.now e) }
 {
-    match place(&lower(f)) {
-        Ok(placed) => match code_of(alloc, f, &placed) {
+    let core = lower(f);
+    match place(&core) {
+        Ok(placed) => match code_of(alloc, f, &core, placed.places.as_slice()) {
             Ok(code) => Ok(code),
             Err(_) => Err(AsmError::Memory),
         },
@@ -46,16 +48,17 @@ pub fn assemble(alloc: Global, f: &Function) -> Result<Code, AsmError>
 }
 
 /// The code of a function whose values have places: rows of turns, and before and after them what the frame wants.
-fn code_of(alloc: Global, f: &Function, placed: &Placed) -> Result<Code, AllocError>
-    requires steps { placed.now.core.steps ≡ steps_of f.now }
-    requires sizes { placed.now.core.sizes ≡ sizes_of f.now }
+fn code_of(alloc: Global, f: &Function, core: &Core, places: &[u8]) -> Result<Code, AllocError>
+    requires steps { core.now.steps ≡ steps_of f.now }
+    requires sizes { core.now.sizes ≡ sizes_of f.now }
+    requires places { GoodPlaces core.now.steps places.now }
     ensures inside { IfOk result (λ code. RunsQuietly f.now code) }
     ensures bytes { IfOk result (λ code. (1 ≤ length code) × (length code ≤ 1048576)) }
 {
     let counts = counts_of(f);
     let layout = layout(f);
     let first = prologue(alloc, &layout)?;
-    let turn = turn_list(alloc, placed, &layout, counts)?;
+    let turn = turn_list(alloc, core, places, &layout, counts)?;
     let last = epilogue(alloc, &layout)?;
     whole_code(
         alloc,
@@ -71,16 +74,17 @@ fn code_of(alloc: Global, f: &Function, placed: &Placed) -> Result<Code, AllocEr
 /// Does one element, and moves the pointers and the counter on.
 fn turn_list(
     alloc: Global,
-    placed: &Placed,
+    core: &Core,
+    places: &[u8],
     layout: &Layout,
     counts: Counts,
 ) -> Result<InsList, AllocError>
     requires layout { IsLayout layout.now }
-    requires ready { All (IsReady layout.now placed.now.places (slice_index placed.now.core.sizes) 1) placed.now.core.steps }
+    requires ready { All (IsReady layout.now places.now (slice_index core.now.sizes) 1) core.now.steps }
     requires few { (counts.dests ≤ 4) × (counts.sources ≤ 8) }
-    ensures { IfOk result (IsTurnBy placed.now.places placed.now.core.sizes placed.now.core.steps counts.dests counts.sources 1) }
+    ensures { IfOk result (IsTurnBy places.now core.now.sizes core.now.steps counts.dests counts.sources 1) }
 {
-    let sizes = &placed.core.sizes;
+    let sizes = &core.sizes;
     let span = Span {
         first: 0,
         count: 1,
@@ -89,10 +93,10 @@ fn turn_list(
     let mut list = InsList::new(alloc);
     push_actions(
         &mut list,
-        placed.places.as_slice(),
+        places,
         sizes,
         layout,
-        placed.core.steps.as_slice(),
+        core.steps.as_slice(),
         span,
     )?;
     push_advances(&mut list, sizes, 1, 0, counts.dests)?;

@@ -9,6 +9,7 @@ use orc_plan::{Item, place_of};
 use x86_ins::Xmm;
 
 /// The registers in which an instruction's results are made, which are also those of its sources.
+#[derive(Clone, Copy)]
 pub struct Homes {
     /// Of the first source and result.
     pub first: Xmm,
@@ -66,15 +67,24 @@ fn exchange(a: u8, b: u8, r: u8) -> u8
     }
 }
 
-/// The names of the registers of a rule in which XMM0 and XMM1 change places with those of the results.
-pub fn map_of(homes: &Homes) -> [u8; 16]
-    requires apart { homes.now.first ≢ homes.now.second }
+/// The names of a rule's registers where XMM0 and XMM1 change places with registers `first` and `second`.
+fn names(first: u8, second: u8) -> [u8; 16]
+    requires first { first < 16 }
+    requires second { second < 16 }
+    ensures is { (r : ℕ) → r < 16 → renaming result r ≡ exchange 0 first (exchange 1 second r) }
+    ensures permutation { IsPermutation result }
+{
+    let mut names = [0; 16];
+    for r in 0..16 {
+        names[r] = exchange(0, first, exchange(1, second, r as u8));
+    }
+    names
+}
+
+/// The names of a rule's registers where XMM0 and XMM1 change places with those of the results.
+pub fn names_of(homes: &Homes) -> [u8; 16]
     ensures is { (r : ℕ) → r < 16 → renaming result r ≡ exchange 0 homes.now.first (exchange 1 homes.now.second r) }
     ensures permutation { IsPermutation result }
 {
-    let mut map = [0; 16];
-    for r in 0..16u8 {
-        map[usize::from(r)] = exchange(0, homes.first.number, exchange(1, homes.second.number, r));
-    }
-    map
+    names(homes.first.number, homes.second.number)
 }

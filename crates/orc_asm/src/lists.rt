@@ -12,7 +12,7 @@ ghost use Rattle.orc_frame.specs.Frame.{IsLayout};
 ghost use Rattle.orc_frame.specs.Layout.{pattern_slot, sum_slot};
 ghost use Rattle.orc_asm.specs.Code.{HasRule, pointer, place_register, aligned_first, far_by, source_of, target_of, source_far_code, sources_far_code, sum_code, result_far_code, results_far_code, advance_code, first_register, second_register, AddsRule, AddsAction, AddsActions, IsMoved, IsLoaded, IsStored, IsReady};
 
-use crate::homes::{Homes, homes_of, map_of, place_register};
+use crate::homes::{Homes, homes_of, names_of, place_register};
 use crate::rules::rule;
 use crate::span::Span;
 use orc_frame::{Layout, pattern_at, sum_at};
@@ -271,11 +271,10 @@ fn push_rule(
     requires rule { HasRule count op }
     requires first { homes.now.first ≡ first_register (map (target_of at.now) results.now) }
     requires second { homes.now.second ≡ second_register (map (target_of at.now) results.now) }
-    requires apart { homes.now.first ≢ homes.now.second }
     ensures { OnOk result (AddsRule count op (map (target_of at.now) results.now) list.old list.new) }
 {
     let rule = rule(op, count);
-    push_renamed(list, rule.as_slice(), &map_of(homes))
+    push_renamed(list, rule.as_slice(), &names_of(homes))
 }
 
 /// Adds what does an instruction on elements.
