@@ -53,7 +53,7 @@ job_text job.Memory = codes "Memory"
 abbrev pub text_of : Refusal → List ℕ
 text_of TooLong = codes "TooLong"
 text_of (Text line f) = codes "line " ++ decimal line ++ codes ": " ++ fault_text f
-text_of (Pressure line need) = codes "line " ++ decimal line ++ codes ": Pressure " ++ decimal need
+text_of (Pressure line need) = codes "line " ++ (decimal line ++ (codes ": Pressure " ++ decimal need))
 text_of (Image e) = codes "image: " ++ image_text e
 text_of (Job e) = codes "job: " ++ job_text e
 
