@@ -134,7 +134,7 @@ fn a_failed_put_leaves_a_prefix(rt: HostRuntime) -> Result<(), AllocError> {
     Ok(())
 }
 
-/// A text of ten temps that are all read late, in parts behind each of which stands a line of the tenth.
+/// A text whose ten temps all have a value that is read late, in parts behind each of which stands a line of the tenth temp.
 const TEMPS: [(&str, &str); 4] = [
     (
         ".function p\n.dest 1 d1\n.source 1 s1\n.temp 1 t1\n.temp 1 t2\n.temp 1 t3\n.temp 1 t4\n.temp 1 t5\n.temp 1 t6\n.temp 1 t7\n.temp 1 t8\n.temp 1 t9\n",
@@ -229,7 +229,7 @@ const RUNS: [(&str, &str, &str); 13] = [
         r#""n":1,"m":1,"arrays":[{"base":4096,"stride":0},{"base":4112,"stride":0},{"base":8192,"stride":0}],"params":[],"memory":[{"at":4096,"bytes":"00"},{"at":4112,"bytes":"00"},{"at":8192,"bytes":"3412"}]"#,
         "\nmem 4096 12\nmem 4112 34\nmem 8192 3412\n",
     ),
-    // No element stands at a multiple of its size.
+    // The dest's elements stand at no multiple of their size.
     (
         ".dest 2 d1\n.source 2 s1\n.source 2 s2\naddssw d1, s1, s2\n",
         r#""n":20,"m":1,"arrays":[{"base":4097,"stride":0},{"base":8192,"stride":0},{"base":12288,"stride":0}],"params":[],"memory":[{"at":4097,"bytes":"00000000000000000000000000000000000000000000000000000000000000000000000000000000"},{"at":8192,"bytes":"ff7fff7fff7fff7fff7fff7fff7fff7fff7fff7fff7fff7fff7fff7fff7fff7fff7fff7fff7fff7f"},{"at":12288,"bytes":"01000100010001000100010001000100010001000100010001000100010001000100010001000100"}]"#,
