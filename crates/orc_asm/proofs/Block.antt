@@ -17,7 +17,7 @@ use Rattle.x86_ins.specs.declared.ins.MoveOp.TheVariants.{Movdqu}
 use Rattle.x86_ins.specs.declared.ins.VecOp.TheVariants.{Movdqa}
 use Rattle.x86_ins.specs.Renaming.{renamed}
 use Rattle.x86_ins.specs.Vectors.{after, all_simd, shape, result_of}
-use Rattle.x86_ins.specs.Machine.{Core, Bounded}
+use Rattle.x86_ins.specs.Machine.{Core, Bounded, with_lanes}
 use Rattle.x86_ins.specs.Spelling.{IsIns}
 use Rattle.x86_ins.specs.Way.{Each}
 use Rattle.x86_ins.proofs.Registers.{registers_after}
@@ -25,7 +25,7 @@ use Rattle.x86_ins.proofs.Renamed.{after_renamed, simd_renamed}
 use Rattle.x86_flow.specs.Moves.{IsWidth, away, load_far_code, store_either_code}
 use Rattle.x86_flow.specs.Does.{Line}
 use Rattle.x86_flow.proofs.Moves.{IsFill, line_append, load_line_at, store_either_line}
-use Rattle.x86_flow.proofs.Plans.{rule_line, with_lanes}
+use Rattle.x86_flow.proofs.Plans.{rule_line}
 use Rattle.sse_laws.specs.Meets.{Meets, widest, size_beside, is_shift, second_of, results_at}
 use Rattle.sse_acc.specs.Sums.{AddsUp, sum_below, sum_of}
 use Rattle.sse_acc.specs.Sums.{number_of as adds_number}
@@ -34,7 +34,7 @@ use Rattle.orc_program.specs.Meaning.{sub_lane, pack}
 use Rattle.orc_frame.specs.Layout.{pattern_slot, sum_slot}
 use Rattle.orc_frame.specs.Parts.{InRunning}
 use Rattle.orc_asm.specs.Code.{Action, IsRule, Source, FromArray, FromPattern, FromPlace, Target, ToArray, ToSum, ToPlace, pointer, place_register, made_in, first_register, second_register, rule_register, rule_code, source_far_code, sources_far_code, sum_code, result_far_code, results_far_code, action_code, action_far_code, actions_far_code}
-use Rattle.orc_asm.proofs.Homes.{register_0, register_1, register_one, register_place, adds_renamed}
+use Rattle.orc_asm.proofs.RuleRegisters.{register_0, register_1, register_one, register_place, adds_renamed}
 use Rattle.orc_asm.proofs.Registers.{not_0}
 use Rattle.orc_asm.proofs.Digits.{digit, digit_small, byte_split, byte_within, byte_further}
 use Rattle.orc_asm.proofs.SubLanes.{lane_sub_lane, packed_bytes}
@@ -235,7 +235,7 @@ module _ (n : ℕ) (base size : ℕ → ℕ) (P : ℕ → Type 0) (numbers : Num
   there_still : (live : ℕ → ℕ) (sig : ℕ → Local) (x y : ℕ → List ℕ) (a b : ℕ) (s : Source) (ts : List Target) → a ≡ first_register ts → IsKept n base size P numbers ts s → ((z : ℕ) → z ≢ a → y z ≡ x z) → IsThere live sig x s → IsThere live sig y s
   there_still live sig x y a b (FromArray k) ts e kept same h = tt
   there_still live sig x y a b (FromPattern j) ts e kept same h = tt
-  there_still live sig x y a b (FromPlace p) ts e kept same h q l r lr = ap (λ v. get_or v (q * live p + r) 0) (same (place_register p) (λ z. kept.0 (sym e ∙ sym z))) ∙ h q l r lr
+  there_still live sig x y a b (FromPlace p) ts e kept same h = λ q l r lr. ap (λ v. get_or v (q * live p + r) 0) (same (place_register p) (λ z. kept.0 (sym e ∙ sym z))) ∙ h q l r lr
 
   record GotFrom (s : Source) (w prefix x : ℕ) (sig : ℕ → Local) (c d : Core) : Type 0 where
     memory : d.memory ≡ c.memory

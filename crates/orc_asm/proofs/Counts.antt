@@ -1,5 +1,6 @@
 -- The instructions of the code's parts.
-use Rattle.std.proofs.Common.{◌≡◌, ℕ, zero, suc, ◌+◌, ◌*◌, ◌<◌, ◌≤◌, Bool, true, false, pos, List, [], ◌∷◌, ◌++◌, length, map, refl, arith, length-append, length-map}
+use Rattle.std.proofs.Common.{◌≡◌, ℕ, zero, suc, ◌+◌, ◌*◌, ◌<◌, ◌≤◌, Bool, true, false, pos, List, [], ◌∷◌, ◌++◌, length, refl, arith, length-append}
+use Rattle.std.proofs.lemmas.List.{length-map}
 use Rattle.x86_ins.specs.declared.ins.AluOp.TheVariants.{Add, Sub}
 use Rattle.x86_ins.specs.declared.ins.Ins.{Ins}
 use Rattle.x86_ins.specs.declared.ins.Ins.TheVariants.{AluImm}
@@ -75,7 +76,7 @@ module _ (count : ℕ) (size far : ℕ → ℕ) (aligned : ℕ → Bool) where
         length-append loads (sum_code a.to ++ (rule_code a ++ stores)),
         length-append (sum_code a.to) (rule_code a ++ stores),
         length-append (rule_code a) stores,
-        length-map (renamed (rule_register a.to)) a.rule,
+        length-map a.rule (renamed (rule_register a.to)),
         sources_length (first_register a.to) (second_register a.to) a.sources h.sources,
         results_length a.to h.to,
       )

@@ -1,20 +1,27 @@
 -- Plans of functions are small.
-use Rattle.std.proofs.Common.{◌≡◌, ℕ, suc, ◌+◌, ◌*◌, ◌-◌, ◌<◌, ◌≤◌, ◌&&◌, nat_le, nat_lt, true, if◌then◌else◌, List, [], ◌∷◌, ◌++◌, length, slice_index, refl, sym, ap, subst, arith, inl, inr, ⊎_elim, length-append}
+use Rattle.std.proofs.Common.{◌≡◌, ℕ, suc, ◌+◌, ◌*◌, ◌-◌, ◌<◌, ◌≤◌, ◌&&◌, nat_le, nat_lt, true, false, if◌then◌else◌, List, [], ◌∷◌, ◌++◌, length, slice_index, refl, sym, ap, ◌∙◌, subst, arith, inl, inr, ⊎_elim, length-append}
 use Rattle.std.proofs.lemmas.Bool.{cases_lt, leb-false, or_parts}
+use Rattle.std.proofs.lemmas.Bool.Decides.{nat_tests}
 use Rattle.std.proofs.lemmas.List.{get_or_past}
 use Rattle.orc_program.specs.declared.program.Var.{Var}
 use Rattle.orc_program.specs.declared.program.VarKind.TheVariants as kind
 use Rattle.orc_program.specs.declared.program.Insn.{Insn}
+use Rattle.orc_program.specs.declared.program.Pattern.{Pattern}
 use Rattle.orc_program.specs.Program.{FunctionValue, var_at, no_var, count_of, places_of}
 use Rattle.orc_program.specs.Slots.{slot_of, size_of_slot}
 use Rattle.orc_program.specs.Checks.{insn_fault, patterns_of, most_insns, most_patterns}
+use Rattle.orc_program.specs.Need.{made_by}
 use Rattle.orc_program.specs.Kept.{is_function, all_pass, is_shaped, has_no_fault}
 use Rattle.orc_program.proofs.Apart.{IsSize}
 use Rattle.orc_program.proofs.Sizes.{both, kept_of, size_kept}
 use Rattle.x86_ins.specs.Way.{Each}
 use Rattle.x86_flow.specs.Moves.{IsWidth}
 use Rattle.orc_frame.specs.Subject.{Call}
-use Rattle.orc_asm.specs.Code.{Action, Source, FromArray, FromPattern, Target, ToArray, ToSum, AreActions, patterns_in, plan_with}
+use Rattle.orc_plan.specs.declared.steps.Step.{Step}
+use Rattle.orc_plan.specs.Lowered.{steps_after, steps_of}
+use Rattle.orc_plan.specs.Lowered.{sizes_of, is_used}
+use Rattle.orc_plan.proofs.SlotSizes.{array_sized, used_sized}
+use Rattle.orc_asm.specs.Code.{Action, Source, FromArray, FromPattern, FromPlace, Target, ToArray, ToSum, ToPlace, AreActions, plan_with}
 use Rattle.orc_asm.proofs.Emulated.{IsCells}
 use Rattle.orc_asm.proofs.Slots.{Limits, limits, SlotIs, slot_is}
 use Rattle.orc_asm.proofs.Block.{IsMovedFrom, IsMovedTo}
@@ -72,6 +79,21 @@ one_width n (inr (inl e)) = inr (inl (omega (arith, e)))
 one_width n (inr (inr (inl e))) = inr (inr (inl (omega (arith, e))))
 one_width n (inr (inr (inr e))) = inr (inr (inr (inl (omega (arith, e)))))
 
+same_length : (at : List ℕ) (steps : List Step) (actions : List Action) → AreActions at 1 steps actions → length actions ≡ length steps
+same_length at [] [] is = refl
+same_length at [] (a ∷ rest) is = absurd is
+same_length at (s ∷ steps) [] is = absurd is
+same_length at (s ∷ steps) (a ∷ rest) is = ap suc (same_length at steps rest is.1)
+
+-- one step per instruction
+step_each : (vars : List Var) (known : List Pattern) (temps : List ℕ) (insns : List Insn) → length (steps_after vars known temps insns) ≡ length insns
+step_each vars known temps [] = refl
+step_each vars known temps (insn ∷ insns) = ap suc (step_each vars known (temps ++ made_by vars insn) insns)
+
+pub steps_length : (f : FunctionValue) → length (steps_of f) ≡ length f.insns
+unfolding steps_of
+steps_length f = step_each f.vars (patterns_of f.vars f.insns) [] f.insns
+
 module _ (f : FunctionValue) (h : is_function f ≡ true) where
   few : Limits f
   few = limits f h
@@ -82,24 +104,37 @@ module _ (f : FunctionValue) (h : is_function f ≡ true) where
   pub slot_small : (p b : ℕ) → IsCells f p b → slot_of f.vars p < 12
   slot_small p b is = few_slots (count_of kind.Dest f.vars) (count_of kind.Source f.vars) (slot_of f.vars p) few.dests few.sources (slot_there p b is).slot
 
+  -- the size in its slot, by the steps' sizes and by the variables
+  pub slot_same : (p b : ℕ) → IsCells f p b → slice_index (sizes_of f) (slot_of f.vars p) ≡ size_of_slot f.vars (slot_of f.vars p)
+  slot_same p b is = array_sized f h p (is.inside, is.array) ∙ sym (slot_there p b is).size
+
+  pub slot_sized : (k : ℕ) → IsSlot (count_of kind.Dest f.vars) (count_of kind.Source f.vars) k → slice_index (sizes_of f) k ≡ size_of_slot f.vars k
+  slot_sized k is = used_sized f k (few_slots (count_of kind.Dest f.vars) (count_of kind.Source f.vars) k few.dests few.sources is) (used k is)
+    where
+      used : (k : ℕ) → IsSlot (count_of kind.Dest f.vars) (count_of kind.Source f.vars) k → is_used f.vars k ≡ true
+      used k (inl l) =
+          let first : nat_lt k 4 ≡ true = grind (arith, nat_tests, l, few.dests) in
+          let here : nat_lt k (count_of kind.Dest f.vars) ≡ true = grind (arith, nat_tests, l) in
+          ap (λ b. if b then nat_lt k (count_of kind.Dest f.vars) else nat_lt (k - 4) (count_of kind.Source f.vars)) first ∙ here
+      used k (inr l) =
+          let later : nat_lt k 4 ≡ false = grind (arith, nat_tests, l.0) in
+          let here : nat_lt (k - 4) (count_of kind.Source f.vars) ≡ true = grind (arith, nat_tests, l.0, l.1) in
+          ap (λ b. if b then nat_lt k (count_of kind.Dest f.vars) else nat_lt (k - 4) (count_of kind.Source f.vars)) later ∙ here
+
   pub slot_width : (p b : ℕ) → IsCells f p b → IsWidth (1 * size_of_slot f.vars (slot_of f.vars p))
   slot_width p b is = subst (λ n. IsWidth (1 * n)) (sym (slot_there p b is).size) (one_width (var_at f.vars p).size (size_kept f h p is.inside))
 
-  pub moved_from : (ss : List Source) → Each (IsFromSlot (size_of_slot f.vars)) ss → Each (IsMovedFrom 1 (size_of_slot f.vars)) ss
+  pub moved_from : (ss : List Source) → Each (IsFromSlot 1 (size_of_slot f.vars)) ss → Each (IsMovedFrom 1 (size_of_slot f.vars)) ss
   moved_from [] h = tt
   moved_from (FromArray k ∷ ss) h = (h.0.0, moved_from ss h.1)
   moved_from (FromPattern j ∷ ss) h = (tt, moved_from ss h.1)
+  moved_from (FromPlace p ∷ ss) h = (tt, moved_from ss h.1)
 
-  pub moved_to : (ts : List Target) → Each (IsToSlot (size_of_slot f.vars)) ts → Each (IsMovedTo 1 (size_of_slot f.vars)) ts
+  pub moved_to : (ts : List Target) → Each (IsToSlot 1 (size_of_slot f.vars)) ts → Each (IsMovedTo 1 (size_of_slot f.vars)) ts
   moved_to [] h = tt
   moved_to (ToArray k ∷ ts) h = (h.0.0, moved_to ts h.1)
   moved_to (ToSum g ∷ ts) h = (tt, moved_to ts h.1)
-
-  same_length : (insns : List Insn) (actions : List Action) → AreActions (patterns_in f) f.vars 1 insns actions → length actions ≡ length insns
-  same_length [] [] is = refl
-  same_length [] (a ∷ rest) is = absurd is
-  same_length (insn ∷ insns) [] is = absurd is
-  same_length (insn ∷ insns) (a ∷ rest) is = ap suc (same_length insns rest is.1)
+  moved_to (ToPlace p ∷ ts) h = (tt, moved_to ts h.1)
 
   pub some_size : (p : ℕ) → p < length f.vars → 0 < (var_at f.vars p).size
   some_size p l = some_bytes (var_at f.vars p).size (size_kept f h p l)
@@ -113,6 +148,12 @@ module _ (f : FunctionValue) (h : is_function f ≡ true) where
   pub slot_size : (k : ℕ) → size_of_slot f.vars k ≤ 8
   slot_size k = any_size f h (if nat_lt k 4 then slice_index (places_of kind.Dest f.vars) k else slice_index (places_of kind.Source f.vars) (k - 4))
 
-  -- plans of functions that are built are small
-  pub small_with : (actions : List Action) → Each (IsMovable (size_of_slot f.vars)) actions → AreActions (patterns_in f) f.vars 1 f.insns actions → Small (plan_with f actions)
-  small_with actions m is = record { dests = few.dests; sources = few.sources; size = slot_size; actions = m; few = omega (arith, same_length f.insns actions is, few_pass f.vars [] f.insns (kept_of f h).insns (omega arith)) }
+  -- plans of functions are small
+  pub small_with : (at : List ℕ) (actions : List Action) → Each (IsMovable 1 (size_of_slot f.vars)) actions → AreActions at 1 (steps_of f) actions → Small (plan_with f actions)
+  small_with at actions m is = record {
+    dests = few.dests;
+    sources = few.sources;
+    size = slot_size;
+    actions = m;
+    few = omega (arith, same_length at (steps_of f) actions is, steps_length f, few_pass f.vars [] f.insns (kept_of f h).insns (omega arith));
+  }

@@ -1,5 +1,5 @@
 -- Lines keep registers and bytes within their bounds.
-use Rattle.std.proofs.Common.{◌≡◌, ℕ, ◌==◌, Bool, true, false, if◌then◌else◌, List, [], ◌∷◌, ◌++◌, ap, subst}
+use Rattle.std.proofs.Common.{List, [], ◌∷◌, ◌++◌, subst}
 use Rattle.x86_ins.specs.declared.ins.Ins.{Ins}
 use Rattle.x86_ins.specs.Machine.{Core, Bounded}
 use Rattle.x86_ins.specs.Spelling.{IsIns}
@@ -23,17 +23,3 @@ each_back P (x ∷ a) b h = each_back P a b h.1
 pub ins_of : (is : List Ins) → Each IsFine is → Each IsIns is
 ins_of [] h = tt
 ins_of (i ∷ is) h = (h.0.allowed.0, ins_of is h.1)
-
--- of a list of one or two, the first, and the second where there are two
-pub one_of : {A : Type 0} (P : A → Type 0) (n : ℕ) (x y : A) → Each P (if n == 2 then x ∷ y ∷ [] else x ∷ []) → P x
-one_of {A} P n x y g = go (n == 2) g
-  where
-    go : (b : Bool) → Each P (if b then x ∷ y ∷ [] else x ∷ []) → P x
-    go true g = g.0
-    go false g = g.0
-
-pub two_of : {A : Type 0} (P : A → Type 0) (n : ℕ) (x y : A) → n ≡ 2 → Each P (if n == 2 then x ∷ y ∷ [] else x ∷ []) → P y
-two_of P n x y l g = (subst (λ b. Each P (if b then x ∷ y ∷ [] else x ∷ [])) (eq_two n l) g).1.0
-  where
-    eq_two : (n : ℕ) → n ≡ 2 → (n == 2) ≡ true
-    eq_two n e = ap (λ n. n == 2) e

@@ -7,6 +7,7 @@ pub mod Cells
 pub mod Registers
 pub mod Keeping
 pub mod Frames
+pub mod RuleRegisters
 pub mod Block
 pub mod Emulated
 pub mod Elements
@@ -37,6 +38,8 @@ pub mod RowRuns
 pub mod RowPushes
 pub mod Acts
 pub mod Fits
+pub mod Layouts
+pub mod SameSizes
 pub mod Knows
 pub mod Numbered
 pub mod Parts

@@ -97,19 +97,6 @@ mapped_at size (p ∷ ps) (suc g) l = mapped_at size ps g (omega (arith, l))
 pub sum_size : (f : FunctionValue) (g : ℕ) → g < count_of kind.Accumulator f.vars → slice_index (acc_sizes_of f.vars) g ≡ width_of f g
 sum_size f g l = mapped_at (λ p. (var_at f.vars p).size) (places_of kind.Accumulator f.vars) g (omega (arith, l, length-places_of kind.Accumulator f.vars))
 
--- the layout's lists
-pub patterns_are : (f : FunctionValue) → (layout_of f).patterns.items ≡ patterns_of f.vars f.insns
-unfolding layout_of
-patterns_are f = refl
-
-pub params_are : (f : FunctionValue) → (layout_of f).params.items ≡ places_of kind.Param f.vars
-unfolding layout_of
-params_are f = refl
-
-pub sizes_are : (f : FunctionValue) → (layout_of f).acc_sizes.items ≡ acc_sizes_of f.vars
-unfolding layout_of
-sizes_are f = refl
-
 -- the number that a pattern of the layout holds is the one that is meant
 module _ (f : FunctionValue) (n m : ℕ) (base stride param : ℕ → ℕ) where
   abbrev call : Call

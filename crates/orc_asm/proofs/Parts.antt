@@ -33,7 +33,9 @@ use Rattle.orc_frame.specs.Subject.{Call as Arguments, InDests, rows}
 use Rattle.orc_frame.specs.Parts.{InFrame, InRunning, InBlock, InSums, param_word, sum_word}
 use Rattle.orc_frame.specs.GoodCall.{GoodCall}
 use Rattle.orc_frame.specs.Function.{IsCellByte, subject_of}
-use Rattle.orc_asm.specs.Code.{Action, AreActions, patterns_in, plan_with, turn_code}
+use Rattle.orc_plan.specs.Lowered.{steps_of}
+use Rattle.orc_plan.specs.Standing.{AllStand}
+use Rattle.orc_asm.specs.Code.{Action, AreActions, plan_with, turn_code}
 use Rattle.orc_asm.specs.Rows.{turns_flow}
 use Rattle.orc_asm.proofs.Cells.{Numbers, IsOf}
 use Rattle.orc_asm.proofs.Frames.{IsFrame, Framed, framed_below, no_sum}
@@ -43,9 +45,10 @@ use Rattle.orc_asm.proofs.Block.{IsFit}
 use Rattle.orc_asm.proofs.Turn.{Setting, IsCell, IsDestCell, Calm, Inside}
 use Rattle.orc_asm.proofs.Loop.{loop_line}
 use Rattle.orc_asm.proofs.Direct.{pattern_of, number_of}
-use Rattle.orc_asm.proofs.Acts.{AreDirect}
-use Rattle.orc_asm.proofs.Knows.{width_of, numbers_of, are_meant, all_known}
-use Rattle.orc_asm.proofs.Numbered.{nth_is, sum_size, patterns_are, params_are, sizes_are, number_is}
+use Rattle.orc_asm.proofs.Acts.{StandsIn, nothing_stands}
+use Rattle.orc_asm.proofs.Knows.{width_of, numbers_of, all_meant, all_known}
+use Rattle.orc_asm.proofs.Layouts.{patterns_are, params_are, sizes_are}
+use Rattle.orc_asm.proofs.Numbered.{nth_is, sum_size, number_is}
 use Rattle.orc_asm.proofs.RowsEmulated.{end_with, sum_of_end}
 use Rattle.orc_asm.proofs.RowCells.{Arrays, arrays, call, P, row_base, mapped, low, separate, decided, slot_at, cell_is, cell_cells, row_dests, dest_cell}
 use Rattle.orc_asm.proofs.RowLines.{InRows}
@@ -54,12 +57,12 @@ use Rattle.orc_asm.proofs.RowElements.{RowDone, row_ended}
 use Rattle.orc_asm.proofs.RowPath.{Still, Gone, Parts, cell_weight}
 use Rattle.orc_asm.proofs.RowRuns.{elements_of}
 
--- what is known of a function and of its actions
-pub record Done (f : FunctionValue) (actions : List Action) : Type 0 where
+-- what is known of a function, of the places of its values and of its actions
+pub record Done (f : FunctionValue) (at : List ℕ) (actions : List Action) : Type 0 where
   pub is : is_function f ≡ true
   pub arrays : Arrays f
-  pub direct : AreDirect f f.insns
-  pub are : AreActions (patterns_in f) f.vars 1 f.insns actions
+  pub stand : AllStand f.vars (patterns_of f.vars f.insns) at [] f.insns
+  pub are : AreActions at 1 (steps_of f) actions
   pub fit : Each (IsFit 1 (size_of_slot f.vars)) actions
   pub turn : Each IsIns (turn_code (plan_with f actions) 1)
 
@@ -93,7 +96,7 @@ in_sum rsp sums x h =
     let d = x - (rsp + 768) in
     record { sum = d / 16; byte = d % 16; few = omega (arith, h.0, h.1); inside = omega arith; here = omega (arith, h.0) }
 
-module _ (f : FunctionValue) (actions : List Action) (done : Done f actions) (code : Placed) (s : Point) (args : Arguments) (back : ℕ) (good : GoodCall (subject_of f) code s args back) where
+module _ (f : FunctionValue) (at : List ℕ) (actions : List Action) (done : Done f at actions) (code : Placed) (s : Point) (args : Arguments) (back : ℕ) (good : GoodCall (subject_of f) code s args back) where
   abbrev known : Arrays f
   known = done.arrays
 
@@ -124,7 +127,6 @@ module _ (f : FunctionValue) (actions : List Action) (done : Done f actions) (co
     pub totals : ℕ → ℕ
     pub framed : Framed numbers lowered c.memory totals
     pub agrees : Agrees f e.sums totals
-    pub plain : e ≡ state e.memory e.sums
 
   stack_room : lowered + 1032 ≤ 2 ^ 47
   stack_room = stack_low f known code s args back good
@@ -154,7 +156,6 @@ module _ (f : FunctionValue) (actions : List Action) (done : Done f actions) (co
         totals = h.totals;
         framed = framed_below numbers lowered is_frame c.memory d.memory h.totals (λ x l u. at x l (omega (arith, u))) h.framed;
         agrees = h.agrees;
-        plain = h.plain;
       }
 
   abbrev Dests : ℕ → Type 0
@@ -247,7 +248,6 @@ module _ (f : FunctionValue) (actions : List Action) (done : Done f actions) (co
                 totals_are = λ g l. ap (cut (8 * width_of f g)) (no_lanes (width_of f g));
               };
               agrees = λ p l k. sym (zero-mod (2 ^ (8 * (var_at f.vars p).size)));
-              plain = refl;
             };
           },
         )
@@ -290,11 +290,11 @@ module _ (f : FunctionValue) (actions : List Action) (done : Done f actions) (co
       };
       decided = decided f known code s args back good r row;
       slots = λ k h. h;
-      known = all_known f Args args.n base Slot has known.few.dests 1 f.insns actions done.direct done.are;
+      known = all_known f at Args args.n base Slot has known.few.dests done.is done.stand 1 actions done.are;
       few_dests = known.few.dests;
       few_sources = known.few.sources;
       few = (arrays f known code s args back good).few;
-      emulates = reaches f Args r base size Slot (separate f known code s args back good r row) (low f known code s args back good r row) has cells numbers (number_of f) (λ j. refl) actions (are_meant f 1 f.insns actions done.direct done.are) e;
+      emulates = reaches f Args r base size Slot (separate f known code s args back good r row) (low f known code s args back good r row) has cells numbers (number_of f) (λ j. refl) (StandsIn at) actions ([], steps_of f) (nothing_stands at (steps_of f)) (all_meant f done.is at done.stand 1 actions done.are) e;
       apart = apart;
       sums = sums_frame;
     }
@@ -333,11 +333,11 @@ module _ (f : FunctionValue) (actions : List Action) (done : Done f actions) (co
       turns = loop_line args.n base Slot numbers lowered (plan_with f actions) Emul Frame setting (s.core.gpr 7) c.memory done.fit done.turn cell_weight (λ q rel. refl, λ rel. refl) Q
           (λ u i w. (record { stack = inr w.stack; quiet = λ a nc nf ns. still u w a nc nf }, tt))
           e.memory h.steady.kept.totals c inside_first h.counter
-          (record { sums = e.sums; is = ap Ok h.steady.kept.plain; agrees = h.steady.kept.agrees }) h.tests
+          (record { temps = e.temps; sums = e.sums; is = refl; agrees = h.steady.kept.agrees }) h.tests
 
       -- what the turns leave
-      row_done : (end : Memory) (new sums : ℕ → ℕ) (d : Core) → Within c.memory args.n end new d → row_of f Args r args.n e ≡ Ok (state end sums) → Agrees f sums new → RowDone f known code s args back good Kept (count_of kind.Accumulator f.vars) r row e (state end sums) c d
-      row_done end new sums d w is agrees = record {
+      row_done : (end : Memory) (new temps sums : ℕ → ℕ) (d : Core) → Within c.memory args.n end new d → row_of f Args r args.n e ≡ Ok (state end temps sums) → Agrees f sums new → RowDone f known code s args back good Kept (count_of kind.Accumulator f.vars) r row e (state end temps sums) c d
+      row_done end new temps sums d w is agrees = record {
         emulated = is;
         stack = w.calm.stack;
         block = w.block;
@@ -351,15 +351,14 @@ module _ (f : FunctionValue) (actions : List Action) (done : Done f actions) (co
           totals = new;
           framed = w.framed;
           agrees = agrees;
-          plain = refl;
         };
       }
 
       does : (t : State) × (list : List Ins) × (d : Core) × Does Q (turns_flow (turn_code (plan_with f actions) 1)) c list d × Ended f known code s args back good Kept r e t c d × (length list ≤ elements_of (length (turn_code (plan_with f actions) 1)) args.n) × (weigh cell_weight list ≤ args.n * weigh cell_weight (turn_code (plan_with f actions) 1))
       does =
           let x = turns in
-          let t = state x.0 x.6.sums in
-          (t, x.2, x.3, x.4, row_ended f known code s args back good Kept (count_of kind.Accumulator f.vars) known.few.accs r row e t c x.3 h (row_done x.0 x.1 x.6.sums x.3 x.5 x.6.is x.6.agrees), x.7, x.8)
+          let t = state x.0 x.6.temps x.6.sums in
+          (t, x.2, x.3, x.4, row_ended f known code s args back good Kept (count_of kind.Accumulator f.vars) known.few.accs r row e t c x.3 h (row_done x.0 x.1 x.6.temps x.6.sums x.3 x.5 x.6.is x.6.agrees), x.7, x.8)
 
   -- ---- after the rows
 

@@ -1,5 +1,5 @@
 -- What a function's checks say of an instruction.
-use Rattle.std.proofs.Common.{◌≡◌, ℕ, ◌==◌, ◌&&◌, not, Bool, true, false, if◌then◌else◌, List, [], ◌∷◌, Option, Some, None, refl, sym, subst}
+use Rattle.std.proofs.Common.{◌≡◌, ℕ, ◌==◌, ◌&&◌, not, Bool, true, false, List, [], ◌∷◌, Option, Some, None, refl, sym}
 use Rattle.std.proofs.lemmas.Bool.{true≢false, eqb-true}
 use Rattle.orc_ops.specs.declared.opcode.Kind.{Kind}
 use Rattle.orc_ops.specs.declared.opcode.Kind.TheVariants as ops
@@ -72,11 +72,3 @@ checked vars earlier insn h =
     let c = none_left sources (first_of (many ∷ [])) b.1 in
     let d = none_left many None c.1 in
     record { prefix = unchecked (is_bad_prefix insn.op insn.prefix) fault.BadPrefix a.0; results = b.0; sources = c.0; few = unchecked (is_too_many vars earlier insn) fault.TooMany d.0 }
-
-abbrev IsThere : Option ℕ → Type 0
-IsThere (Some x) = Unit {0}
-IsThere None = ⊥
-
-pub goes_on : (b : Bool) (o : Option ℕ) (line : ℕ) → (if b then o else Some line) ≡ None → (b ≡ true) × (o ≡ None)
-goes_on true o line e = (refl, e)
-goes_on false o line e = absurd (subst IsThere e tt)

@@ -1,14 +1,20 @@
 -- Lists that grow by one instruction, by a rule or by an action.
-use Rattle.std.proofs.Common.{◌≡◌, ℕ, suc, ◌+◌, ◌*◌, ◌<◌, pos, List, [], ◌∷◌, ◌++◌, length, take, get_or, Result, Ok, Err, OnOk, refl, sym, ap, ◌∙◌, subst, arith, append-nil, append_assoc}
+use Rattle.std.proofs.Common.{◌≡◌, ℕ, suc, ◌+◌, ◌*◌, ◌<◌, ◌≤◌, Bool, true, false, pos, List, [], ◌∷◌, ◌++◌, length, map, take, get_or, Result, Ok, Err, OnOk, refl, sym, ap, ap₂, ◌∙◌, subst, arith, append-nil, append_assoc}
 use Rattle.std.proofs.lemmas.List.{take_more}
 use Rattle.x86_ins.specs.declared.ins.AluOp.TheVariants.{Add}
 use Rattle.x86_ins.specs.declared.ins.Ins.{Ins}
 use Rattle.x86_ins.specs.declared.ins.Ins.TheVariants.{AluImm}
-use Rattle.orc_program.specs.declared.program.Var.{Var}
-use Rattle.orc_program.specs.declared.program.Insn.{Insn}
-use Rattle.orc_program.specs.declared.program.Pattern.{Pattern}
-use Rattle.orc_program.specs.Slots.{size_of_slot}
-use Rattle.orc_asm.specs.Code.{Action, AreActions, AddsRule, AddsAction, AddsActions, pointer, sources_of, targets_of, sources_code, sum_code, results_code, action_code, actions_code, advance_code}
+use Rattle.x86_ins.specs.Renaming.{renamed, renaming}
+use Rattle.x86_ins.specs.Spelling.{IsIns}
+use Rattle.x86_ins.specs.Way.{Each}
+use Rattle.x86_ins.proofs.Renamed.{renamed_alike}
+use Rattle.orc_ops.specs.declared.opcode.Op.{Op}
+use Rattle.orc_ops.specs.Table.{row}
+use Rattle.sse_laws.specs.Meets.{Meets, is_sum}
+use Rattle.sse_acc.specs.Sums.{AddsUp}
+use Rattle.orc_plan.specs.declared.steps.Step.{Step}
+use Rattle.orc_asm.specs.declared.span.Span.{Span}
+use Rattle.orc_asm.specs.Code.{Action, Target, AreActions, AddsRule, AddsAction, AddsActions, pointer, far_by, aligned_first, source_of, target_of, first_register, second_register, exchange, rule_register, rule_code, sources_far_code, sum_code, results_far_code, action_far_code, actions_far_code, advance_code}
 
 -- what follows from a fact of a success
 pub on_ok : {A E : Type 0} (r : Result A E) (P Q : Type 0) → (P → Q) → OnOk r P → OnOk r Q
@@ -29,39 +35,61 @@ advances_more base c d size count first n i p q e =
 
 -- ---- rules and actions
 
-actions_append : (count : ℕ) (size : ℕ → ℕ) (a b : List Action) → actions_code count size (a ++ b) ≡ actions_code count size a ++ actions_code count size b
-actions_append count size [] b = refl
-actions_append count size (x ∷ a) b = ap (λ l. action_code count size x ++ l) (actions_append count size a b) ∙ sym (append_assoc (action_code count size x) (actions_code count size a) (actions_code count size b))
+module _ (size : ℕ → ℕ) (span : Span) where
+  abbrev one_code : Action → List Ins
+  one_code = action_far_code span.count size (far_by span.first size) (aligned_first span.aligned)
 
-are_both : (patterns : List Pattern) (vars : List Var) (count : ℕ) (xs ys : List Insn) (ps qs : List Action) → AreActions patterns vars count xs ps → AreActions patterns vars count ys qs → AreActions patterns vars count (xs ++ ys) (ps ++ qs)
-are_both patterns vars count [] ys [] qs h g = g
-are_both patterns vars count [] ys (a ∷ ps) qs h g = absurd h
-are_both patterns vars count (x ∷ xs) ys [] qs h g = absurd h
-are_both patterns vars count (x ∷ xs) ys (a ∷ ps) qs h g = (h.0, are_both patterns vars count xs ys ps qs h.1 g)
+  abbrev all_code : List Action → List Ins
+  all_code = actions_far_code span.count size (far_by span.first size) (aligned_first span.aligned)
 
-pub actions_more : (patterns : List Pattern) (vars : List Var) (count : ℕ) (insns : List Insn) (k : ℕ) (insn : Insn) (base c d : List Ins) → k < length insns → insn ≡ get_or insns k insn → AddsActions patterns vars count (take k insns) base c → AddsAction patterns vars count insn c d → AddsActions patterns vars count (take (k + 1) insns) base d
-actions_more patterns vars count insns k insn base c d l is x y =
-    let size = size_of_slot vars in
-    let one = action_code count size y.0 in
-    let before = actions_code count size x.0 in (
-      x.0 ++ y.0 ∷ [],
-      subst (λ xs. AreActions patterns vars count xs (x.0 ++ y.0 ∷ [])) (ap (λ i. take k insns ++ i ∷ []) is ∙ sym (take_more insns k insn l)) (are_both patterns vars count (take k insns) (insn ∷ []) x.0 (y.0 ∷ []) x.1 (y.1, tt)),
-      y.2 ∙ ap (λ b. b ++ one) x.2 ∙ append_assoc base before one
-          ∙ ap (λ b. base ++ b) (ap (λ b. before ++ b) (sym (append-nil one)) ∙ sym (actions_append count size x.0 (y.0 ∷ []))),
-    )
+  actions_append : (a b : List Action) → all_code (a ++ b) ≡ all_code a ++ all_code b
+  actions_append [] b = refl
+  actions_append (x ∷ a) b = ap (λ l. one_code x ++ l) (actions_append a b) ∙ sym (append_assoc (one_code x) (all_code a) (all_code b))
 
--- four lists at the end of one
-four : (base a b c d c1 c2 c3 c4 : List Ins) → c1 ≡ base ++ a → c2 ≡ c1 ++ b → c3 ≡ c2 ++ c → c4 ≡ c3 ++ d → c4 ≡ base ++ (a ++ (b ++ (c ++ d)))
-four base a b c d c1 c2 c3 c4 h1 h2 h3 h4 =
-    h4 ∙ ap (λ l. l ++ d) (h3 ∙ ap (λ l. l ++ c) (h2 ∙ ap (λ l. l ++ b) h1)) ∙ append_assoc ((base ++ a) ++ b) c d ∙ append_assoc (base ++ a) b (c ++ d) ∙ append_assoc base a (b ++ (c ++ d))
+  are_both : (at : List ℕ) (xs ys : List Step) (ps qs : List Action) → AreActions at span.count xs ps → AreActions at span.count ys qs → AreActions at span.count (xs ++ ys) (ps ++ qs)
+  are_both at [] ys [] qs h g = g
+  are_both at [] ys (a ∷ ps) qs h g = absurd h
+  are_both at (x ∷ xs) ys [] qs h g = absurd h
+  are_both at (x ∷ xs) ys (a ∷ ps) qs h g = (h.0, are_both at xs ys ps qs h.1 g)
 
--- sources, a rule and results make an action
-pub action_added : (patterns : List Pattern) (vars : List Var) (count : ℕ) (insn : Insn) (base c1 c2 c3 c4 : List Ins) → c1 ≡ base ++ sources_code count (size_of_slot vars) (sources_of patterns vars insn.op insn.sources.items) → c2 ≡ c1 ++ sum_code (targets_of vars insn.results.items) → AddsRule count insn.op c2 c3
-    → c4 ≡ c3 ++ results_code count (size_of_slot vars) (targets_of vars insn.results.items) → AddsAction patterns vars count insn base c4
-action_added patterns vars count insn base c1 c2 c3 c4 p q x r =
-    let size = size_of_slot vars in
-    let a : Action = record { op = insn.op; prefix = insn.prefix; to = targets_of vars insn.results.items; sources = sources_of patterns vars insn.op insn.sources.items; rule = x.0 } in (
-      a,
-      record { op = refl; prefix = refl; to = refl; sources = refl; rule = x.1 },
-      four base (sources_code count size a.sources) (sum_code a.to) x.0 (results_code count size a.to) c1 c2 c3 c4 p q x.2 r,
-    )
+  pub actions_more : (at : List ℕ) (steps : List Step) (k : ℕ) (step : Step) (base c d : List Ins) → k < length steps → step ≡ get_or steps k step → AddsActions at size span (take k steps) base c → AddsAction at size span step c d → AddsActions at size span (take (k + 1) steps) base d
+  actions_more at steps k step base c d l is x y =
+      let one = one_code y.0 in
+      let before = all_code x.0 in (
+        x.0 ++ y.0 ∷ [],
+        subst (λ xs. AreActions at span.count xs (x.0 ++ y.0 ∷ [])) (ap (λ i. take k steps ++ i ∷ []) is ∙ sym (take_more steps k step l)) (are_both at (take k steps) (step ∷ []) x.0 (y.0 ∷ []) x.1 (y.1, tt)),
+        y.2 ∙ ap (λ b. b ++ one) x.2 ∙ append_assoc base before one
+            ∙ ap (λ b. base ++ b) (ap (λ b. before ++ b) (sym (append-nil one)) ∙ sym (actions_append x.0 (y.0 ∷ []))),
+      )
+
+  -- four lists at the end of one
+  four : (base a b c d c1 c2 c3 c4 : List Ins) → c1 ≡ base ++ a → c2 ≡ c1 ++ b → c3 ≡ c2 ++ c → c4 ≡ c3 ++ d → c4 ≡ base ++ (a ++ (b ++ (c ++ d)))
+  four base a b c d c1 c2 c3 c4 h1 h2 h3 h4 =
+      h4 ∙ ap (λ l. l ++ d) (h3 ∙ ap (λ l. l ++ c) (h2 ∙ ap (λ l. l ++ b) h1)) ∙ append_assoc ((base ++ a) ++ b) c d ∙ append_assoc (base ++ a) b (c ++ d) ∙ append_assoc base a (b ++ (c ++ d))
+
+  -- sources, a sum, a rule and results make an action
+  pub action_added : (at : List ℕ) (step : Step) (x y : ℕ) (base c1 c2 c3 c4 : List Ins) → x ≡ first_register (map (target_of at) step.results.items) → y ≡ second_register (map (target_of at) step.results.items)
+      → c1 ≡ base ++ sources_far_code span.count size (far_by span.first size) x y (map (source_of at) step.sources.items) → c2 ≡ c1 ++ sum_code (map (target_of at) step.results.items) → AddsRule span.count step.op (map (target_of at) step.results.items) c2 c3
+      → c4 ≡ c3 ++ results_far_code span.count size (far_by span.first size) (aligned_first span.aligned) (map (target_of at) step.results.items) → AddsAction at size span step base c4
+  action_added at step x y base c1 c2 c3 c4 ex ey p q r t =
+      let a : Action = record { op = step.op; prefix = step.prefix; to = map (target_of at) step.results.items; sources = map (source_of at) step.sources.items; rule = r.0 } in
+      let loads : c1 ≡ base ++ sources_far_code span.count size (far_by span.first size) (first_register a.to) (second_register a.to) a.sources = p ∙ ap₂ (λ x y. base ++ sources_far_code span.count size (far_by span.first size) x y a.sources) ex ey in (
+        a,
+        record { op = refl; prefix = refl; to = refl; sources = refl; rule = r.1 },
+        four base (sources_far_code span.count size (far_by span.first size) (first_register a.to) (second_register a.to) a.sources) (sum_code a.to) (rule_code a) (results_far_code span.count size (far_by span.first size) (aligned_first span.aligned) a.to) c1 c2 c3 c4 loads q r.2 t,
+      )
+
+-- ---- a rule under other names
+
+-- instructions under names that are the same below 16
+names_alike : (f g : ℕ → ℕ) → ((r : ℕ) → r < 16 → f r ≡ g r) → (is : List Ins) → Each IsIns is → map (renamed f) is ≡ map (renamed g) is
+names_alike f g same [] h = refl
+names_alike f g same (i ∷ is) h = ap₂ (λ (x : Ins) (y : List Ins). x ∷ y) (renamed_alike f g same i h.0) (names_alike f g same is h.1)
+
+pub rule_added : (count : ℕ) (op : Op) (ts : List Target) (x y : ℕ) (map_is : List ℕ) (list old new : List Ins) → x ≡ first_register ts → y ≡ second_register ts → ((r : ℕ) → r < 16 → renaming map_is r ≡ exchange 0 x (exchange 1 y r))
+    → (is_sum (row op).kind ≡ false → Meets op list) → (is_sum (row op).kind ≡ true → AddsUp op count list) → length list ≤ (row op).class → length list ≤ 100 → Each IsIns list → new ≡ old ++ map (renamed (renaming map_is)) list → AddsRule count op ts old new
+rule_added count op ts x y map_is list old new ex ey is meets adds few short known e = (
+  list,
+  record { meets = meets; adds = adds; few = few; short = short; known = known },
+  e ∙ ap (λ l. old ++ l) (names_alike (renaming map_is) (rule_register ts) (λ r l. is r l ∙ ap₂ (λ a b. exchange 0 a (exchange 1 b r)) ex ey) list known),
+)

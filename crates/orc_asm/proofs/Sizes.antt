@@ -18,7 +18,7 @@ use Rattle.x86_flow.specs.Moves.{away}
 use Rattle.x86_flow.proofs.Spelled.{IsFine, fine_alu_imm, fits_up, each_both, size_within, fine_load_code, fine_store_code, fine_vec_load, fine_vec_store}
 use Rattle.orc_frame.specs.Layout.{pattern_slot, sum_slot}
 use Rattle.orc_asm.specs.Code.{Action, IsRule, Source, FromArray, FromPattern, FromPlace, Target, ToArray, ToSum, ToPlace, Plan, pointer, place_register, made_in, first_register, second_register, rule_register, rule_code, source_code, sources_code, sum_code, result_code, results_code, action_code, actions_code, advance_code, turn_code}
-use Rattle.orc_asm.proofs.Homes.{register_small}
+use Rattle.orc_asm.proofs.RuleRegisters.{register_small}
 use Rattle.orc_asm.proofs.Cost.{from_weights, to_weights, weights}
 use Rattle.orc_asm.proofs.Registers.{pointer_small}
 use Rattle.orc_asm.proofs.Vectored.{fine_rule}

@@ -96,8 +96,8 @@ module _ (by : ℕ → Bool) (by_stack : by 4 ≡ false) where
 
     from_front : (s : Source) (more : List Source) → from_arrays (s ∷ more) ≡ from_arrays (s ∷ []) + from_arrays more
     from_front (FromArray k) more = omega arith
-    from_front (FromPattern j) more = refl
-    from_front (FromPlace p) more = refl
+    from_front (FromPattern j) more = omega arith
+    from_front (FromPlace p) more = omega arith
 
     sources_few : (x y : ℕ) (ss : List Source) → Each (IsMovedFrom count size) ss → weigh v (sources_far_code count size far x y ss) ≤ from_arrays ss
     sources_few x y [] h = omega arith
@@ -124,8 +124,8 @@ module _ (by : ℕ → Bool) (by_stack : by 4 ≡ false) where
 
     to_front : (t : Target) (more : List Target) → to_arrays (t ∷ more) ≡ to_arrays (t ∷ []) + to_arrays more
     to_front (ToArray k) more = omega arith
-    to_front (ToSum g) more = refl
-    to_front (ToPlace p) more = refl
+    to_front (ToSum g) more = omega arith
+    to_front (ToPlace p) more = omega arith
 
     results_few : (ts : List Target) → Each (IsMovedTo count size) ts → weigh v (results_far_code count size far aligned ts) ≤ to_arrays ts
     results_few [] h = omega arith

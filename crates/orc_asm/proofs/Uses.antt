@@ -1,6 +1,6 @@
 -- The patterns of a function have each number that a source uses.
-use Rattle.std.proofs.Common.{◌≡◌, ℕ, suc, ◌+◌, ◌<◌, ◌==◌, ◌&&◌, ◌||◌, Bool, true, false, if◌then◌else◌, List, [], ◌∷◌, ◌++◌, length, get_or, fold, Option, Some, None, refl, sym, ap, ◌∙◌, subst, arith, true≢false, nat_eq}
-use Rattle.std.specs.List.{list_any, cons_option}
+use Rattle.std.proofs.Common.{◌≡◌, ℕ, suc, ◌+◌, ◌<◌, ◌==◌, ◌&&◌, ◌||◌, not, Bool, true, false, cond, if◌then◌else◌, List, [], ◌∷◌, ◌++◌, length, get_or, fold, Option, Some, None, refl, sym, ap, ◌∙◌, subst, arith, true≢false, nat_eq}
+use Rattle.std.specs.List.{list_any, cons_option, position_or_len}
 use Rattle.std.proofs.lemmas.Bool.Decides.{nat_tests}
 use Rattle.std.proofs.lemmas.List.Folds.{list_any-append}
 use Rattle.std.proofs.lemmas.List.Sums.{fold-append}
@@ -12,7 +12,6 @@ use Rattle.orc_program.specs.declared.program.Operand.TheVariants as operand
 use Rattle.orc_program.specs.declared.program.Pattern.{Pattern}
 use Rattle.orc_program.specs.Checks.{same_operand, same_pattern, number_in, way_of, pattern_with, uses_from, add_pattern, add_patterns, patterns_of}
 use Rattle.orc_program.proofs.Sizes.{both}
-use Rattle.orc_asm.specs.Code.{index_of}
 
 -- ---- patterns that are the same
 
@@ -46,15 +45,17 @@ abbrev pub Has : List Pattern → Pattern → Type 0
 Has ps p = list_any (same_pattern p) ps ≡ true
 
 -- its place
-pub index_found : (ps : List Pattern) (p d : Pattern) → Has ps p → (index_of ps p < length ps) × (get_or ps (index_of ps p) d ≡ p)
-index_found [] p d h = absurd (true≢false (sym h))
-index_found (q ∷ qs) p d h = go (same_pattern p q) refl (index_found qs p d)
+pub place_found : (ps : List Pattern) (p d : Pattern) → Has ps p → (position_or_len (same_pattern p) ps < length ps) × (get_or ps (position_or_len (same_pattern p) ps) d ≡ p)
+place_found [] p d h = absurd (true≢false (sym h))
+place_found (q ∷ qs) p d h = go (same_pattern p q) refl (place_found qs p d)
   where
-    go : (b : Bool) → same_pattern p q ≡ b → (Has qs p → (index_of qs p < length qs) × (get_or qs (index_of qs p) d ≡ p)) → ((if b then 0 else 1 + index_of qs p) < suc (length qs)) × (get_or (q ∷ qs) (if b then 0 else 1 + index_of qs p) d ≡ p)
+    go : (b : Bool) → same_pattern p q ≡ b → (Has qs p → (position_or_len (same_pattern p) qs < length qs) × (get_or qs (position_or_len (same_pattern p) qs) d ≡ p))
+        → (cond (not b) (1 + position_or_len (same_pattern p) qs) 0 < suc (length qs)) × (get_or (q ∷ qs) (cond (not b) (1 + position_or_len (same_pattern p) qs) 0) d ≡ p)
     go true e more = (omega arith, sym (pattern_is p q e))
     go false e more =
         let x = more (sym (ap (λ b. b || list_any (same_pattern p) qs) e) ∙ h) in
-        (omega (arith, x.0), ap (λ i. get_or (q ∷ qs) i d) (let z : 1 + index_of qs p ≡ suc (index_of qs p) = omega arith in z) ∙ x.1)
+        let rest = position_or_len (same_pattern p) qs in
+        (omega (arith, x.0), ap (λ i. get_or (q ∷ qs) i d) (let z : 1 + rest ≡ suc rest = omega arith in z) ∙ x.1)
 
 -- ---- uses are added
 

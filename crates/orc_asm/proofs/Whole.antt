@@ -1,16 +1,20 @@
 -- The code of a function: it is allowed, its bytes are few, and it runs as the function means.
-use Rattle.std.proofs.Common.{◌≡◌, Bool, ℕ, ◌+◌, ◌*◌, ◌≤◌, true, List, [], ◌∷◌, ◌++◌, length, None, Result, Ok, Err, IfOk, refl, sym, ap, ap₂, ◌∙◌, subst, arith, All, IsTrue}
-use Rattle.orc_program.specs.declared.program.Var.{Var}
+use Rattle.std.proofs.Common.{◌≡◌, Bool, ℕ, ◌+◌, ◌*◌, ◌≤◌, true, List, [], ◌∷◌, ◌++◌, length, pos, slice_index, false, ◌<◌, Result, Ok, Err, IfOk, refl, sym, ap, ap₂, ◌∙◌, subst, arith, All, IsTrue, inl, inr}
 use Rattle.orc_program.specs.declared.program.VarKind.TheVariants as kind
-use Rattle.orc_program.specs.declared.program.Insn.{Insn}
-use Rattle.orc_program.specs.declared.program.Pattern.{Pattern}
 use Rattle.orc_program.specs.Program.{FunctionValue, count_of}
 use Rattle.orc_program.specs.Checks.{patterns_of}
 use Rattle.orc_program.specs.Kept.{is_function}
 use Rattle.orc_program.specs.Need.{cost}
+use Rattle.orc_program.specs.Slots.{size_of_slot}
+use Rattle.orc_plan.specs.declared.steps.Step.{Step}
+use Rattle.orc_plan.specs.Lowered.{steps_of, sizes_of}
+use Rattle.orc_plan.specs.Places.{GoodPlaces}
+use Rattle.orc_plan.specs.Standing.{AllStand}
+use Rattle.orc_plan.proofs.Standing.{all_stand}
 use Rattle.x86_ins.specs.declared.ins.Cond.TheVariants.{Ne}
 use Rattle.x86_ins.specs.declared.ins.Ins.{Ins}
-use Rattle.x86_ins.specs.declared.ins.Ins.TheVariants.{Ret}
+use Rattle.x86_ins.specs.declared.ins.AluOp.TheVariants.{Sub}
+use Rattle.x86_ins.specs.declared.ins.Ins.TheVariants.{AluImm, Ret}
 use Rattle.x86_ins.specs.Spelling.{IsAllowed, spelling, has_spelling}
 use Rattle.x86_ins.specs.Way.{Each}
 use Rattle.x86_flow.specs.Flow.{Flow, flat, size, spell_all, loop_code, with_return}
@@ -25,18 +29,18 @@ use Rattle.orc_frame.proofs.Facts.{Facts, facts}
 use Rattle.orc_frame.proofs.Apart.{length-acc_sizes_of}
 use Rattle.orc_frame.specs.Function.{subject_of}
 use Rattle.orc_asm.specs.RunsAs.{quiet}
-use Rattle.orc_asm.specs.Function.{RunsQuietly, first_unbuilt}
-use Rattle.orc_asm.specs.Code.{Action, AreActions, Plan, IsReady, IsTurn, patterns_in, plan_with, turn_code}
+use Rattle.orc_asm.specs.Function.{RunsQuietly}
+use Rattle.orc_asm.specs.Code.{Action, AreActions, Plan, IsReady, IsTurn, IsTurnBy, plan_with, at_pointer, unaligned, far_by, aligned_first, actions_far_code, advance_code, turn_code}
 use Rattle.orc_asm.specs.Rows.{turns_flow, rows_flow, whole_flow}
-use Rattle.orc_asm.proofs.Numbered.{patterns_are, sizes_are}
+use Rattle.orc_asm.proofs.Layouts.{patterns_are, sizes_are}
 use Rattle.orc_asm.proofs.Cost.{weights}
 use Rattle.orc_asm.proofs.Counts.{turn_count}
 use Rattle.orc_asm.proofs.Sizes.{Small, fine_turn, turn_bytes}
 use Rattle.orc_asm.proofs.Keeping.{ins_of}
 use Rattle.orc_asm.proofs.Slots.{limits}
-use Rattle.orc_asm.proofs.Fits.{small_with, some_size, slot_size}
-use Rattle.orc_asm.proofs.Acts.{AreDirect, are_direct}
-use Rattle.orc_asm.proofs.Knows.{all_movable, all_fit, all_ready, weights_within}
+use Rattle.orc_asm.proofs.Fits.{small_with, some_size, slot_size, slot_sized}
+use Rattle.orc_asm.proofs.SameSizes.{same_actions, same_advance}
+use Rattle.orc_asm.proofs.Knows.{all_movable, all_fit, all_ready, all_same, weights_within}
 use Rattle.orc_asm.proofs.RowCounts.{size_both, loop_bytes, loop_allowed, rows_bytes, rows_allowed}
 use Rattle.orc_asm.proofs.RowPath.{cell_weight, own_free}
 use Rattle.orc_asm.proofs.RowRuns.{AreShort, runs}
@@ -47,38 +51,50 @@ pub ok_map : {A E : Type 0} (r : Result A E) (P Q : A → Type 0) → ((x : A) �
 ok_map (Ok x) P Q f h = f x h
 ok_map (Err e) P Q f h = h
 
--- ---- what is known of a function that is built
+-- ---- what is known of a function whose values have places
 
-module _ (f : FunctionValue) (h : is_function f ≡ true) (built : first_unbuilt f ≡ None) where
-  direct : AreDirect f f.insns
-  direct = are_direct f h built
+module _ (f : FunctionValue) (h : is_function f ≡ true) (at : List ℕ) (good : GoodPlaces (steps_of f) at) where
+  stand : AllStand f.vars (patterns_of f.vars f.insns) at [] f.insns
+  stand = all_stand f h at good
 
-  -- its instructions' code can be given
-  pub ready : All (IsReady (patterns_in f) f.vars 1) f.insns
-  ready = all_ready f h f.insns direct
+  -- its steps' code can be given
+  pub ready : All (IsReady (layout_of f) at (slice_index (sizes_of f)) 1) (steps_of f)
+  ready = all_ready f h at stand
 
-  module _ (actions : List Action) (is : AreActions (patterns_in f) f.vars 1 f.insns actions) where
+  module _ (actions : List Action) (is : AreActions at 1 (steps_of f) actions) where
     small_plan : Small (plan_with f actions)
-    small_plan = small_with f h actions (all_movable f h f.insns actions direct is) is
+    small_plan = small_with f h at actions (all_movable f h at stand actions is) is
 
     weights_few : weights actions ≤ cost f
-    weights_few = weights_within f h f.insns actions direct is
+    weights_few = weights_within f h at stand actions is
 
-    done : Done f actions
+    done : Done f at actions
     done = record {
       is = h;
       arrays = record { few = limits f h; small = slot_size f h; some = some_size f h };
-      direct = direct;
+      stand = stand;
       are = is;
-      fit = all_fit f h f.insns actions direct is;
+      fit = all_fit f h at stand actions is;
       turn = ins_of (turn_code (plan_with f actions) 1) (fine_turn (plan_with f actions) small_plan);
     }
 
-  pub spelled_turn : (list : List Ins) → IsTurn f 1 list → All (λ i. IsTrue (has_spelling i)) list
-  spelled_turn list x = subst (All (λ i. IsTrue (has_spelling i))) (sym x.2) (fine_spelled (turn_code (plan_with f x.0) 1) (fine_turn (plan_with f x.0) (small_plan x.0 x.1)))
+  -- the sizes of the steps are those of the slots
+  turn_is : (list : List Ins) → IsTurnBy at (sizes_of f) (steps_of f) (count_of kind.Dest f.vars) (count_of kind.Source f.vars) 1 list → IsTurn f 1 list
+  turn_is list x =
+      let few = limits f h in
+      let size : ℕ → ℕ = size_of_slot f.vars in
+      let steps : ℕ → ℕ = slice_index (sizes_of f) in
+      let last : List Ins = AluImm Sub 1 (pos 1) ∷ [] in
+      let block = same_actions steps size 1 (far_by 0 steps) at_pointer unaligned (λ k e. let z : 0 * steps k ≡ 0 = omega arith in z) x.0 (all_same f h at stand x.0 x.1) in
+      let dests = same_advance steps size 1 0 (count_of kind.Dest f.vars) (λ k l m. slot_sized f h k (inl (omega (arith, m)))) in
+      let sources = same_advance steps size 1 4 (count_of kind.Source f.vars) (λ k l m. slot_sized f h k (inr (l, m))) in
+      (at, good, (x.0, x.1, x.2 ∙ ap₂ (λ (a b : List Ins). a ++ b) block (ap₂ (λ (a b : List Ins). a ++ (b ++ last)) dests sources)))
 
-  pub turn_fits : (list : List Ins) → IsTurn f 1 list → size list ≤ 900000
-  turn_fits list x = omega (arith, ap size x.2, turn_bytes (plan_with f x.0) (small_plan x.0 x.1))
+pub spelled_turn : (f : FunctionValue) → is_function f ≡ true → (list : List Ins) → IsTurn f 1 list → All (λ i. IsTrue (has_spelling i)) list
+spelled_turn f h list x = subst (All (λ i. IsTrue (has_spelling i))) (sym x.2.2) (fine_spelled (turn_code (plan_with f x.2.0) 1) (fine_turn (plan_with f x.2.0) (small_plan f h x.0 x.1 x.2.0 x.2.1)))
+
+pub turn_fits : (f : FunctionValue) → is_function f ≡ true → (list : List Ins) → IsTurn f 1 list → size list ≤ 900000
+turn_fits f h list x = omega (arith, ap size x.2.2, turn_bytes (plan_with f x.2.0) (small_plan f h x.0 x.1 x.2.0 x.2.1))
 
 -- ---- the code
 
@@ -105,9 +121,12 @@ ret_bytes : size (Ret ∷ []) ≡ 1
 unfolding spelling
 ret_bytes = refl
 
-module _ (f : FunctionValue) (h : is_function f ≡ true) (built : first_unbuilt f ≡ None) (l : Layout) (first turn last : List Ins) (x : Lists f l first turn last) where
+module _ (f : FunctionValue) (h : is_function f ≡ true) (l : Layout) (first turn last : List Ins) (x : Lists f l first turn last) where
+  abbrev at : List ℕ
+  at = x.turn_is.0
+
   abbrev actions : List Action
-  actions = x.turn_is.0
+  actions = x.turn_is.2.0
 
   abbrev plan : Plan
   plan = plan_with f actions
@@ -122,7 +141,7 @@ module _ (f : FunctionValue) (h : is_function f ≡ true) (built : first_unbuilt
   sources = count_of kind.Source f.vars
 
   small : Small plan
-  small = small_plan f h built actions x.turn_is.1
+  small = small_plan f h at x.turn_is.1 actions x.turn_is.2.1
 
   fact : Facts l
   fact = facts l (f, h, x.layout)
@@ -157,7 +176,7 @@ module _ (f : FunctionValue) (h : is_function f ≡ true) (built : first_unbuilt
       let sums : length l.acc_sizes.items ≡ count_of kind.Accumulator f.vars = ap (λ (y : Layout). length y.acc_sizes.items) x.layout ∙ ap length (sizes_are f) ∙ length-acc_sizes_of f in
       record {
         lists = omega (arith, x.first_short, x.last_short, patterns, sums);
-        turn_few = omega (arith, turn_count plan small.actions, weights_few f h built actions x.turn_is.1);
+        turn_few = omega (arith, turn_count plan 1 small.actions, weights_few f h at x.turn_is.1 actions x.turn_is.2.1);
       }
 
   -- the lists around the rows touch no cell
@@ -169,23 +188,19 @@ module _ (f : FunctionValue) (h : is_function f ≡ true) (built : first_unbuilt
 
   code_runs : RunsQuietly f (spell_all (with_return flow))
   code_runs =
-      let d : Done f actions = done f h built actions x.turn_is.1 in
+      let d : Done f at actions = done f h at x.turn_is.1 actions x.turn_is.2.1 in
       lift (subject_of f) (quiet (subject_of f)) (quiet_lifts (subject_of f)) (spell_all (with_return flow))
       (runs f d.arrays first (turns_flow list) last (length list) (weigh cell_weight list) short (λ s args u i. Unit {0}) (λ code s args back good u i t. tt)
-      (λ code s args back good. parts f actions d code s args back good first last (subst (λ y. Prepares y first) x.layout x.prepares) (subst (λ y. Finishes y last) x.layout x.finishes))
+      (λ code s args back good. parts f at actions d code s args back good first last (subst (λ y. Prepares y first) x.layout x.prepares) (subst (λ y. Finishes y last) x.layout x.finishes))
       allowed)
 
   pub whole_runs : (bytes : List ℕ) (two_d : Bool) (d s : ℕ) → two_d ≡ f.two_d → d ≡ dests → s ≡ sources → bytes ≡ spell_all (with_return (whole_flow first (turns_flow turn) last two_d d s)) → RunsQuietly f bytes × HasCodeLength bytes
   whole_runs bytes two_d d s a b c e =
       let is : bytes ≡ spell_all (with_return flow) =
       e ∙ ap (λ r. spell_all (with_return (whole_flow first (turns_flow turn) last r d s))) a ∙ ap₂ (λ d s. spell_all (with_return (whole_flow first (turns_flow turn) last f.two_d d s))) b c
-      ∙ ap (λ t. spell_all (with_return (whole_flow first (turns_flow t) last f.two_d dests sources))) x.turn_is.2 in
+      ∙ ap (λ t. spell_all (with_return (whole_flow first (turns_flow t) last f.two_d dests sources))) x.turn_is.2.2 in
       (subst (RunsQuietly f) (sym is) code_runs, subst HasCodeLength (sym is) code_length)
 
 -- in whole slices
 pub list_slices : (f : FunctionValue) (l : Layout) (first turn last a b c : List Ins) → a ≡ first → b ≡ turn → c ≡ last → Lists f l first turn last → Lists f l a b c
 list_slices f l first turn last a b c p q r x = subst (λ z. Lists f l z b c) (sym p) (subst (λ z. Lists f l first z c) (sym q) (subst (λ z. Lists f l first turn z) (sym r) x))
-
--- in whole slices
-pub ready_slices : (f : FunctionValue) (count : ℕ) (patterns : List Pattern) (vars : List Var) (insns : List Insn) → patterns ≡ patterns_in f → vars ≡ f.vars → insns ≡ f.insns → All (IsReady (patterns_in f) f.vars count) f.insns → All (IsReady patterns vars count) insns
-ready_slices f count patterns vars insns p a b h = subst (λ x. All (IsReady x vars count) insns) (sym p) (subst (λ x. All (IsReady (patterns_in f) x count) insns) (sym a) (subst (All (IsReady (patterns_in f) f.vars count)) (sym b) h))

@@ -20,7 +20,9 @@ use Rattle.orc_plan.specs.declared.steps.Item.TheVariants as item
 use Rattle.orc_plan.specs.declared.steps.Step.{Step}
 use Rattle.orc_plan.specs.Places.{GoodPlaces}
 use Rattle.orc_plan.specs.Lowered.{steps_of}
+use Rattle.orc_asm.specs.declared.span.Span.{Span}
 use Rattle.x86_flow.specs.Moves.{IsWidth, away, load_far_code, store_either_code}
+use Rattle.orc_frame.specs.declared.frame.Layout.{Layout}
 use Rattle.orc_frame.specs.Layout.{pattern_slot, sum_slot}
 use Rattle.sse_laws.specs.Meets.{Meets, is_sum}
 use Rattle.sse_acc.specs.Sums.{AddsUp}
@@ -158,6 +160,15 @@ at_pointer k = 0
 abbrev pub unaligned : ℕ → Bool
 unaligned k = false
 
+-- where they are so many elements behind the pointers
+abbrev pub far_by : ℕ → (ℕ → ℕ) → ℕ → ℕ
+far_by first size k = first * size k
+
+-- aligned stores for the first dest alone, or for none
+abbrev pub aligned_first : Bool → ℕ → Bool
+aligned_first false = unaligned
+aligned_first true = λ k. k == 0
+
 abbrev pub source_code : ℕ → (ℕ → ℕ) → ℕ → Source → List Ins
 source_code count size = source_far_code count size at_pointer
 
@@ -185,7 +196,7 @@ advance_code size count first (suc n) = advance_code size count first n ++ AluIm
 
 -- so many blocks of `count` elements each, one behind another, with the pointers at the first
 abbrev pub block_far : Plan → ℕ → ℕ → ℕ
-block_far p lag k = lag * p.size k
+block_far p lag = far_by lag p.size
 
 abbrev pub blocks_code : Plan → (ℕ → Bool) → ℕ → ℕ → List Ins
 blocks_code p aligned count zero = []
@@ -246,11 +257,19 @@ abbrev pub AddsRule : ℕ → Op → List Target → List Ins → List Ins → T
 AddsRule count op to old new = (rule : List Ins) × IsRule count op rule × (new ≡ old ++ map (renamed (rule_register to)) rule)
 
 -- `size` has the bytes of an element of each array slot
-abbrev pub AddsAction : List ℕ → (ℕ → ℕ) → ℕ → Step → List Ins → List Ins → Type 0
-AddsAction at size count step old new = (a : Action) × IsAction at count step a × (new ≡ old ++ action_code count size a)
+abbrev pub AddsAction : List ℕ → (ℕ → ℕ) → Span → Step → List Ins → List Ins → Type 0
+AddsAction at size span step old new =
+    (a : Action) × IsAction at span.count step a × (new ≡ old ++ action_far_code span.count size (far_by span.first size) (aligned_first span.aligned) a)
 
-abbrev pub AddsActions : List ℕ → (ℕ → ℕ) → ℕ → List Step → List Ins → List Ins → Type 0
-AddsActions at size count steps old new = (actions : List Action) × AreActions at count steps actions × (new ≡ old ++ actions_code count size actions)
+abbrev pub AddsActions : List ℕ → (ℕ → ℕ) → Span → List Step → List Ins → List Ins → Type 0
+AddsActions at size span steps old new =
+    (actions : List Action) × AreActions at span.count steps actions × (new ≡ old ++ actions_far_code span.count size (far_by span.first size) (aligned_first span.aligned) actions)
+
+-- a turn of steps with these places, by the sizes of array slots
+abbrev pub IsTurnBy : List ℕ → List ℕ → List Step → ℕ → ℕ → ℕ → List Ins → Type 0
+IsTurnBy at sizes steps dests sources count list =
+    (actions : List Action) × AreActions at count steps actions
+    × (list ≡ actions_far_code count (slice_index sizes) (far_by 0 (slice_index sizes)) (aligned_first false) actions ++ (advance_code (slice_index sizes) count 0 dests ++ (advance_code (slice_index sizes) count 4 sources ++ AluImm Sub 1 (pos count) ∷ [])))
 
 -- a turn of a function's code, by some good places of its values
 abbrev pub IsTurn : FunctionValue → ℕ → List Ins → Type 0
@@ -263,19 +282,27 @@ IsTurn f count list =
 abbrev pub IsMoved : (ℕ → ℕ) → ℕ → ℕ → Type 0
 IsMoved size count k = (k < 12) × IsWidth (count * size k)
 
-abbrev pub IsLoaded : (ℕ → ℕ) → ℕ → Source → Type 0
-IsLoaded size count (FromArray k) = IsMoved size count k
-IsLoaded size count (FromPattern j) = j < 48
-IsLoaded size count (FromPlace p) = p < 10
+-- a result that goes to a place goes to one that there is
+abbrev pub InPlaces : Target → Type 0
+InPlaces (ToArray k) = Unit {0}
+InPlaces (ToSum g) = Unit {0}
+InPlaces (ToPlace p) = p < 10
 
-abbrev pub IsStored : (ℕ → ℕ) → ℕ → Target → Type 0
-IsStored size count (ToArray k) = IsMoved size count k
-IsStored size count (ToSum g) = g < 4
-IsStored size count (ToPlace p) = p < 10
+-- a source can be loaded, where the function has this layout
+abbrev pub IsLoaded : Layout → (ℕ → ℕ) → ℕ → Source → Type 0
+IsLoaded l size count (FromArray k) = IsMoved size count k
+IsLoaded l size count (FromPattern j) = j < length l.patterns.items
+IsLoaded l size count (FromPlace p) = p < 10
 
-pub record IsReady (at : List ℕ) (size : ℕ → ℕ) (count : ℕ) (step : Step) : Type 0 where
+-- a result can be stored
+abbrev pub IsStored : Layout → (ℕ → ℕ) → ℕ → Target → Type 0
+IsStored l size count (ToArray k) = IsMoved size count k
+IsStored l size count (ToSum g) = g < length l.acc_sizes.items
+IsStored l size count (ToPlace p) = p < 10
+
+pub record IsReady (l : Layout) (at : List ℕ) (size : ℕ → ℕ) (count : ℕ) (step : Step) : Type 0 where
   pub has_rule : HasRule count step.op
-  pub sources : Each (IsLoaded size count) (map (source_of at) step.sources.items)
-  pub to : Each (IsStored size count) (map (target_of at) step.results.items)
-  -- results are made in two registers
+  pub sources : Each (IsLoaded l size count) (map (source_of at) step.sources.items)
+  pub to : Each (IsStored l size count) (map (target_of at) step.results.items)
+  -- two results are made in two registers
   pub apart : first_register (map (target_of at) step.results.items) ≢ second_register (map (target_of at) step.results.items)

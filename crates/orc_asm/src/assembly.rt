@@ -1,21 +1,23 @@
 //! From functions to code.
 
-ghost use Rattle.std.specs.Prelude.{◌≡◌, ◌≤◌, All, IfOk, OnOk, IfErr, None, length, true};
+ghost use Rattle.std.specs.Prelude.{◌≡◌, ◌≤◌, All, IfOk, OnOk, IfErr, None, length, slice_index, true};
 ghost use Rattle.orc_program.specs.declared.program.VarKind.TheVariants as kind;
 ghost use Rattle.orc_program.specs.Program.{count_of};
 ghost use Rattle.orc_program.specs.Kept.{is_function};
-ghost use Rattle.orc_plan.specs.Lowered.{steps_of};
+ghost use Rattle.orc_plan.specs.Lowered.{steps_of, sizes_of};
+ghost use Rattle.orc_frame.specs.Frame.{IsLayout};
 ghost use Rattle.orc_asm.specs.Function.{RunsAs, RunsQuietly, first_pressure, IsRefusal};
-ghost use Rattle.orc_asm.specs.Code.{patterns_in, IsReady, IsTurn};
+ghost use Rattle.orc_asm.specs.Code.{IsReady, IsTurnBy};
 
-use crate::arrays::count_of;
 use crate::lists::{COUNTER, push_actions, push_advances};
 use crate::refusal::AsmError;
 use crate::rows::whole_code;
+use crate::span::Span;
 use orc_bits::Code;
-use orc_frame::{epilogue, layout, prologue};
+use orc_frame::{Layout, epilogue, layout, prologue};
 use orc_plan::{Placed, lower, place};
-use orc_program::{Function, VarKind, patterns};
+use orc_program::variables::count_of;
+use orc_program::{Function, VarKind};
 use std::alloc::{AllocError, Global};
 use x86_ins::{AluOp, Ins, InsList};
 
@@ -45,14 +47,15 @@ pub fn assemble(alloc: Global, f: &Function) -> Result<Code, AsmError>
 
 /// The code of a function whose values have places: rows of turns, and before and after them what the frame wants.
 fn code_of(alloc: Global, f: &Function, placed: &Placed) -> Result<Code, AllocError>
-    requires { placed.now.core.steps ≡ steps_of f.now }
+    requires steps { placed.now.core.steps ≡ steps_of f.now }
+    requires sizes { placed.now.core.sizes ≡ sizes_of f.now }
     ensures inside { IfOk result (λ code. RunsQuietly f.now code) }
     ensures bytes { IfOk result (λ code. (1 ≤ length code) × (length code ≤ 1048576)) }
 {
     let counts = counts_of(f);
     let layout = layout(f);
     let first = prologue(alloc, &layout)?;
-    let turn = turn_list(alloc, f, 1)?;
+    let turn = turn_list(alloc, placed, &layout, counts)?;
     let last = epilogue(alloc, &layout)?;
     whole_code(
         alloc,
@@ -65,29 +68,39 @@ fn code_of(alloc: Global, f: &Function, placed: &Placed) -> Result<Code, AllocEr
     )
 }
 
-/// Does `count` elements, and moves the pointers and the counter on.
-fn turn_list(alloc: Global, f: &Function, count: usize) -> Result<InsList, AllocError>
-    requires count { count ≤ 16 }
-    requires ready { All (IsReady (patterns_in f.now) f.now.vars count) f.now.insns }
-    ensures { IfOk result (IsTurn f.now count) }
+/// Does one element, and moves the pointers and the counter on.
+fn turn_list(
+    alloc: Global,
+    placed: &Placed,
+    layout: &Layout,
+    counts: Counts,
+) -> Result<InsList, AllocError>
+    requires layout { IsLayout layout.now }
+    requires ready { All (IsReady layout.now placed.now.places (slice_index placed.now.core.sizes) 1) placed.now.core.steps }
+    requires few { (counts.dests ≤ 4) × (counts.sources ≤ 8) }
+    ensures { IfOk result (IsTurnBy placed.now.places placed.now.core.sizes placed.now.core.steps counts.dests counts.sources 1) }
 {
-    let vars = f.vars.as_slice();
-    let counts = counts_of(f);
+    let sizes = &placed.core.sizes;
+    let span = Span {
+        first: 0,
+        count: 1,
+        aligned: false,
+    };
     let mut list = InsList::new(alloc);
-    let patterns = patterns(f);
     push_actions(
         &mut list,
-        patterns.as_slice(),
-        vars,
-        f.insns.as_slice(),
-        count,
+        placed.places.as_slice(),
+        sizes,
+        layout,
+        placed.core.steps.as_slice(),
+        span,
     )?;
-    push_advances(&mut list, vars, count, 0, counts.dests)?;
-    push_advances(&mut list, vars, count, 4, counts.sources)?;
+    push_advances(&mut list, sizes, 1, 0, counts.dests)?;
+    push_advances(&mut list, sizes, 1, 4, counts.sources)?;
     list.push(Ins::AluImm {
         op: AluOp::Sub,
         dst: COUNTER,
-        value: count as i32,
+        value: 1,
     })?;
     Ok(list)
 }

@@ -21,30 +21,12 @@ use Rattle.orc_program.specs.Kept.{is_function, keeps_limits, has_few, most_of, 
 use Rattle.orc_program.specs.Checks.{insn_fault, is_bad_prefix, is_sum_kind, is_count, operand_sizes, or_else, check, results_fault, sources_fault, is_too_many}
 use Rattle.orc_program.proofs.Apart.{IsSize}
 use Rattle.orc_program.proofs.Sizes.{both, kept_of, size_kept}
+use Rattle.orc_program.proofs.Counts.{few_vars, vars_few}
+use Rattle.orc_program.proofs.Places as lower
+use Rattle.orc_program.proofs.Places.{before_less}
 use Rattle.orc_emul.specs.State.{Fits}
 
 -- ---- few variables
-
-one_kind : (k : VarKind) → cond (same_kind kind.Source k) 1 0 + cond (same_kind kind.Dest k) 1 0 + cond (same_kind kind.Accumulator k) 1 0 + cond (same_kind kind.Param k) 1 0 + cond (same_kind kind.Const k) 1 0 + cond (same_kind kind.Temp k) 1 0 ≡ 1
-one_kind kind.Source = refl
-one_kind kind.Dest = refl
-one_kind kind.Accumulator = refl
-one_kind kind.Param = refl
-one_kind kind.Const = refl
-one_kind kind.Temp = refl
-
-count_cons : (k : VarKind) (v : Var) (vars : List Var) → count_of k (v ∷ vars) ≡ cond (same_kind k v.kind) 1 0 + count_of k vars
-count_cons k v vars = sum_by-cons (λ (x : Var). cond (is_of k x) 1 0) v vars
-
-all_kinds : (vars : List Var) → count_of kind.Source vars + count_of kind.Dest vars + count_of kind.Accumulator vars + count_of kind.Param vars + count_of kind.Const vars + count_of kind.Temp vars ≡ length vars
-all_kinds [] = refl
-all_kinds (v ∷ vars) =
-    let o = one_kind v.kind in
-    let r = all_kinds vars in
-    omega (arith, o, r, count_cons kind.Source v vars, count_cons kind.Dest v vars, count_cons kind.Accumulator v vars, count_cons kind.Param v vars, count_cons kind.Const v vars, count_cons kind.Temp v vars)
-
-few : (vars : List Var) (k : VarKind) → has_few vars k ≡ true → count_of k vars ≤ most_of k
-few vars k e = grind (arith, nat_tests, e)
 
 -- the limits, one by one
 pub record Limits (vars : List Var) : Type 0 where
@@ -52,22 +34,7 @@ pub record Limits (vars : List Var) : Type 0 where
   pub all : length vars ≤ 72
 
 pub limits_kept : (f : FunctionValue) → is_function f ≡ true → Limits f.vars
-limits_kept f h =
-    let few_of = has_few f.vars in
-    let a = both (few_of kind.Source) (few_of kind.Dest && (few_of kind.Accumulator && (few_of kind.Param && (few_of kind.Const && (few_of kind.Temp && true))))) (kept_of f h).limits in
-    let b = both (few_of kind.Dest) (few_of kind.Accumulator && (few_of kind.Param && (few_of kind.Const && (few_of kind.Temp && true)))) a.1 in
-    let c = both (few_of kind.Accumulator) (few_of kind.Param && (few_of kind.Const && (few_of kind.Temp && true))) b.1 in
-    let d = both (few_of kind.Param) (few_of kind.Const && (few_of kind.Temp && true)) c.1 in
-    let e = both (few_of kind.Const) (few_of kind.Temp && true) d.1 in
-    let g = both (few_of kind.Temp) true e.1 in
-    let s = few f.vars kind.Source a.0 in
-    let t = few f.vars kind.Dest b.0 in
-    let u = few f.vars kind.Accumulator c.0 in
-    let v = few f.vars kind.Param d.0 in
-    let w = few f.vars kind.Const e.0 in
-    let x = few f.vars kind.Temp g.0 in
-    let sum = all_kinds f.vars in
-    record { accumulators = u; all = omega (arith, s, t, u, v, w, x, sum) }
+limits_kept f h = record { accumulators = (few_vars f.vars (kept_of f h).limits).accumulators; all = vars_few f h }
 
 -- ---- sizes
 
@@ -80,16 +47,7 @@ size_low f h p l = at_most_8 (var_at f.vars p).size (size_kept f h p l)
 -- ---- a variable is among those of its kind
 
 pub before_all : (k : VarKind) (vars : List Var) (p : ℕ) → p < length vars → same_kind k (var_at vars p).kind ≡ true → count_before k vars p < count_of k vars
-before_all k [] p l e = absurd (omega (arith, l))
-before_all k (v ∷ vars) zero l e =
-    let one : ℕ = 1 in
-    let c : cond (same_kind k v.kind) 1 0 ≡ one = ap (λ t. cond t 1 0) e in
-    let z : count_before k (v ∷ vars) 0 ≡ 0 = refl in
-    omega (arith, c, z, count_cons k v vars)
-before_all k (v ∷ vars) (suc p) l e =
-    let r = before_all k vars p (omega (arith, l)) e in
-    let z : count_before k (v ∷ vars) (suc p) ≡ cond (same_kind k v.kind) 1 0 + count_before k vars p = count_cons k v (take p vars) in
-    omega (arith, r, z, count_cons k v vars)
+before_all k vars p l e = before_less k vars p l e
 
 -- ---- instructions
 
@@ -162,49 +120,25 @@ var_is vars xs p i v e q r l = get_or_read vars p v l (e ∙ ap₂ (λ (ys : Lis
 
 -- ---- the places of a kind, one after the other
 
-range_more : (a n : ℕ) → range_with_len a (n + 1) ≡ range_with_len a n ++ (a + n) ∷ []
-range_more a zero = ap (λ k. k ∷ []) (let e : a ≡ a + 0 = omega arith in e)
-range_more a (suc n) =
-    ap (range_with_len a) (let e : suc n + 1 ≡ suc (n + 1) = omega arith in e)
-    ∙ ap (λ (xs : List ℕ). a ∷ xs) (range_more (a + 1) n ∙ ap (λ k. range_with_len (a + 1) n ++ k ∷ []) (let e : a + 1 + n ≡ a + suc n = omega arith in e))
-
 abbrev pub places_before : VarKind → List Var → ℕ → List ℕ
 places_before k vars n = filter (λ p. is_of k (var_at vars p)) (range_with_len 0 n)
 
-places_step : (k : VarKind) (vars : List Var) (n : ℕ) → places_before k vars (n + 1) ≡ places_before k vars n ++ (if is_of k (var_at vars n) then n ∷ [] else [])
-places_step k vars n =
-    ap (filter (λ p. is_of k (var_at vars p))) (range_more 0 n ∙ ap (λ m. range_with_len 0 n ++ m ∷ []) (let e : 0 + n ≡ n = omega arith in e))
-    ∙ filter-append (λ p. is_of k (var_at vars p)) (range_with_len 0 n) (n ∷ [])
-
 -- one place more, and one that isn't of the kind
 pub place_more : (k : VarKind) (vars : List Var) (n : ℕ) (g : ℕ → ℕ) (xs : List ℕ) → is_of k (var_at vars n) ≡ true → xs ≡ map g (places_before k vars n) → xs ++ g n ∷ [] ≡ map g (places_before k vars (n + 1))
-place_more k vars n g xs t e =
-    ap (λ (ys : List ℕ). ys ++ g n ∷ []) e ∙ sym (map-append g (places_before k vars n) (n ∷ []))
-    ∙ ap (map g) (sym (places_step k vars n ∙ ap (λ b. places_before k vars n ++ (if b then n ∷ [] else [])) t))
+unfolding lower.places_before
+place_more k vars n g xs t e = ap (λ (ys : List ℕ). ys ++ g n ∷ []) e ∙ sym (map-append g (places_before k vars n) (n ∷ [])) ∙ ap (map g) (sym (lower.places_yes k vars n t))
 
 pub place_same : (k : VarKind) (vars : List Var) (n : ℕ) → is_of k (var_at vars n) ≡ false → places_before k vars n ≡ places_before k vars (n + 1)
-place_same k vars n t = sym (places_step k vars n ∙ ap (λ b. places_before k vars n ++ (if b then n ∷ [] else [])) t ∙ append-nil (places_before k vars n))
+unfolding lower.places_before
+place_same k vars n t = sym (lower.places_no k vars n t)
 
-pub places_count : (k : VarKind) (vars : List Var) (n : ℕ) → n ≤ length vars → length (places_before k vars n) ≡ count_before k vars n
-places_count k vars zero l = refl
-places_count k vars (suc n) l =
-    let r : length (places_before k vars n) ≡ count_before k vars n = places_count k vars n (omega (arith, l)) in
-    let s : length (places_before k vars (n + 1)) ≡ length (places_before k vars n) + length (if is_of k (var_at vars n) then n ∷ [] else []) = ap length (places_step k vars n) ∙ length-append (places_before k vars n) _ in
-    let at : suc n ≡ n + 1 = omega arith in
-    ap (λ m. length (places_before k vars m)) at ∙ s ∙ go (is_of k (var_at vars n)) refl r ∙ ap (count_before k vars) (sym at)
-  where
-    go : (b : Bool) → is_of k (var_at vars n) ≡ b → length (places_before k vars n) ≡ count_before k vars n → length (places_before k vars n) + length (if is_of k (var_at vars n) then n ∷ [] else []) ≡ count_before k vars (n + 1)
-    go true e r =
-        let m : count_before k vars (n + 1) ≡ count_before k vars n + 1 = count_by_more_yes (is_of k) vars n no_var (omega (arith, l)) e in
-        ap (λ b. length (places_before k vars n) + length (if b then n ∷ [] else [])) e ∙ omega (arith, m, r)
-    go false e r =
-        let m : count_before k vars (n + 1) ≡ count_before k vars n = count_by_more_no (is_of k) vars n no_var (omega (arith, l)) e in
-        ap (λ b. length (places_before k vars n) + length (if b then n ∷ [] else [])) e ∙ omega (arith, m, r)
+places_room : (k : VarKind) (vars : List Var) (n : ℕ) → n < length vars → is_of k (var_at vars n) ≡ true → length (places_before k vars n) < count_of k vars
+unfolding lower.places_before
+places_room k vars n l e = lower.places_room k vars n l e
 
 -- there is room for one more sum
 pub room_for_sum : (f : FunctionValue) → is_function f ≡ true → (p : ℕ) → p < length f.vars → is_of kind.Accumulator (var_at f.vars p) ≡ true → length (places_before kind.Accumulator f.vars p) < 4
 room_for_sum f h p l e =
-    let c = places_count kind.Accumulator f.vars p (omega (arith, l)) in
-    let b = before_all kind.Accumulator f.vars p l e in
+    let r = places_room kind.Accumulator f.vars p l e in
     let m = (limits_kept f h).accumulators in
-    omega (arith, c, b, m)
+    omega (arith, r, m)

@@ -7,6 +7,7 @@ ghost use Rattle.orc_program.specs.Meaning as meaning;
 ghost use Rattle.orc_emul.specs.State.{HasCounts};
 
 use crate::state::Spot;
+use orc_program::variables::count_of;
 use orc_program::{Call, Function, Place, Var, VarKind};
 
 /// The variable at a place.
@@ -19,19 +20,12 @@ pub fn variable(f: &Function, p: u16) -> &Var
     &f.vars.as_slice()[usize::from(p)]
 }
 
-/// Whether two kinds are the same.
-pub fn same_kind(a: VarKind, b: VarKind) -> bool
-    ensures { result ≡ program.same_kind a b }
-{
-    a == b
-}
-
 /// How many variables of a kind there are.
 pub fn count(vars: &[Var], kind: VarKind) -> usize
     ensures value { result ≡ program.count_of kind vars.now }
     ensures few { result ≤ length vars.now }
 {
-    vars.iter().filter(|v| same_kind(kind, v.kind)).count()
+    count_of(vars, kind)
 }
 
 /// How many variables of a kind stand before a place.

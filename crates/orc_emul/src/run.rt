@@ -8,10 +8,10 @@ ghost use Rattle.orc_bits.specs.Parts.{memory_of, layout};
 ghost use Rattle.orc_emul.specs.State.{HasCounts, state_of, after, gap};
 
 use crate::act::act;
-use crate::places::same_kind;
 use crate::state::{MOST_VARS, Spot, Unmapped, Values};
 use crate::store::Store;
 use arrayvec::ArrayVec;
+use orc_program::variables::same_kind;
 use orc_program::{Call, Function, VarKind};
 
 /// Does the instructions, in order, on one element.

@@ -13,14 +13,14 @@ use Rattle.x86_ins.specs.declared.ins.Ins.TheVariants.{Vec, Shuffle, Store, VecS
 use Rattle.x86_ins.specs.Vectors.{after, all_simd}
 use Rattle.x86_ins.specs.Spelling.{IsIns}
 use Rattle.x86_ins.specs.Way.{Each}
-use Rattle.x86_ins.specs.Machine.{Core, Bounded, with_gpr, with_xmm, with_memory, address, access, save, work}
+use Rattle.x86_ins.specs.Machine.{Core, Bounded, with_gpr, with_xmm, with_lanes, with_memory, address, access, save, work}
 use Rattle.x86_ins.proofs.Bounds.{work_bounded}
 use Rattle.x86_flow.specs.Moves.{away}
 use Rattle.x86_flow.specs.Does.{Line}
 use Rattle.x86_flow.proofs.Moves.{line_append}
 use Rattle.x86_flow.proofs.Words.{store_word, load_word}
 use Rattle.x86_flow.proofs.Frame.{word_same}
-use Rattle.x86_flow.proofs.Plans.{rule_line, with_lanes}
+use Rattle.x86_flow.proofs.Plans.{rule_line}
 use Rattle.x86_flow.proofs.Spelled.{fits_up}
 use Rattle.orc_program.specs.declared.program.Operand.{Operand}
 use Rattle.orc_program.specs.declared.program.Operand.TheVariants as operand

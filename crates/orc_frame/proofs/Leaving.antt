@@ -12,13 +12,13 @@ use Rattle.x86_ins.specs.declared.ins.AluOp.TheVariants.{Add, And}
 use Rattle.x86_ins.specs.declared.ins.Ins.{Ins}
 use Rattle.x86_ins.specs.declared.ins.Ins.TheVariants.{VecLoad, ToGpr, AluImm, Store, Load}
 use Rattle.x86_ins.specs.Vectors.{after, all_simd}
-use Rattle.x86_ins.specs.Machine.{Core, with_gpr, with_xmm, with_memory, address, access, alu_core, alu_result, work}
+use Rattle.x86_ins.specs.Machine.{Core, with_gpr, with_xmm, with_lanes, with_memory, address, access, alu_core, alu_result, work}
 use Rattle.x86_flow.specs.Moves.{away, loads_code}
 use Rattle.x86_flow.specs.Does.{Line}
 use Rattle.x86_flow.proofs.Moves.{line_append}
 use Rattle.x86_flow.proofs.Words.{Loads, store_word, loads_line}
 use Rattle.x86_flow.proofs.Frame.{word_value, word_same}
-use Rattle.x86_flow.proofs.Plans.{rule_line, with_lanes}
+use Rattle.x86_flow.proofs.Plans.{rule_line}
 use Rattle.sse_acc.specs.Sums.{sum_of}
 use Rattle.sse_acc.proofs.Totals.{sum_below-same}
 use Rattle.orc_frame.specs.declared.frame.Layout.{Layout}

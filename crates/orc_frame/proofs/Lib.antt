@@ -7,9 +7,9 @@ pub mod Entering
 pub mod Fills
 pub mod Counted
 pub mod Facts
-pub mod Found
 pub mod Grown
 pub mod Reach
 pub mod Reduced
 pub mod Writes
 pub mod Addresses
+pub mod FieldsOf

@@ -20,7 +20,7 @@ use Rattle.orc_program.specs.Meaning.{State, param_at, read_var, read_source}
 use Rattle.orc_frame.specs.Layout.{index_in}
 use Rattle.orc_frame.specs.Frame.{number_of}
 use Rattle.orc_frame.proofs.Facts.{below}
-use Rattle.orc_frame.proofs.Places.{count_taken, before_less}
+use Rattle.orc_program.proofs.Places.{count_taken, before_less}
 
 count_cons : (t : ℕ → Bool) (x : ℕ) (xs : List ℕ) → count_by t (x ∷ xs) ≡ cond (t x) 1 0 + count_by t xs
 count_cons t x xs = sum_by-cons (λ x. cond (t x) 1 0) x xs

@@ -5,11 +5,13 @@
 //! RSP. `specs/Frame` says what both do from every core, and `specs/GoodCall` what a good call of a function's code is.
 #![tactic(auto)]
 
+mod displacements;
 mod frame;
 mod lists;
 mod pushes;
 mod slots;
 
+pub use displacements::{pattern_at, sum_at};
 pub use frame::Layout;
 pub use lists::{epilogue, prologue};
 pub use slots::layout;

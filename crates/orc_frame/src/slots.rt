@@ -1,11 +1,12 @@
 //! From a function to the slots of its numbers.
 
 ghost use Rattle.std.specs.Prelude.{◌≡◌, ◌<◌, ◌≤◌, ◌^◌, length, pos};
-ghost use Rattle.orc_program.specs.Program.{same_kind, count_of, places_of, var_at};
+ghost use Rattle.orc_program.specs.Program.{count_of, places_of, var_at};
 ghost use Rattle.orc_frame.specs.Layout.{layout_of, acc_sizes_of, displacements, pattern_slot, sum_slot, slots_of, LieApart};
 
 use crate::frame::Layout;
 use arrayvec::ArrayVec;
+use orc_program::variables::same_kind;
 use orc_program::{Function, Var, VarKind, patterns};
 
 /// Gives each number of a function its slot in the frame.
@@ -30,14 +31,8 @@ pub fn layout(f: &Function) -> Layout
     }
 }
 
-fn is_same_kind(a: VarKind, b: VarKind) -> bool
-    ensures { result ≡ same_kind a b }
-{
-    a == b
-}
-
 /// The places of the parameters.
-#[tactic(auto, using(crate::proofs::Places::places_room, crate::proofs::Places::places_first, crate::proofs::Places::places_done, crate::proofs::Places::places_yes, crate::proofs::Places::places_no))]
+#[tactic(auto, using(orc_program::proofs::Places::places_room, orc_program::proofs::Places::places_first, orc_program::proofs::Places::places_done, orc_program::proofs::Places::places_yes, orc_program::proofs::Places::places_no))]
 fn params(vars: &[Var]) -> ArrayVec<u16, 8>
     requires few { count_of VarKind.Param vars.now ≤ 8 }
     requires short { length vars.now < 2 ^ 16 }
@@ -45,7 +40,7 @@ fn params(vars: &[Var]) -> ArrayVec<u16, 8>
 {
     let mut places = ArrayVec::new();
     for place in 0..vars.len() {
-        if is_same_kind(VarKind::Param, vars[place].kind) {
+        if same_kind(VarKind::Param, vars[place].kind) {
             places.push(place as u16);
         }
     }
@@ -60,7 +55,7 @@ fn acc_sizes(vars: &[Var]) -> ArrayVec<u8, 4>
 {
     let mut sizes = ArrayVec::new();
     for place in 0..vars.len() {
-        if is_same_kind(VarKind::Accumulator, vars[place].kind) {
+        if same_kind(VarKind::Accumulator, vars[place].kind) {
             sizes.push(vars[place].size);
         }
     }

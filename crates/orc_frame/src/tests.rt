@@ -30,30 +30,7 @@ fn plain_var(alloc: Global, kind: VarKind, size: u8, name: &[u8]) -> Option<Var>
     })
 }
 
-/// Adds an instruction of two sources, which has to pass.
-fn add_passing(
-    rt: &impl Abort,
-    f: &mut Function,
-    op: Op,
-    to: Operand,
-    sources: &[Operand],
-) -> Result<(), AllocError> {
-    let mut insn = Insn {
-        op,
-        prefix: 1,
-        results: ArrayVec::new(),
-        sources: ArrayVec::new(),
-        line: 1,
-    };
-    let _ = insn.results.try_push(to);
-    let _ = insn.sources.try_extend_from_slice(sources);
-    assert!(rt; is_shaped(f, &insn));
-    let fault = check_insn(f, &insn);
-    assert!(rt; fault.is_ok());
-    add_insn(f, insn)
-}
-
-/// A function that adds a parameter and a number to words, and sums them up.
+/// A function with a sum that stores a parameter plus a number.
 fn sample(rt: &impl Abort, alloc: Global) -> Result<Function, AllocError> {
     let name = Name::new(b"f").expect(rt, "a name");
     let mut f = new_function(alloc, name);
@@ -67,10 +44,21 @@ fn sample(rt: &impl Abort, alloc: Global) -> Result<Function, AllocError> {
         assert!(rt; count_of(&f, var.kind) < most_of(var.kind));
         declare(&mut f, var)?;
     }
-    let dest = Operand::Var(0);
-    add_passing(rt, &mut f, Op::Addw, dest, &[dest, Operand::Var(2)])?;
-    add_passing(rt, &mut f, Op::Addw, dest, &[dest, Operand::Number(7)])?;
-    add_passing(rt, &mut f, Op::Accw, Operand::Var(1), &[dest])?;
+    let mut insn = Insn {
+        op: Op::Addw,
+        prefix: 1,
+        results: ArrayVec::new(),
+        sources: ArrayVec::new(),
+        line: 1,
+    };
+    let _ = insn.results.try_push(Operand::Var(0));
+    let _ = insn
+        .sources
+        .try_extend_from_slice(&[Operand::Var(2), Operand::Number(7)]);
+    assert!(rt; is_shaped(&f, &insn));
+    let fault = check_insn(&f, &insn);
+    assert!(rt; fault.is_ok());
+    add_insn(&mut f, insn)?;
     Ok(f)
 }
 

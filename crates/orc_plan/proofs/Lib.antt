@@ -6,5 +6,4 @@ pub mod Last
 pub mod Numbered
 pub mod Ranges
 pub mod SameNeed
-pub mod FoundPatterns
 pub mod Standing

@@ -1,6 +1,6 @@
 -- The steps of a function: each write of a temp makes a new value, and a read of a temp reads its last one.
-use Rattle.std.specs.Prelude.{ℕ, suc, ◌+◌, ◌-◌, Bool, false, not, ◌&&◌, ◌==◌, nat_lt, List, [], ◌∷◌, ◌++◌, if◌then◌else◌, length, map, filter, slice_index}
-use Rattle.std.specs.List.{flat_map, position_or_len, range_with_len}
+use Rattle.std.specs.Prelude.{ℕ, suc, ◌+◌, ◌-◌, Bool, not, ◌&&◌, ◌==◌, nat_lt, List, [], ◌∷◌, ◌++◌, if◌then◌else◌, length, map}
+use Rattle.std.specs.List.{flat_map, range_with_len}
 use Rattle.orc_ops.specs.declared.opcode.Op.{Op}
 use Rattle.orc_program.specs.declared.program.Var.{Var}
 use Rattle.orc_program.specs.declared.program.VarKind.{VarKind}
@@ -9,10 +9,10 @@ use Rattle.orc_program.specs.declared.program.Operand.{Operand}
 use Rattle.orc_program.specs.declared.program.Operand.TheVariants as operand
 use Rattle.orc_program.specs.declared.program.Insn.{Insn}
 use Rattle.orc_program.specs.declared.program.Pattern.{Pattern}
-use Rattle.orc_program.specs.Program.{FunctionValue, is_of, var_at, count_before}
-use Rattle.orc_program.specs.Checks.{same_pattern, way_of, patterns_of}
+use Rattle.orc_program.specs.Program.{FunctionValue, is_of, is_temp, var_at, count_of, count_before}
+use Rattle.orc_program.specs.Checks.{pattern_number, way_of, patterns_of}
 use Rattle.orc_program.specs.Need.{is_in, made_by}
-use Rattle.orc_program.specs.Slots.{slot_of}
+use Rattle.orc_program.specs.Slots.{slot_of, size_of_slot}
 use Rattle.orc_plan.specs.declared.steps.Step.{Step}
 use Rattle.orc_plan.specs.declared.steps.Item.{Item}
 use Rattle.orc_plan.specs.declared.steps.Item.TheVariants as item
@@ -39,11 +39,6 @@ abbrev pub result_item : List Var → Operand → Item
 result_item vars (operand.Var p) = if is_of kind.Accumulator (var_at vars p) then acc_item vars p else item.Array (slot_of vars p)
 result_item vars (operand.Number n) = item.Pattern 0
 
--- whether an operand is a temp
-abbrev pub is_temp : List Var → Operand → Bool
-is_temp vars (operand.Var p) = is_of kind.Temp (var_at vars p)
-is_temp vars (operand.Number n) = false
-
 -- results after n values were made: each temp is a new value, the first result's before the second's
 abbrev pub result_items : List Var → ℕ → List Operand → List Item
 result_items vars n [] = []
@@ -51,7 +46,7 @@ result_items vars n (o ∷ os) = if is_temp vars o then item.Value n ∷ result_
 
 -- a number used in this way, by the place of its pattern among the function's
 abbrev pub pattern_item : List Pattern → Operand → ℕ → Item
-pattern_item known number way = item.Pattern (position_or_len (same_pattern (record { number = number; way = way })) known)
+pattern_item known number way = item.Pattern (pattern_number known (record { number = number; way = way }))
 
 -- a source that is the variable at place p, of this kind
 abbrev pub var_item : List Var → List Pattern → List ℕ → ℕ → ℕ → VarKind → Item
@@ -95,13 +90,13 @@ steps_of f = steps_after f.vars (patterns_of f.vars f.insns) [] f.insns
 
 -- ---- arrays
 
--- the sizes of the variables of a kind, in order
-abbrev pub sizes_of_kind : VarKind → List Var → List ℕ
-sizes_of_kind k vars = map (λ v. v.size) (filter (is_of k) vars)
+-- an array has the slot: dests have the slots 0 to 3, and sources the slots 4 to 11
+abbrev pub is_used : List Var → ℕ → Bool
+is_used vars slot = if nat_lt slot 4 then nat_lt slot (count_of kind.Dest vars) else nat_lt (slot - 4) (count_of kind.Source vars)
 
--- the element size of the array in a slot: dests have the slots 0 to 3, and sources the slots 4 to 11; 0 in a slot that isn't used
+-- the element size of the array in a slot; 0 in a slot that isn't used
 abbrev pub size_in_slot : List Var → ℕ → ℕ
-size_in_slot vars slot = if nat_lt slot 4 then slice_index (sizes_of_kind kind.Dest vars) slot else slice_index (sizes_of_kind kind.Source vars) (slot - 4)
+size_in_slot vars slot = if is_used vars slot then size_of_slot vars slot else 0
 
 -- the element sizes of all slots
 unfoldable pub sizes_of : FunctionValue → List ℕ

@@ -4,8 +4,8 @@ ghost use Rattle.std.specs.Prelude.{◌≡◌, ◌*◌, ◌≤◌, length};
 ghost use Rattle.std.specs.List.{sum_by};
 ghost use Rattle.orc_program.specs.Need.{lanes, cost, source_cost, result_cost, insn_cost};
 
-use crate::variables::kind_at;
 use orc_ops::info;
+use orc_program::variables::kind_at;
 use orc_program::{Function, Insn, Operand, Var, VarKind};
 
 /// The elements that are done at once: one.

@@ -23,7 +23,7 @@ pub use counting::{need, widest_need};
 pub use figures::{cost, lanes};
 pub use laws::places_stand;
 pub use lowering::lower;
-pub use placing::place;
+pub use placing::{place, place_of};
 pub use steps::{Core, Item, Placed, Pressure, Step};
 
 #[cfg(test)]

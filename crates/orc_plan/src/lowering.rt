@@ -9,11 +9,12 @@ ghost use Rattle.orc_plan.specs.Need.{need_in};
 ghost use Rattle.orc_plan.specs.Lowered.{result_items, source_items, step_of, steps_after, steps_of, sizes_of};
 
 use crate::figures::lanes;
-use crate::items::{is_temp, result_item, source_item, way_of};
+use crate::items::{result_item, source_item};
 use crate::steps::{Core, Item, Step};
-use crate::variables::{is_same_kind, kind_at, sizes};
+use crate::variables::sizes;
 use arrayvec::ArrayVec;
 use orc_ops::Op;
+use orc_program::variables::{is_temp, kind_at, same_kind, way_of};
 use orc_program::{Function, Insn, Operand, Pattern, Var, VarKind, patterns};
 
 /// The temps of all values, by their numbers.
@@ -119,7 +120,7 @@ fn add_temps(vars: &[Var], operands: &[Operand], temps: &mut Temps)
         return;
     };
     if let Operand::Var(place) = operand {
-        if is_same_kind(VarKind::Temp, kind_at(vars, *place)) {
+        if same_kind(VarKind::Temp, kind_at(vars, *place)) {
             temps.push(*place);
         }
     }

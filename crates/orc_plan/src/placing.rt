@@ -32,8 +32,8 @@ fn is_taken(held: &[u16], at: &[u8], place: u8) -> bool
     place_of(at, *value) == place || is_taken(rest, at, place)
 }
 
-/// The place of a value, 0 of one that has none.
-fn place_of(at: &[u8], value: u16) -> u8
+/// The place of a value, by the places of all values; 0 of one that has none.
+pub fn place_of(at: &[u8], value: u16) -> u8
     ensures { result ≡ slice_index at.now value }
 {
     match at.get(usize::from(value)) {

@@ -13,36 +13,39 @@ use sqlite_items::Items;
 use std::alloc::{AllocError, Global};
 use std::process::Abort;
 
-/// A variable of one byte with no words after its name.
-fn byte_var(alloc: Global, kind: VarKind, name: &[u8]) -> Option<Var>
+/// A variable with no words after its name.
+fn plain_var(alloc: Global, kind: VarKind, size: u8, name: &[u8]) -> Option<Var>
     ensures { IfSome result (λ v. is_var v ≡ true) }
 {
     let name = Name::new(name)?;
     let _name = name.as_slice();
-    if !is_size_for(kind, 1) {
+    if !is_size_for(kind, size) {
         return None;
     }
     Some(Var {
         kind,
-        size: 1,
+        size,
         name,
         number: 0,
         words: Items::new(alloc),
     })
 }
 
-/// Declares a variable of one byte.
-fn declare_byte(
+/// A function with variables of these kinds and sizes.
+fn function_of(
     rt: &impl Abort,
     alloc: Global,
-    f: &mut Function,
-    kind: VarKind,
-    name: &[u8],
-) -> Result<(), AllocError> {
-    let var = byte_var(alloc, kind, name).expect(rt, "a right variable");
-    assert!(rt; find_var(f, var.name.as_slice()).is_none());
-    assert!(rt; count_of(f, var.kind) < most_of(var.kind));
-    declare(f, var)
+    vars: &[(VarKind, u8)],
+) -> Result<Function, AllocError> {
+    let mut f = new_function(alloc, Name::new(b"p").expect(rt, "a name"));
+    for (declared, letter) in vars.iter().zip(b"abcdefghijklmnop".iter()) {
+        let (kind, size) = *declared;
+        let var = plain_var(alloc, kind, size, &[*letter]).expect(rt, "a right variable");
+        assert!(rt; find_var(&f, var.name.as_slice()).is_none());
+        assert!(rt; count_of(&f, var.kind) < most_of(var.kind));
+        declare(&mut f, var)?;
+    }
+    Ok(f)
 }
 
 /// Adds an instruction, which has to pass.
@@ -69,39 +72,51 @@ fn add_passing(
     add_insn(f, insn)
 }
 
-/// The steps of a function that loads so many temps, adds them all up and stores the sum. Its first load stands in line 14.
-fn sum_of_temps(rt: &impl Abort, alloc: Global, temps: u8) -> Result<Core, AllocError> {
-    let name = Name::new(b"p").expect(rt, "a name");
-    let mut f = new_function(alloc, name);
-    declare_byte(rt, alloc, &mut f, VarKind::Dest, b"d1")?;
-    declare_byte(rt, alloc, &mut f, VarKind::Source, b"s1")?;
-    for digit in b"0123456789".iter().take(usize::from(temps)) {
-        declare_byte(rt, alloc, &mut f, VarKind::Temp, &[b't', *digit])?;
+#[test]
+fn the_eleventh_value_finds_no_place(rt: HostRuntime) -> Result<(), AllocError> {
+    let mut vars = [(VarKind::Temp, 1); 12];
+    vars[0] = (VarKind::Dest, 1);
+    vars[1] = (VarKind::Source, 1);
+    let mut f = function_of(&rt, rt.alloc(), &vars)?;
+    for temp in 2..12 {
+        add_passing(
+            &rt,
+            &mut f,
+            Op::Loadb,
+            u32::from(temp),
+            Place(temp),
+            &[Place(1)],
+        )?;
     }
-    let loads = u32::from(temps);
-    for temp in 0..u16::from(temps) {
-        let line = 14 + u32::from(temp);
-        add_passing(rt, &mut f, Op::Loadb, line, Place(2 + temp), &[Place(1)])?;
+    // the addition makes an eleventh value
+    add_passing(&rt, &mut f, Op::Addb, 24, Place(2), &[Place(2), Place(3)])?;
+    for temp in 2..12 {
+        add_passing(&rt, &mut f, Op::Copyb, 25, Place(0), &[Place(temp)])?;
     }
-    for temp in 1..u16::from(temps) {
-        let line = 13 + loads + u32::from(temp);
-        let sources = [Place(2), Place(2 + temp)];
-        add_passing(rt, &mut f, Op::Addb, line, Place(2), &sources)?;
-    }
-    add_passing(rt, &mut f, Op::Copyb, 13 + 2 * loads, Place(0), &[Place(2)])?;
-    Ok(lower(&f))
+    let core = lower(&f);
+    assert_eq!(rt; widest_need(&core), 11);
+    assert_eq!(rt; place(&core).err(), Some(Pressure { line: 24, need: 11 }));
+    Ok(())
 }
 
 #[test]
-fn the_eleventh_value_finds_no_place(rt: HostRuntime) -> Result<(), AllocError> {
-    for (temps, widest, refusal) in [
-        // ten temps, of which the first addition makes a new value
-        (10, 11, Some(Pressure { line: 24, need: 11 })),
-        (9, 10, None),
-    ] {
-        let core = sum_of_temps(&rt, rt.alloc(), temps)?;
-        assert_eq!(rt; widest_need(&core), widest);
-        assert_eq!(rt; place(&core).err(), refusal);
-    }
+fn a_function_has_its_figures(rt: HostRuntime) -> Result<(), AllocError> {
+    let vars = [(VarKind::Dest, 2), (VarKind::Param, 2), (VarKind::Temp, 4)];
+    let mut f = function_of(&rt, rt.alloc(), &vars)?;
+    add_passing(&rt, &mut f, Op::Mulswl, 5, Place(2), &[Place(0), Place(1)])?;
+    add_passing(
+        &rt,
+        &mut f,
+        Op::Shrsl,
+        6,
+        Place(2),
+        &[Place(2), Operand::Number(11)],
+    )?;
+    add_passing(&rt, &mut f, Op::Convlw, 7, Place(0), &[Place(2)])?;
+    assert_eq!(rt; cost(&f), 30);
+    assert_eq!(rt; lanes(&f), 1);
+    let core = lower(&f);
+    assert_eq!(rt; widest_need(&core), 2);
+    assert!(rt; place(&core).is_ok());
     Ok(())
 }

@@ -12,3 +12,6 @@ pub mod FirstUses
 pub mod Alike
 pub mod Progress
 pub mod Cutting
+pub mod Places
+pub mod Nth
+pub mod KnownPatterns

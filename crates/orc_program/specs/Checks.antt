@@ -1,6 +1,6 @@
 -- What is wrong with an instruction after those before it.
 use Rattle.std.specs.Prelude.{◌≡◌, ◌<◌, Result, MatchResult, ℕ, ◌+◌, ◌*◌, Bool, true, false, not, ◌&&◌, ◌||◌, ◌==◌, nat_lt, nat_le, List, [], ◌∷◌, ◌++◌, Option, Some, None, if◌then◌else◌, length, fold}
-use Rattle.std.specs.List.{list_any, cons_option}
+use Rattle.std.specs.List.{list_any, cons_option, position_or_len}
 use Rattle.orc_ops.specs.declared.opcode.Op.{Op}
 use Rattle.orc_ops.specs.declared.opcode.Kind.{Kind}
 use Rattle.orc_ops.specs.declared.opcode.Kind.TheVariants as ops
@@ -132,6 +132,10 @@ same_operand a b = false
 -- the same number, used in the same way
 abbrev pub same_pattern : Pattern → Pattern → Bool
 same_pattern a b = same_operand a.number b.number && a.way == b.way
+
+-- the place of a pattern among patterns, and their number where it isn't there
+abbrev pub pattern_number : List Pattern → Pattern → ℕ
+pattern_number known p = position_or_len (same_pattern p) known
 
 -- the number that an operand stands for: a parameter is its own, and a constant is its number
 abbrev pub number_in : List Var → Operand → Option Operand

@@ -96,6 +96,10 @@ abbrev pub operand_is : VarKind → List Var → Operand → Bool
 operand_is k vars (operand.Var p) = is_of k (var_at vars p)
 operand_is k vars (operand.Number n) = false
 
+-- an operand is a temp
+abbrev pub is_temp : List Var → Operand → Bool
+is_temp vars o = operand_is kind.Temp vars o
+
 -- whether an operand is the variable at a place
 abbrev pub is_place : ℕ → Operand → Bool
 is_place p (operand.Var q) = p == q

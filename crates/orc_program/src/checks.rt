@@ -9,11 +9,10 @@ ghost use Rattle.orc_program.specs.Checks.{check, is_bad_prefix, result_kind_fau
 ghost use Rattle.orc_program.specs.Kept.{is_shaped};
 
 use crate::fault::Fault;
-use crate::operands::{
-    is_count, is_scalar, kind_at, operand_kind, result_size, size_at, source_size,
-};
+use crate::operands::{is_count, is_scalar, result_size, source_size};
 use crate::program::{Function, Insn, Operand, Var, VarKind};
 use crate::uses::{add_patterns, patterns};
+use crate::variables::{kind_at, operand_kind, size_at};
 use orc_ops::{Kind, Op, kind_of};
 
 /// The greatest number of instructions of a function.

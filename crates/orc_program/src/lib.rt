@@ -4,7 +4,8 @@
 //! [`set_backup`] and [`add_insn`] make it grow. What these need can be asked by [`find_var`], [`count_of`] with [`most_of`],
 //! [`is_size_for`], [`is_shaped`] and [`check_insn`]; [`is_bad_prefix`], [`check_result`], [`check_source`] and [`is_too_many`] are the
 //! parts of [`check_insn`]. A [`Program`] is made by [`new_program`], [`set_init`] and [`add_function`].
-//! [`patterns`] lists the numbers that a function uses.
+//! [`patterns`] lists the numbers that a function uses. [`variables`] has what stands at a place of a function's list, slots of arrays, and
+//! what operands stand for.
 //!
 //! `specs/` defines the faults of instructions (`Checks`), what the types keep (`Kept`), what a program does on a memory (`Meaning`), good
 //! arrays (`Good`), and need and steps (`Need`). The laws of `Laws` are proved as contracts: [`one_more`], [`ends_where_good`],
@@ -22,6 +23,7 @@ mod operands;
 mod program;
 mod rect;
 mod uses;
+pub mod variables;
 
 pub use build::{
     add_function, add_insn, declare, new_function, new_program, set_backup, set_init, set_m, set_n,

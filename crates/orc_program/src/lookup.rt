@@ -3,10 +3,11 @@
 ghost use Rattle.std.specs.Prelude.{◌≡◌, ◌<◌, ◌+◌, ◌^◌, true, length, map, count_by};
 ghost use Rattle.std.specs.List.{list_any};
 ghost use Rattle.std.specs.Str.{bytes_eq};
-ghost use Rattle.orc_program.specs.Program.{same_kind, is_of, count_of, place_from, place_of};
+ghost use Rattle.orc_program.specs.Program.{count_of, place_from, place_of};
 ghost use Rattle.orc_program.specs.Kept.{is_function, most_of, is_size_for};
 
 use crate::program::{Function, Program, Var, VarKind};
+use crate::variables;
 
 fn is_same(a: &[u8], b: &[u8]) -> bool
     ensures { result ≡ bytes_eq a.now b.now }
@@ -35,21 +36,11 @@ pub fn find_var(f: &Function, name: &[u8]) -> Option<u16>
     find_from(f.vars.as_slice(), name, 0)
 }
 
-fn is_same_kind(a: VarKind, b: VarKind) -> bool
-    ensures { result ≡ same_kind a b }
-{
-    a == b
-}
-
 /// How many variables of a kind the function has.
 pub fn count_of(f: &Function, kind: VarKind) -> usize
     ensures { result ≡ count_of kind f.now.vars }
 {
-    f.vars
-        .as_slice()
-        .iter()
-        .filter(|var| is_same_kind(kind, var.kind))
-        .count()
+    variables::count_of(f.vars.as_slice(), kind)
 }
 
 /// The number of the function's instructions. The contract also says that the function keeps what its type keeps.

@@ -1,9 +1,8 @@
-//! Sizes of an opcode's operands, and what stands at a place of a function's list of variables.
+//! Sizes of an opcode's operands, and instructions that can be checked.
 
 ghost use Rattle.std.specs.Prelude.{◌≡◌, slice_index};
 ghost use Rattle.std.specs.List.{list_all};
 ghost use Rattle.orc_ops.specs.Table.{size_of_result, size_of_source};
-ghost use Rattle.orc_program.specs.Program.{var_at, operand_kind};
 ghost use Rattle.orc_program.specs.Checks.{is_count, is_scalar};
 ghost use Rattle.orc_program.specs.Kept.{count_sizes, result_count, source_count, is_in_range, is_shaped};
 
@@ -64,46 +63,6 @@ pub fn source_count(op: Op) -> usize
     ensures { result ≡ source_count op }
 {
     count_sizes(source_size(op, 0), source_size(op, 1))
-}
-
-/// The kind of the variable at a place, a constant's past the end.
-pub(crate) fn kind_at(vars: &[Var], place: u16) -> VarKind
-    ensures { result ≡ (var_at vars.now place).kind }
-{
-    match vars.get(usize::from(place)) {
-        Some(var) => var.kind,
-        None => VarKind::Const,
-    }
-}
-
-/// The size of the variable at a place, 0 past the end.
-pub(crate) fn size_at(vars: &[Var], place: u16) -> u8
-    ensures { result ≡ (var_at vars.now place).size }
-{
-    match vars.get(usize::from(place)) {
-        Some(var) => var.size,
-        None => 0,
-    }
-}
-
-/// The number of the variable at a place, 0 past the end.
-pub(crate) fn number_at(vars: &[Var], place: u16) -> u64
-    ensures { result ≡ (var_at vars.now place).number }
-{
-    match vars.get(usize::from(place)) {
-        Some(var) => var.number,
-        None => 0,
-    }
-}
-
-/// The kind of the variable that an operand is; a number has none.
-pub(crate) fn operand_kind(vars: &[Var], operand: Operand) -> Option<VarKind>
-    ensures { result ≡ operand_kind vars.now operand }
-{
-    match operand {
-        Operand::Var(place) => Some(kind_at(vars, place)),
-        Operand::Number(_) => None,
-    }
 }
 
 /// Whether an operand of this kind is a parameter, a constant or a number.

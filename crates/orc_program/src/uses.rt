@@ -2,41 +2,16 @@
 
 ghost use Rattle.std.specs.Prelude.{◌≡◌, ◌<◌, ◌≤◌, ◌+◌, ◌^◌, fold, length};
 ghost use Rattle.std.specs.List.{list_any};
-ghost use Rattle.orc_program.specs.Checks.{same_operand, same_pattern, number_in, way_of, pattern_with, uses_from, add_pattern, add_patterns, patterns_of, most_patterns, AddsUnlessMany};
+ghost use Rattle.orc_program.specs.Checks.{same_pattern, number_in, way_of, pattern_with, uses_from, add_pattern, add_patterns, patterns_of, most_patterns, AddsUnlessMany};
 
 use crate::fault::Fault;
-use crate::operands::{is_count, kind_at, number_at, source_size};
-use crate::program::{Function, Insn, Operand, Pattern, Var, VarKind};
+use crate::program::{Function, Insn, Operand, Pattern, Var};
+use crate::variables::{number_in, same_pattern, way_of};
 use arrayvec::ArrayVec;
 use orc_ops::Op;
 
 /// Patterns of one function, each once.
 pub type Patterns = ArrayVec<Pattern, 48>;
-
-/// The number that an operand stands for: a parameter is its own, and a constant is its number.
-fn number_in(vars: &[Var], operand: Operand) -> Option<Operand>
-    ensures { result ≡ number_in vars.now operand }
-{
-    match operand {
-        Operand::Number(_) => Some(operand),
-        Operand::Var(place) => match kind_at(vars, place) {
-            VarKind::Param => Some(operand),
-            VarKind::Const => Some(Operand::Number(number_at(vars, place))),
-            VarKind::Source | VarKind::Dest | VarKind::Accumulator | VarKind::Temp => None,
-        },
-    }
-}
-
-/// The way in which the source at a position is used: 0 for a shift count, else its size before the prefix.
-fn way_of(op: Op, position: usize) -> u8
-    ensures { result ≡ way_of op position }
-{
-    if is_count(op, position) {
-        0
-    } else {
-        source_size(op, position)
-    }
-}
 
 /// The pattern that a source uses, if it is a number.
 fn pattern_of(vars: &[Var], op: Op, position: usize, operand: Operand) -> Option<Pattern>
@@ -49,22 +24,10 @@ fn pattern_of(vars: &[Var], op: Op, position: usize, operand: Operand) -> Option
     })
 }
 
-fn is_same_number(a: Operand, b: Operand) -> bool
-    ensures { result ≡ same_operand a b }
-{
-    a == b
-}
-
-fn is_same(a: Pattern, b: &Pattern) -> bool
-    ensures { result ≡ same_pattern a b.now }
-{
-    is_same_number(a.number, b.number) && a.way == b.way
-}
-
 fn is_known(known: &[Pattern], pattern: Pattern) -> bool
     ensures { result ≡ list_any (same_pattern pattern) known.now }
 {
-    known.iter().any(|other| is_same(pattern, other))
+    known.iter().any(|other| same_pattern(pattern, *other))
 }
 
 /// Adds a pattern that isn't known yet; `TooMany` where there is no room for it.

@@ -11,7 +11,7 @@ use Rattle.x86_ins.specs.Renaming.{renamed}
 
 -- ---- equal registers at each number stay so
 
-change_alike : {A : Type 0} (x y : ℕ → A) (i : ℕ) (v w : A) → v ≡ w → ((r : ℕ) → x r ≡ y r) → (r : ℕ) → change x i v r ≡ change y i w r
+pub change_alike : {A : Type 0} (x y : ℕ → A) (i : ℕ) (v w : A) → v ≡ w → ((r : ℕ) → x r ≡ y r) → (r : ℕ) → change x i v r ≡ change y i w r
 change_alike x y i v w e h r = ap₂ (λ a b. if r == i then a else b) e (h r)
 
 simd_same : (i : Simd) (x y : ℕ → List ℕ) → ((r : ℕ) → x r ≡ y r) → (r : ℕ) → simd_effect i x r ≡ simd_effect i y r

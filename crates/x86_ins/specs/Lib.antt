@@ -3,3 +3,4 @@ pub mod Vectors
 pub mod Machine
 pub mod Way
 pub mod Renaming
+pub mod Laws

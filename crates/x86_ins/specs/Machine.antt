@@ -48,12 +48,15 @@ pub record Bounded (c : Core) : Type 0 where
   pub size : (r : ℕ) → r < 16 → length (c.xmm r) ≡ 16
   pub memory : (a v : ℕ) → c.memory a ≡ Some v → v < 256
 
--- one part changed
+-- one part changed: a register, all vector registers, flags or memory
 abbrev pub with_gpr : Core → ℕ → ℕ → Core
 with_gpr c r v = record c { gpr = change c.gpr r v }
 
 abbrev pub with_xmm : Core → ℕ → List ℕ → Core
 with_xmm c r v = record c { xmm = change c.xmm r v }
+
+abbrev pub with_lanes : Core → (ℕ → List ℕ) → Core
+with_lanes c x = record c { xmm = x }
 
 abbrev pub with_flags : Core → Option Flags → Core
 with_flags c f = record c { flags = f }

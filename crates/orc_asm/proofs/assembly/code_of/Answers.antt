@@ -1,7 +1,7 @@
 use Rattle.std.proofs.Common.{ap, subst, sym}
 use Rattle.orc_program.specs.Program.{FunctionValue}
 use Rattle.orc_asm.specs.Code.{IsTurn}
-use Rattle.orc_asm.proofs.Whole.{ok_map, ready, spelled_turn, turn_fits, list_slices, whole_runs}
+use Rattle.orc_asm.proofs.Whole.{ok_map, ready_for, turn_of, spelled_turn, turn_fits, list_slices, whole_runs}
 use Rattle.orc_asm.proofs.assembly.code_of.Goals as goal
 
 pub turn_list-requires-clause-ready : goal.turn_list-requires-clause-ready

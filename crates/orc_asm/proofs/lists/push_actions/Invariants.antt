@@ -1,6 +1,6 @@
-use Rattle.std.proofs.Common.{take}
+use Rattle.std.proofs.Common.{take, slice_index}
 use Rattle.orc_asm.specs.Code.{AddsActions}
 use Rattle.orc_asm.proofs.lists.push_actions.Given as goal
 
-abbrev pub invariant-loop-insn : goal.invariant-loop-insn
-invariant-loop-insn l = AddsActions l.patterns l.vars l.count (take l.insn-index l.insns) l.initial.list l.list
+abbrev pub invariant-loop-step : goal.invariant-loop-step
+invariant-loop-step l = AddsActions l.at (slice_index l.sizes) l.span (take l.step-index l.steps) l.initial.list l.list

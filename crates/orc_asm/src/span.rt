@@ -1,0 +1,12 @@
+//! Which elements a block does.
+
+/// Which elements of a turn a block does: `count` of them from number `first` on, counted from the one that the pointers are at.
+#[derive(Clone, Copy, Debug, PartialEq, Eq)]
+pub struct Span {
+    /// The number of the first element.
+    pub first: usize,
+    /// How many elements there are: 1, or as many as a turn does at once.
+    pub count: usize,
+    /// Whether the first dest's cells are stored at a multiple of 16.
+    pub aligned: bool,
+}
