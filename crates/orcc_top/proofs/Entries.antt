@@ -13,11 +13,12 @@ use Rattle.orc_program.specs.declared.program.VarKind.TheVariants as kind
 use Rattle.orc_program.specs.Program.{FunctionValue, ProgramValue, count_of}
 use Rattle.orc_program.specs.Kept.{is_function, is_program, all_distinct, has_few, most_of}
 use Rattle.orc_program.proofs.Sizes.{both, kept_of}
+use Rattle.orc_plan.specs.declared.steps.Pressure.{Pressure}
 use Rattle.orc_asm.specs.declared.refusal.AsmError.{AsmError}
 use Rattle.orc_asm.specs.declared.refusal.AsmError.TheVariants as refusal
-use Rattle.orc_asm.specs.Function.{first_unbuilt, IsRefusal}
+use Rattle.orc_asm.specs.Function.{first_pressure, IsRefusal}
 use Rattle.orc_image.specs.Spelling as image
-use Rattle.orcc_top.specs.Assembly.{EntryOf, EntriesOf, first_unbuilt_in, TellsUnbuilt}
+use Rattle.orcc_top.specs.Assembly.{EntryOf, EntriesOf, first_pressure_in, TellsPressure}
 
 -- ---- what a function and a program keep
 
@@ -111,30 +112,30 @@ entry_room fs es i lt few all =
 -- what the loop keeps
 pub record Entered (fs : List FunctionValue) (i : ℕ) (es : List image.FunctionValue) : Type 0 where
   pub entries : EntriesOf (take i fs) es
-  pub built : first_unbuilt_in (take i fs) ≡ None
+  pub placed : first_pressure_in (take i fs) ≡ None
 
--- ---- what is not built
+-- ---- what needs too many values
 
-or_none : (a b c d : Option ℕ) → option_or a b ≡ None → (b ≡ None → c ≡ d) → option_or a c ≡ d
+or_none : (a b c d : Option Pressure) → option_or a b ≡ None → (b ≡ None → c ≡ d) → option_or a c ≡ d
 or_none None b c d h k = k h
 or_none (Some x) b c d h k = absurd cc
 
-unbuilt_then : (fs gs : List FunctionValue) → first_unbuilt_in fs ≡ None → first_unbuilt_in (fs ++ gs) ≡ first_unbuilt_in gs
-unbuilt_then [] gs none = refl
-unbuilt_then (f ∷ fs) gs none = or_none (first_unbuilt f) (first_unbuilt_in fs) (first_unbuilt_in (fs ++ gs)) (first_unbuilt_in gs) none (λ n. unbuilt_then fs gs n)
+pressure_then : (fs gs : List FunctionValue) → first_pressure_in fs ≡ None → first_pressure_in (fs ++ gs) ≡ first_pressure_in gs
+pressure_then [] gs none = refl
+pressure_then (f ∷ fs) gs none = or_none (first_pressure f) (first_pressure_in fs) (first_pressure_in (fs ++ gs)) (first_pressure_in gs) none (λ n. pressure_then fs gs n)
 
 -- one function more
 pub entered_more : (fs : List FunctionValue) (i : ℕ) (es grown : List image.FunctionValue) (f : FunctionValue) (e : image.FunctionValue) → i < length fs → f ≡ get_or fs i f → grown ≡ es ++ e ∷ []
-    → EntriesOf (take i fs) es → first_unbuilt_in (take i fs) ≡ None → EntryOf f e → first_unbuilt f ≡ None → Entered fs (i + 1) grown
-entered_more fs i es grown f e lt is more all none one built =
+    → EntriesOf (take i fs) es → first_pressure_in (take i fs) ≡ None → EntryOf f e → first_pressure f ≡ None → Entered fs (i + 1) grown
+entered_more fs i es grown f e lt is more all none one few =
     let front : take (i + 1) fs ≡ take i fs ++ f ∷ [] = take_more fs i f lt ∙ ap (λ x. take i fs ++ x ∷ []) (sym is) in
     record {
       entries = rw (front, more) (entries_pushed (take i fs) es f e all one);
-      built = ap first_unbuilt_in front ∙ unbuilt_then (take i fs) (f ∷ []) none ∙ ap (λ o. option_or o None) built;
+      placed = ap first_pressure_in front ∙ pressure_then (take i fs) (f ∷ []) none ∙ ap (λ o. option_or o None) few;
     }
 
--- the next function has the first line that is not built, if it has one
-pub tells_next : (fs : List FunctionValue) (i : ℕ) (f : FunctionValue) (r : AsmError) → i < length fs → f ≡ get_or fs i f → first_unbuilt_in (take i fs) ≡ None → IsRefusal f r → TellsUnbuilt (first_unbuilt_in fs) r
-tells_next fs i f (refusal.NotBuilt line) lt is none h =
-    ap first_unbuilt_in (parted fs i f lt) ∙ unbuilt_then (take i fs) (get_or fs i f ∷ drop (suc i) fs) none ∙ ap (λ o. option_or o (first_unbuilt_in (drop (suc i) fs))) (ap first_unbuilt (sym is) ∙ h)
+-- the next function has the first instruction that needs too many values, if it has one
+pub tells_next : (fs : List FunctionValue) (i : ℕ) (f : FunctionValue) (r : AsmError) → i < length fs → f ≡ get_or fs i f → first_pressure_in (take i fs) ≡ None → IsRefusal f r → TellsPressure (first_pressure_in fs) r
+tells_next fs i f (refusal.Pressure line need) lt is none h =
+    ap first_pressure_in (parted fs i f lt) ∙ pressure_then (take i fs) (get_or fs i f ∷ drop (suc i) fs) none ∙ ap (λ o. option_or o (first_pressure_in (drop (suc i) fs))) (ap first_pressure (sym is) ∙ h)
 tells_next fs i f refusal.Memory lt is none h = tt

@@ -7,7 +7,7 @@ use Rattle.orcc_top.specs.declared.command.Command.{Command}
 use Rattle.orcc_top.specs.declared.command.Command.TheVariants.{Asm, Check, Fmt, Run, Dis, Emulate}
 use Rattle.orcc_top.specs.declared.refusal.Refusal.{Refusal}
 use Rattle.orcc_top.specs.declared.refusal.Refusal.TheVariants.{TooLong, Image}
-use Rattle.orcc_top.specs.Assembly.{IsAssembled, unbuilt_refusal}
+use Rattle.orcc_top.specs.Assembly.{IsAssembled, pressure_refusal}
 use Rattle.orcc_top.specs.Emulation.{IsEmulated, emulate_refusal}
 use Rattle.orcc_top.specs.Execution.{IsRun, run_refusal}
 use Rattle.orcc_top.specs.Figures.{IsChecked}
@@ -27,7 +27,7 @@ limit_of Emulate = 67108864
 
 -- why a command refuses an input within its limit, if it does
 abbrev pub refusal_within : Command → List ℕ → Option Refusal
-refusal_within Asm input = option_or (fault_refusal input) (unbuilt_refusal input)
+refusal_within Asm input = option_or (fault_refusal input) (pressure_refusal input)
 refusal_within Check input = fault_refusal input
 refusal_within Fmt input = fault_refusal input
 refusal_within Run input = run_refusal input

@@ -4,12 +4,13 @@ use Rattle.std.specs.Option.{option_or}
 use Rattle.orc_program.specs.declared.program.VarKind.TheVariants as kind
 use Rattle.orc_program.specs.Program.{FunctionValue, ProgramValue, count_of}
 use Rattle.orc_text.specs.Reads.{Reads, text_program}
+use Rattle.orc_plan.specs.declared.steps.Pressure.{Pressure}
 use Rattle.orc_asm.specs.declared.refusal.AsmError.{AsmError}
 use Rattle.orc_asm.specs.declared.refusal.AsmError.TheVariants as asm
-use Rattle.orc_asm.specs.Function.{RunsAs, RunsQuietly, first_unbuilt}
+use Rattle.orc_asm.specs.Function.{RunsAs, RunsQuietly, first_pressure}
 use Rattle.orc_image.specs.Spelling as spelling
 use Rattle.orcc_top.specs.declared.refusal.Refusal.{Refusal}
-use Rattle.orcc_top.specs.declared.refusal.Refusal.TheVariants.{NotBuilt}
+use Rattle.orcc_top.specs.declared.refusal.Refusal.TheVariants as refusal
 
 -- ---- the image
 
@@ -41,16 +42,16 @@ pub record IsAssembled (text bytes : List ℕ) : Type 0 where
 
 -- ---- refusals
 
--- the line of the first instruction that is not built, in the first function that has one
-abbrev pub first_unbuilt_in : List FunctionValue → Option ℕ
-first_unbuilt_in [] = None
-first_unbuilt_in (f ∷ fs) = option_or (first_unbuilt f) (first_unbuilt_in fs)
+-- the first instruction that needs more values at once than there are places, in the first function that has one: its line and its need
+abbrev pub first_pressure_in : List FunctionValue → Option Pressure
+first_pressure_in [] = None
+first_pressure_in (f ∷ fs) = option_or (first_pressure f) (first_pressure_in fs)
 
 -- why a text without a fault has no image, if it has none
-abbrev pub unbuilt_refusal : List ℕ → Option Refusal
-unbuilt_refusal text = option_map (λ line. NotBuilt line) (first_unbuilt_in (text_program text).functions)
+abbrev pub pressure_refusal : List ℕ → Option Refusal
+pressure_refusal text = option_map (λ p. refusal.Pressure p.line p.need) (first_pressure_in (text_program text).functions)
 
--- what want of code tells of the first line that is not built; want of memory tells nothing
-abbrev pub TellsUnbuilt : Option ℕ → AsmError → Type 0
-TellsUnbuilt first (asm.NotBuilt line) = first ≡ Some line
-TellsUnbuilt first asm.Memory = Unit {0}
+-- what want of code tells of the first instruction that needs too many values; want of memory tells nothing
+abbrev pub TellsPressure : Option Pressure → AsmError → Type 0
+TellsPressure first (asm.Pressure line need) = first ≡ Some (record { line = line; need = need })
+TellsPressure first asm.Memory = Unit {0}

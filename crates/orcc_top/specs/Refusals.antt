@@ -8,7 +8,7 @@ use Rattle.orc_job.specs.declared.error.JobError.{JobError}
 use Rattle.orc_job.specs.declared.error.JobError.TheVariants as job
 use Rattle.orc_job.specs.Fields.{name_of}
 use Rattle.orcc_top.specs.declared.refusal.Refusal.{Refusal}
-use Rattle.orcc_top.specs.declared.refusal.Refusal.TheVariants.{TooLong, Text, NotBuilt, Image, Job}
+use Rattle.orcc_top.specs.declared.refusal.Refusal.TheVariants.{TooLong, Text, Pressure, Image, Job}
 
 -- a fault's name
 abbrev pub fault_text : Fault → List ℕ
@@ -53,7 +53,7 @@ job_text job.Memory = codes "Memory"
 abbrev pub text_of : Refusal → List ℕ
 text_of TooLong = codes "TooLong"
 text_of (Text line f) = codes "line " ++ decimal line ++ codes ": " ++ fault_text f
-text_of (NotBuilt line) = codes "line " ++ decimal line ++ codes ": NotBuilt"
+text_of (Pressure line need) = codes "line " ++ (decimal line ++ (codes ": Pressure " ++ decimal need))
 text_of (Image e) = codes "image: " ++ image_text e
 text_of (Job e) = codes "job: " ++ job_text e
 

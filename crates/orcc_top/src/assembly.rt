@@ -2,8 +2,8 @@
 ghost use Rattle.std.specs.Prelude.{◌≡◌, ◌≤◌, None, true, length, map, IfOk, OnOk, IfErr};
 ghost use Rattle.orc_program.specs.Program.{count_of};
 ghost use Rattle.orc_program.specs.Kept.{is_function, all_distinct, most_of};
-ghost use Rattle.orc_asm.specs.Function.{first_unbuilt, IsRefusal};
-ghost use Rattle.orcc_top.specs.Assembly.{EntryOf, EntriesOf, first_unbuilt_in, TellsUnbuilt};
+ghost use Rattle.orc_asm.specs.Function.{first_pressure, IsRefusal};
+ghost use Rattle.orcc_top.specs.Assembly.{EntryOf, EntriesOf, first_pressure_in, TellsPressure};
 ghost use Rattle.orcc_top.specs.Replies.{Replies};
 
 use crate::command::Command;
@@ -28,7 +28,7 @@ pub fn count(f: &Function, kind: VarKind) -> u8
 /// A function's entry in an image.
 fn entry_of(alloc: Global, f: &Function) -> Result<ImageFunction, AsmError>
     ensures entry { IfOk result (λ entry. EntryOf f.now entry) }
-    ensures built { OnOk result (first_unbuilt f.now ≡ None) }
+    ensures placed { OnOk result (first_pressure f.now ≡ None) }
     ensures refusal { IfErr result (λ e. IsRefusal f.now e) }
 {
     let code = assemble(alloc, f)?;
@@ -51,8 +51,8 @@ fn image_of(alloc: Global, functions: &[Function]) -> Result<Image, AsmError>
     requires few { length functions.now ≤ 64 }
     requires distinct { all_distinct (map (λ f. f.name) functions.now) ≡ true }
     ensures entries { IfOk result (λ image. EntriesOf functions.now image.functions) }
-    ensures built { OnOk result (first_unbuilt_in functions.now ≡ None) }
-    ensures unbuilt { IfErr result (λ e. TellsUnbuilt (first_unbuilt_in functions.now) e) }
+    ensures placed { OnOk result (first_pressure_in functions.now ≡ None) }
+    ensures pressure { IfErr result (λ e. TellsPressure (first_pressure_in functions.now) e) }
 {
     let mut image = Image::new(alloc);
     for f in functions {
@@ -79,8 +79,8 @@ pub fn assemble_text(alloc: Global, text: &[u8]) -> Result<Reply, AllocError>
     };
     match image_of(alloc, program.functions.as_slice()) {
         Ok(image) => Ok(Reply::Output(write_image(alloc, &image)?)),
-        Err(AsmError::NotBuilt { line }) => {
-            let refusal = Refusal::NotBuilt { line };
+        Err(AsmError::Pressure { line, need }) => {
+            let refusal = Refusal::Pressure { line, need };
             Ok(Reply::Refusal(line_of(alloc, refusal)?))
         }
         Err(AsmError::Memory) => Err(AllocError),

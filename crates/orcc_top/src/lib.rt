@@ -25,6 +25,4 @@ pub use status::Status;
 pub use top::orcc;
 
 #[cfg(test)]
-mod running;
-#[cfg(test)]
 mod tests;

@@ -15,8 +15,8 @@ pub enum Refusal {
     TooLong,
     /// The text has a fault, whose line is counted from 1.
     Text { line: u32, fault: Fault },
-    /// The text has an instruction that is not built, on a line counted from 1.
-    NotBuilt { line: u32 },
+    /// The text has an instruction, on a line counted from 1, that needs more values of temps at once than there are places for them.
+    Pressure { line: u32, need: u32 },
     /// The input is not one image: its first field that is not all there or not allowed.
     Image(ImageError),
     /// The job is refused, or the function that it calls isn't there or has other counts.
@@ -58,7 +58,7 @@ impl fmt::Display for Refusal {
         match self {
             Refusal::TooLong => write!(f, "TooLong"),
             Refusal::Text { line, fault } => write!(f, "line {line}: {}", name_of(*fault)),
-            Refusal::NotBuilt { line } => write!(f, "line {line}: NotBuilt"),
+            Refusal::Pressure { line, need } => write!(f, "line {line}: Pressure {need}"),
             Refusal::Image(ImageError::BadMagic) => write!(f, "image: BadMagic"),
             Refusal::Image(ImageError::BadVersion) => write!(f, "image: BadVersion"),
             Refusal::Image(ImageError::Short { need }) => write!(f, "image: Short {need}"),

@@ -4,10 +4,10 @@ use Rattle.std.proofs.lemmas.Result.{err_from_is_err_and}
 use Rattle.orcc_top.proofs.Entries.{entry_new, entry_room, entered_more, tells_next}
 use Rattle.orcc_top.proofs.assembly.image_of.Goals as goal
 
-pub returns-in_err-entry-clause-unbuilt : goal.returns-in_err-entry-clause-unbuilt
-returns-in_err-entry-clause-unbuilt c =
+pub returns-in_err-entry-clause-pressure : goal.returns-in_err-entry-clause-pressure
+returns-in_err-entry-clause-pressure c =
     let p = err_from_is_err_and c.from_residual.result c.from_residual.ensures.1 in
-    rw (p.1, p.2) (tells_next c.args.functions.now c.loop-f.f-index c.f-item.result c.in_err-entry.field-0.0 c.loop-f-test.true c.f-item.is c.loop-f.invariant.built c.in_err-entry.ensures.refusal)
+    rw (p.1, p.2) (tells_next c.args.functions.now c.loop-f.f-index c.f-item.result c.in_err-entry.field-0.0 c.loop-f-test.true c.f-item.is c.loop-f.invariant.placed c.in_err-entry.ensures.refusal)
 
 pub push-requires-clause-room : goal.push-requires-clause-room
 push-requires-clause-room c = entry_room c.args.functions.now _ c.loop-f.f-index c.loop-f-test.true c.requires.few c.loop-f.invariant.entries
@@ -18,5 +18,5 @@ push-requires-clause-new c = entry_new c.args.functions.now _ c.loop-f.f-index c
 pub loop-f-preserved : goal.loop-f-preserved
 loop-f-preserved c =
     let grown : c.push.new.self.functions ≡ c.loop-f.image.functions ++ c.in_ok-entry.entry ∷ [] = grind (arith, common_steps) in
-    let more = entered_more c.args.functions.now c.loop-f.f-index _ _ c.f-item.result c.in_ok-entry.entry c.loop-f-test.true c.f-item.is grown c.loop-f.invariant.entries c.loop-f.invariant.built c.in_ok-entry.ensures.entry c.in_ok-entry.ensures.built in
-    record { entries = more.entries; built = more.built }
+    let more = entered_more c.args.functions.now c.loop-f.f-index _ _ c.f-item.result c.in_ok-entry.entry c.loop-f-test.true c.f-item.is grown c.loop-f.invariant.entries c.loop-f.invariant.placed c.in_ok-entry.ensures.entry c.in_ok-entry.ensures.placed in
+    record { entries = more.entries; placed = more.placed }

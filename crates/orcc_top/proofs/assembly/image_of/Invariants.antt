@@ -1,9 +1,9 @@
 use Rattle.std.proofs.Common.{◌≡◌, None, take}
-use Rattle.orcc_top.specs.Assembly.{EntriesOf, first_unbuilt_in}
+use Rattle.orcc_top.specs.Assembly.{EntriesOf, first_pressure_in}
 use Rattle.orcc_top.proofs.assembly.image_of.Given as goal
 
 abbrev pub invariant-loop-f : goal.invariant-loop-f
 invariant-loop-f l = record {
   entries : EntriesOf (take l.f-index l.functions) l.image.functions;
-  built : first_unbuilt_in (take l.f-index l.functions) ≡ None;
+  placed : first_pressure_in (take l.f-index l.functions) ≡ None;
 }
