@@ -20,9 +20,10 @@ use orc_ops::{Op, results, sources, stem_of, to_of, wide_of};
 use orc_program::{Function, Insn, Operand, VarKind};
 use std::alloc::{AllocError, Global};
 
-/// The variables of the sources' cells, and of the results.
+/// The variables of the sources' cells.
 const CELLS: [u8; 2] = [0, 1];
 
+/// The variables of the results.
 const RESULTS: [u8; 2] = [2, 3];
 
 /// The number of variables before those of the temps.
@@ -33,6 +34,7 @@ fn array_of(f: &Function, p: u16) -> u8
     requires { p < length f.now.vars }
     ensures { result ≡ program.array_number f.now.vars p }
 {
+    // which says how few variables there are, so that the number fits
     let _few = variable(f, p);
     array_number(f, p) as u8
 }
@@ -43,6 +45,7 @@ fn number_of(f: &Function, kind: VarKind, p: u16) -> u8
     ensures value { result ≡ program.count_before kind f.now.vars p }
     ensures few { result < 72 }
 {
+    // which says how few variables there are, so that the number fits
     let _few = variable(f, p);
     count_before(f, kind, p) as u8
 }
@@ -214,7 +217,8 @@ fn second_at(alloc: Global, f: &Function, insn: &Insn, q: u8) -> Result<CExpr, A
 /// The first results of all sub-lanes, packed.
 fn packed_first(alloc: Global, f: &Function, insn: &Insn) -> Result<CExpr, AllocError>
     requires { Fits f.now.vars insn.now }
-    ensures { IfOk result (λ e. e ≡ body.packed (8 * size_of_result insn.now.op 0) (insn.now.prefix - 1) (body.first_at f.now.vars insn.now)) }
+    ensures { IfOk result (λ e. e ≡
+        body.packed (8 * size_of_result insn.now.op 0) (insn.now.prefix - 1) (body.first_at f.now.vars insn.now)) }
 {
     let bits = 8 * u64::from(results(insn.op)[0]);
     let mut all = first_at(alloc, f, insn, 0)?;
@@ -229,7 +233,8 @@ fn packed_first(alloc: Global, f: &Function, insn: &Insn) -> Result<CExpr, Alloc
 /// The second results of all sub-lanes, packed.
 fn packed_second(alloc: Global, f: &Function, insn: &Insn) -> Result<CExpr, AllocError>
     requires { Fits f.now.vars insn.now }
-    ensures { IfOk result (λ e. e ≡ body.packed (8 * size_of_result insn.now.op 1) (insn.now.prefix - 1) (body.second_at f.now.vars insn.now)) }
+    ensures { IfOk result (λ e. e ≡
+        body.packed (8 * size_of_result insn.now.op 1) (insn.now.prefix - 1) (body.second_at f.now.vars insn.now)) }
 {
     let bits = 8 * u64::from(results(insn.op)[1]);
     let mut all = second_at(alloc, f, insn, 0)?;

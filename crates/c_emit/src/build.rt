@@ -129,7 +129,7 @@ pub fn equal(alloc: Global, a: CExpr, b: CExpr) -> Result<CExpr, AllocError>
     test(alloc, CCmp::Equal, a, b)
 }
 
-/// The second of two expressions where the first is less than it, and else the first; or the other way round.
+/// One expression where the first of two is less than the second, and else another.
 pub fn choose_less(
     alloc: Global,
     a: CExpr,

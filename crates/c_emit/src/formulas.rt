@@ -53,8 +53,8 @@ fn average(alloc: Global, x: CExpr, y: CExpr) -> Result<CExpr, AllocError>
     down(alloc, more, 1)
 }
 
-/// The first less the second.
-fn two_way(alloc: Global, x: &CExpr, y: &CExpr) -> Result<CExpr, AllocError>
+/// The first without the second, of which copies are taken.
+fn difference(alloc: Global, x: &CExpr, y: &CExpr) -> Result<CExpr, AllocError>
     ensures { IfOk result (λ r. r ≡ CExpr.Two Sub x.now y.now) }
 {
     let first = copy(alloc, x)?;
@@ -199,8 +199,8 @@ fn avgu(alloc: Global, x: CExpr, y: CExpr) -> Result<CExpr, AllocError>
 fn accsad(alloc: Global, x: CExpr, y: CExpr) -> Result<CExpr, AllocError>
     ensures { IfOk result (λ e. e ≡ first stem.Accsad 0 0 x y) }
 {
-    let less = two_way(alloc, &y, &x)?;
-    let more = two_way(alloc, &x, &y)?;
+    let less = difference(alloc, &y, &x)?;
+    let more = difference(alloc, &x, &y)?;
     choose_less(alloc, x, y, less, more)
 }
 

@@ -71,6 +71,7 @@ pub fn emit(alloc: Global, f: &Function) -> Result<CFunction, AllocError>
     ensures shape { IfOk result (λ c. HasShape f.now c) }
     ensures means { IfOk result (λ c. CAs f.now c) }
 {
+    // who reads a field of a function learns what holds of every function
     let _kept = f.two_d;
     function_of(alloc, f)
 }

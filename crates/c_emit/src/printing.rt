@@ -5,7 +5,9 @@ ghost use Rattle.std.specs.Fmt.{decimal};
 ghost use Rattle.std.specs.List.{AllByRecursion};
 ghost use Rattle.c_run.specs.Whole.{IsFunction, StmtNumbers, has_numbers};
 ghost use Rattle.c_emit.specs.Spelled.{CText};
-ghost use Rattle.c_emit.specs.Text.{op_text, cmp_text, index_text, expr_text, stmt_text, body_text, signature_text, function_text, functions_text, c_text, line_text, numbered, declarations_text, loops_text, ends_text, header_text, number_text, byte_text};
+ghost use Rattle.c_emit.specs.Text.{op_text, cmp_text, index_text, expr_text, stmt_text, body_text, signature_text};
+ghost use Rattle.c_emit.specs.Text.{function_text, functions_text, c_text, line_text, numbered, declarations_text};
+ghost use Rattle.c_emit.specs.Text.{loops_text, ends_text, header_text, number_text, byte_text};
 
 use crate::lines::{Line, put_lines};
 use c_run::{CCmp, CExpr, CFunction, CIndex, COp, CStmt, CTree};

@@ -35,7 +35,8 @@ pub enum CEnd {
 
 /// Sets a byte of an array, where it is mapped.
 fn set_byte(call: &Call, store: &mut Store, spot: Spot, d: u8, x: CIndex, b: u64) -> Option<()>
-    ensures memory { bind (meaning.byte_address call.now (turn_of spot) d x) (λ a. meaning.put_byte (memory_of store.old) a (b % 256)) ≡ memory_if result (memory_of store.new) }
+    ensures memory { bind (meaning.byte_address call.now (turn_of spot) d x)
+        (λ a. meaning.put_byte (memory_of store.old) a (b % 256)) ≡ memory_if result (memory_of store.new) }
     ensures layout { layout store.new ≡ layout store.old }
     ensures unchanged { result ≡ None → store.new ≡ store.old }
 {
@@ -49,7 +50,9 @@ fn set_byte(call: &Call, store: &mut Store, spot: Spot, d: u8, x: CIndex, b: u64
 
 /// Sets a variable, where it is declared.
 fn set_v(f: &CFunction, values: &mut Values, d: u8, x: u64) -> Option<()>
-    ensures value { (parts : List Part) → meaning.set_if (nat_lt d f.now.temps) (record (state_of parts values.old) { v = change (state_of parts values.old).v d (Some x) }) ≡ assigned result parts values.new }
+    ensures value { (parts : List Part) → meaning.set_if (nat_lt d f.now.temps)
+        (record (state_of parts values.old) { v = change (state_of parts values.old).v d (Some x) })
+        ≡ assigned result parts values.new }
     ensures unchanged { result ≡ None → values.new ≡ values.old }
 {
     if u16::from(d) >= f.temps {
@@ -70,7 +73,9 @@ fn sums_of(f: &CFunction) -> u8
 /// Sets a running sum, of which there are so many.
 fn set_w(accs: u8, values: &mut Values, d: u8, x: u64) -> Option<()>
     requires { accs ≤ 4 }
-    ensures value { (parts : List Part) → meaning.set_if (nat_lt d accs) (record (state_of parts values.old) { w = change (state_of parts values.old).w d (Some x) }) ≡ assigned result parts values.new }
+    ensures value { (parts : List Part) → meaning.set_if (nat_lt d accs)
+        (record (state_of parts values.old) { w = change (state_of parts values.old).w d (Some x) })
+        ≡ assigned result parts values.new }
     ensures unchanged { result ≡ None → values.new ≡ values.old }
 {
     if d >= accs {
@@ -89,7 +94,8 @@ fn assign(
     spot: Spot,
     s: &CStmt,
 ) -> Option<()>
-    ensures value { meaning.assign f.now call.now (turn_of spot) s.now (state_of store.old values.old) ≡ assigned result store.new values.new }
+    ensures value { meaning.assign f.now call.now (turn_of spot) s.now (state_of store.old values.old)
+        ≡ assigned result store.new values.new }
     ensures layout { layout store.new ≡ layout store.old }
     ensures unchanged { result ≡ None → (store.new ≡ store.old) × (values.new ≡ values.old) }
 {
@@ -145,7 +151,8 @@ fn statement(
     budget: u64,
     s: &CStmt,
 ) -> Result<(), CStop>
-    ensures value { meaning.count budget (meaning.assign f.now call.now (turn_of spot) s.now) (state_of store.old values.old) ≡ after result store.new values.new }
+    ensures value { meaning.count budget (meaning.assign f.now call.now (turn_of spot) s.now)
+        (state_of store.old values.old) ≡ after result store.new values.new }
     ensures layout { layout store.new ≡ layout store.old }
 {
     if !has_room(values, budget) {
@@ -167,7 +174,8 @@ fn body_of(
     spot: Spot,
     budget: u64,
 ) -> Result<(), CStop>
-    ensures value { meaning.body_of f.now call.now budget (turn_of spot) f.now.body (state_of store.old values.old) ≡ after result store.new values.new }
+    ensures value { meaning.body_of f.now call.now budget (turn_of spot) f.now.body (state_of store.old values.old)
+        ≡ after result store.new values.new }
     ensures layout { layout store.new ≡ layout store.old }
 {
     for s in f.body.as_slice() {
@@ -185,7 +193,8 @@ fn element_of(
     spot: Spot,
     budget: u64,
 ) -> Result<(), CStop>
-    ensures value { meaning.element f.now call.now budget spot.row spot.element (state_of store.old values.old) ≡ after result store.new values.new }
+    ensures value { meaning.element f.now call.now budget spot.row spot.element (state_of store.old values.old)
+        ≡ after result store.new values.new }
     ensures layout { layout store.new ≡ layout store.old }
 {
     begin_turn(values, budget)?;
@@ -201,7 +210,8 @@ fn elements_of(
     row: u32,
     budget: u64,
 ) -> Result<(), CStop>
-    ensures value { meaning.times call.now.n (meaning.element f.now call.now budget row) (state_of store.old values.old) ≡ after result store.new values.new }
+    ensures value { meaning.times call.now.n (meaning.element f.now call.now budget row) (state_of store.old values.old)
+        ≡ after result store.new values.new }
     ensures layout { layout store.new ≡ layout store.old }
 {
     for i in 0..call.n {
@@ -219,7 +229,8 @@ fn row_of(
     row: u32,
     budget: u64,
 ) -> Result<(), CStop>
-    ensures value { meaning.row f.now call.now budget row (state_of store.old values.old) ≡ after result store.new values.new }
+    ensures value { meaning.row f.now call.now budget row (state_of store.old values.old)
+        ≡ after result store.new values.new }
     ensures layout { layout store.new ≡ layout store.old }
 {
     begin_turn(values, budget)?;
@@ -241,7 +252,8 @@ fn rows_of(
     values: &mut Values,
     budget: u64,
 ) -> Result<(), CStop>
-    ensures value { meaning.times (meaning.rows f.now call.now) (meaning.row f.now call.now budget) (state_of store.old values.old) ≡ after result store.new values.new }
+    ensures value { meaning.times (meaning.rows f.now call.now) (meaning.row f.now call.now budget)
+        (state_of store.old values.old) ≡ after result store.new values.new }
     ensures layout { layout store.new ≡ layout store.old }
 {
     for j in 0..rows(f, call) {
@@ -266,7 +278,8 @@ fn clear_one(values: &mut Values, budget: u64, k: u8) -> Result<(), CStop>
 /// Sets the running sums to 0.
 fn clear(values: &mut Values, budget: u64, accs: u8) -> Result<(), CStop>
     requires { accs ≤ 4 }
-    ensures { (parts : List Part) → meaning.times accs (meaning.clear budget) (state_of parts values.old) ≡ after result parts values.new }
+    ensures { (parts : List Part) → meaning.times accs (meaning.clear budget) (state_of parts values.old)
+        ≡ after result parts values.new }
 {
     for k in 0..accs {
         clear_one(values, budget, k)?;
@@ -278,7 +291,8 @@ fn clear(values: &mut Values, budget: u64, accs: u8) -> Result<(), CStop>
 fn store_one(values: &mut Values, sums: &mut Accs, budget: u64, k: u8) -> Result<(), CStop>
     requires index { k < 4 }
     requires room { length sums.old.items < 4 }
-    ensures value { (parts : List Part) → meaning.finish budget k (ending_of parts values.old sums.old.items) ≡ ending result parts values.new sums.new.items }
+    ensures value { (parts : List Part) → meaning.finish budget k (ending_of parts values.old sums.old.items)
+        ≡ ending result parts values.new sums.new.items }
     ensures more { length sums.new.items ≤ length sums.old.items + 1 }
 {
     if !has_room(values, budget) {
@@ -296,7 +310,8 @@ fn store_one(values: &mut Values, sums: &mut Accs, budget: u64, k: u8) -> Result
 fn finish(values: &mut Values, sums: &mut Accs, budget: u64, accs: u8) -> Result<(), CStop>
     requires few { accs ≤ 4 }
     requires none { sums.old.items ≡ [] }
-    ensures { (parts : List Part) → meaning.times accs (meaning.finish budget) (state_of parts values.old) ≡ ending result parts values.new sums.new.items }
+    ensures { (parts : List Part) → meaning.times accs (meaning.finish budget) (state_of parts values.old)
+        ≡ ending result parts values.new sums.new.items }
 {
     for k in 0..accs {
         store_one(values, sums, budget, k)?;
@@ -325,7 +340,8 @@ fn run_from(
     budget: u64,
 ) -> Result<(), CStop>
     requires { sums.old.items ≡ [] }
-    ensures value { meaning.run_from f.now call.now budget (state_of store.old values.old) ≡ ending result store.new values.new sums.new.items }
+    ensures value { meaning.run_from f.now call.now budget (state_of store.old values.old)
+        ≡ ending result store.new values.new sums.new.items }
     ensures layout { layout store.new ≡ layout store.old }
 {
     let accs = sums_of(f);
@@ -336,7 +352,8 @@ fn run_from(
 
 /// What the end of the statements is for the call.
 fn end_with(done: Result<(), CStop>, values: &Values, accs: Accs) -> CEnd
-    ensures { (parts : List Part) → meaning.go_on (ending done parts values.now accs.items) meaning.ended ≡ end_of result parts }
+    ensures { (parts : List Part) → meaning.go_on (ending done parts values.now accs.items) meaning.ended
+        ≡ end_of result parts }
 {
     match done {
         Ok(()) => CEnd::Ended {
@@ -348,12 +365,13 @@ fn end_with(done: Result<(), CStop>, values: &Values, accs: Accs) -> CEnd
     }
 }
 
-/// Does a C function on a store, as C means it, within a budget of statements: assignments to a variable, a running sum, an
-/// array's byte or through a `g` pointer, and turns of the loops. The call has a place for each array of the function and a
-/// number for each parameter. Takes no memory.
+/// Does a C function on a store, as C means it, within a budget of statements: assignments to a variable, a running
+/// sum, an array's byte or through a `g` pointer, and turns of the loops. The call has a place for each array of the
+/// function and a number for each parameter. Takes no memory.
 ///
-/// The end is `NoMeaning` exactly where a statement has no meaning and fewer than `budget` were done before it, and `Budget`
-/// exactly where `budget` statements were done and another one follows. The store keeps what was written until then.
+/// The end is `NoMeaning` exactly where a statement has no meaning and fewer than `budget` were done before it, and
+/// `Budget` exactly where `budget` statements were done and another one follows. The store keeps what was written
+/// until then.
 pub fn run_c(f: &CFunction, call: &Call, store: &mut Store, budget: u64) -> CEnd
     requires { HasCounts f.now call.now }
     ensures end { meaning.meaning f.now call.now (memory_of store.old) budget ≡ end_of result store.new }

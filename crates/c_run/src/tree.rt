@@ -82,8 +82,9 @@ pub enum CStmt {
 /// Statements, in order.
 pub type CBody = Items<CStmt>;
 
-/// A C function over rows and elements: two loops around a body, between the lines that set the running sums to 0 and those
-/// that store them. No expression is more than 100 deep, and each index has a size of 1, 2, 4 or 8 and an offset of at most 7.
+/// A C function over rows and elements: two loops around a body, between the lines that set the running sums to 0 and
+/// those that store them. No expression is more than 100 deep, and each index has a size of 1, 2, 4 or 8 and an
+/// offset of at most 7.
 #[derive(Drop)]
 pub struct CFunction {
     /// The name, without the `orc_` before it.
@@ -112,9 +113,25 @@ impl Model for CFunction {
 
     ghost coded = { Prim.hlevel (codes, expression.the_row.coded) };
 
-    ghost view = { λ f. record { name = f.name; arrays = f.arrays; params = f.params; accs = f.accs; temps = f.temps; two_d = f.two_d; body = f.body } };
+    ghost view = { λ f. record {
+      name = f.name;
+      arrays = f.arrays;
+      params = f.params;
+      accs = f.accs;
+      temps = f.temps;
+      two_d = f.two_d;
+      body = f.body;
+    } };
 
-    ghost invariant = { λ f. is_c_function record { name = f.name; arrays = f.arrays; params = f.params; accs = f.accs; temps = f.temps; two_d = f.two_d; body = f.body } ≡ true };
+    ghost invariant = { λ f. is_c_function record {
+      name = f.name;
+      arrays = f.arrays;
+      params = f.params;
+      accs = f.accs;
+      temps = f.temps;
+      two_d = f.two_d;
+      body = f.body;
+    } ≡ true };
 }
 
 /// Functions, in order.

@@ -27,8 +27,10 @@ pub fn part(bytes: &[u8], at: usize, size: usize) -> Result<&[u8], ElfError>
     requires at_in { at < 2 ^ 40 }
     requires size_in { size < 2 ^ 40 }
     ensures told { refusal_in result ≡ refused bytes.now (free at size) }
-    ensures found { IfOk result (λ x. (x.now ≡ part bytes.now at size) × (at + size ≤ length bytes.now) × (length x.now ≡ size)) }
-    ensures short { MatchResult result (λ _. at + size ≤ length bytes.now) (λ e. (length bytes.now < at + size) × (e ≡ ElfError.Short (at + size))) }
+    ensures found { IfOk result (λ x. (x.now ≡ part bytes.now at size) × (at + size ≤ length bytes.now)
+        × (length x.now ≡ size)) }
+    ensures short { MatchResult result (λ _. at + size ≤ length bytes.now)
+        (λ e. (length bytes.now < at + size) × (e ≡ ElfError.Short (at + size))) }
 {
     let end = at + size;
     if bytes.len() < end {

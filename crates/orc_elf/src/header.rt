@@ -2,7 +2,8 @@
 
 ghost use Rattle.std.specs.Prelude.{◌≡◌, ◌+◌, ◌<◌, ◌^◌, true, IfOk};
 ghost use Rattle.orc_elf.specs.Sections.{text, symtab, strtab};
-ghost use Rattle.orc_elf.specs.Fields.{number_at, identification, file_kind, file_sizes, null_header, section_header, is_size, headers, headers_at, refused, first_refused};
+ghost use Rattle.orc_elf.specs.Fields.{number_at, identification, file_kind, file_sizes, null_header};
+ghost use Rattle.orc_elf.specs.Fields.{section_header, is_size, headers, headers_at, refused, first_refused};
 ghost use Rattle.orc_elf.specs.Told.{refusal_in, IsPlace};
 
 use crate::error::ElfError;
@@ -86,7 +87,8 @@ fn is_size(kind: &SectionKind, n: u64) -> bool
 #[tactic(auto, unfolding(crate::specs::Fields::refused))]
 fn section_size(bytes: &[u8], kind: &SectionKind, at: usize) -> Result<u64, ElfError>
     requires { at < 2 ^ 34 }
-    ensures told { refusal_in result ≡ refused bytes.now (record { at = at; size = 8; allowed = is_size kind.now (number_at bytes.now at 8) }) }
+    ensures told { refusal_in result ≡ refused bytes.now
+        (record { at = at; size = 8; allowed = is_size kind.now (number_at bytes.now at 8) }) }
     ensures value { IfOk result (λ x. (x ≡ number_at bytes.now at 8) × (is_size kind.now x ≡ true) × (x < 2 ^ 32)) }
 {
     let n = number_at(bytes, at, 8)?;
@@ -103,7 +105,8 @@ fn section_header(bytes: &[u8], kind: &SectionKind, at: usize) -> Result<Place, 
     requires { at < 2 ^ 33 }
     ensures told { refusal_in result ≡ first_refused bytes.now (section_header bytes.now kind.now at) }
     ensures place { IfOk result (λ p. (p.offset ≡ number_at bytes.now (at + 24) 8) × (p.offset < 2 ^ 32)) }
-    ensures room { IfOk result (λ p. (p.size ≡ number_at bytes.now (at + 32) 8) × (is_size kind.now p.size ≡ true) × (p.size < 2 ^ 32)) }
+    ensures room { IfOk result (λ p. (p.size ≡ number_at bytes.now (at + 32) 8) × (is_size kind.now p.size ≡ true)
+        × (p.size < 2 ^ 32)) }
 {
     part(bytes, at, 4)?; // sh_name
     exact(bytes, at + 4, 4, u64::from(kind.kind))?; // sh_type
@@ -128,7 +131,8 @@ pub fn headers(bytes: &[u8], at: usize) -> Result<Places, ElfError>
     requires low { at < 2 ^ 32 }
     ensures told { refusal_in result ≡ first_refused bytes.now (headers bytes.now) }
     ensures code { IfOk result (λ p. IsPlace bytes.now 1 p.code.offset p.code.size) }
-    ensures symbols { IfOk result (λ p. IsPlace bytes.now 2 p.symbols.offset p.symbols.size × (is_size symtab p.symbols.size ≡ true)) }
+    ensures symbols { IfOk result (λ p. IsPlace bytes.now 2 p.symbols.offset p.symbols.size
+        × (is_size symtab p.symbols.size ≡ true)) }
     ensures names { IfOk result (λ p. IsPlace bytes.now 3 p.names.offset p.names.size) }
     ensures section_names { IfOk result (λ p. IsPlace bytes.now 4 p.section_names.offset p.section_names.size) }
 {

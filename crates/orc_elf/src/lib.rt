@@ -1,7 +1,8 @@
-//! Relocatable objects: functions with their code as an ELF64 file for x86-64, written by [`write_elf`] and read by [`read_elf`].
+//! Relocatable objects: functions with their code as an ELF64 file for x86-64, written by [`write_elf`] and read by
+//! [`read_elf`].
 //!
-//! `specs/` defines the object's fields by their offsets and what each may hold (`Fields`, after the System V gABI), and the bytes that
-//! are written (`Layout`).
+//! `specs/` defines the object's fields by their offsets and what each may hold (`Fields`, after the System V gABI), and
+//! the bytes that are written (`Layout`).
 #![tactic(auto)]
 
 mod elf;

@@ -1,9 +1,12 @@
 //! Reading an object.
 
-ghost use Rattle.std.specs.Prelude.{◌≡◌, ◌==◌, ◌+◌, ◌<◌, ◌≤◌, ◌^◌, ℕ, List, [], Some, Ok, true, false, length, position, option_map, IfOk, IfSome, is_some};
+ghost use Rattle.std.specs.Prelude.{◌≡◌, ◌==◌, ◌+◌, ◌<◌, ◌≤◌, ◌^◌, ℕ, List, [], Some, Ok, true, false};
+ghost use Rattle.std.specs.Prelude.{length, position, option_map, IfOk, IfSome, is_some};
 ghost use Rattle.orc_elf.specs.Entries.{EntryValue, names, is_among};
 ghost use Rattle.orc_elf.specs.Sections.{symtab};
-ghost use Rattle.orc_elf.specs.Fields.{part, number_at, is_size, offset_of, contents, count_of, string_at, name_of, word_of, is_new, is_code_size, symbol, symbols, insides, entry_at, entries_at, refused, first_refused, first_bad_field, ElfGives, OneObject};
+ghost use Rattle.orc_elf.specs.Fields.{part, number_at, is_size, offset_of, contents, count_of, string_at, name_of};
+ghost use Rattle.orc_elf.specs.Fields.{word_of, is_new, is_code_size, symbol, symbols, insides, entry_at, entries_at};
+ghost use Rattle.orc_elf.specs.Fields.{refused, first_refused, first_bad_field, ElfGives, OneObject};
 ghost use Rattle.orc_elf.specs.Told.{refusal_in, UnlessMemory, IsPlace, Knows};
 
 use crate::elf::{ElfCode, ElfEntry};
@@ -99,7 +102,8 @@ fn new_name(word: &[u8], seen: &ElfCode) -> Option<Name>
 fn symbol_name(bytes: &[u8], strings: &[u8], at: usize, seen: &ElfCode) -> Result<Name, ElfError>
     requires at_in { at < 2 ^ 34 }
     requires section_3 { strings.now ≡ contents bytes.now 3 }
-    ensures told { refusal_in result ≡ refused bytes.now (record { at = at; size = 4; allowed = is_new (names seen.now.entries) (name_of bytes.now at) }) }
+    ensures told { refusal_in result ≡ refused bytes.now
+        (record { at = at; size = 4; allowed = is_new (names seen.now.entries) (name_of bytes.now at) }) }
     ensures value { IfOk result (λ w. (w ≡ word_of (name_of bytes.now at)) × (is_among (names seen.now.entries) w ≡ false)) }
 {
     let n = number_at(bytes, at, 4)?;
@@ -117,7 +121,8 @@ fn symbol_name(bytes: &[u8], strings: &[u8], at: usize, seen: &ElfCode) -> Resul
 fn code_size(bytes: &[u8], at: usize, whole: u64, value: u64) -> Result<u64, ElfError>
     requires at_in { at < 2 ^ 34 }
     requires small { value < 2 ^ 32 }
-    ensures told { refusal_in result ≡ refused bytes.now (record { at = at; size = 8; allowed = is_code_size whole value (number_at bytes.now at 8) }) }
+    ensures told { refusal_in result ≡ refused bytes.now
+        (record { at = at; size = 8; allowed = is_code_size whole value (number_at bytes.now at 8) }) }
     ensures found { IfOk result (λ n. n ≡ number_at bytes.now at 8) }
     ensures in_range { IfOk result (λ n. (1 ≤ n) × (n ≤ 1048576) × (value + n ≤ whole)) }
 {
@@ -140,8 +145,10 @@ fn read_symbol<'t>(
     requires at_in { at < 2 ^ 33 }
     requires knows { Knows bytes.now sections.now.code.now sections.now.names.now sections.now.first sections.now.count }
     ensures told { refusal_in result ≡ first_refused bytes.now (symbol bytes.now (names seen.now.entries) at) }
-    ensures name { IfOk result (λ s. (s.name ≡ word_of (name_of bytes.now at)) × (is_among (names seen.now.entries) s.name ≡ false)) }
-    ensures code { IfOk result (λ s. s.code.now ≡ part (contents bytes.now 1) (number_at bytes.now (at + 8) 8) (number_at bytes.now (at + 16) 8)) }
+    ensures name { IfOk result (λ s. (s.name ≡ word_of (name_of bytes.now at))
+        × (is_among (names seen.now.entries) s.name ≡ false)) }
+    ensures code { IfOk result (λ s. s.code.now ≡ part (contents bytes.now 1) (number_at bytes.now (at + 8) 8)
+        (number_at bytes.now (at + 16) 8)) }
     ensures size { IfOk result (λ s. (1 ≤ length s.code.now) × (length s.code.now ≤ 1048576)) }
 {
     exact(bytes, at + 4, 1, 0x12)?; // st_info
@@ -167,7 +174,8 @@ fn read_entry(
 ) -> Result<ElfEntry, ElfError>
     requires at_in { at < 2 ^ 33 }
     requires knows { Knows bytes.now sections.now.code.now sections.now.names.now sections.now.first sections.now.count }
-    ensures told { UnlessMemory result (refusal_in result ≡ first_refused bytes.now (symbol bytes.now (names seen.now.entries) at)) }
+    ensures told { UnlessMemory result
+        (refusal_in result ≡ first_refused bytes.now (symbol bytes.now (names seen.now.entries) at)) }
     ensures entry { IfOk result (λ e. e ≡ entry_at bytes.now at) }
     ensures new { IfOk result (λ e. is_among (names seen.now.entries) e.name ≡ false) }
 {
@@ -184,7 +192,8 @@ fn read_entry(
 /// The functions of the symbols.
 fn read_entries(alloc: Global, bytes: &[u8], sections: &Sections) -> Result<ElfCode, ElfError>
     requires { Knows bytes.now sections.now.code.now sections.now.names.now sections.now.first sections.now.count }
-    ensures told { UnlessMemory result (refusal_in result ≡ first_refused bytes.now (symbols bytes.now [] (sections.now.first + 24) sections.now.count)) }
+    ensures told { UnlessMemory result
+        (refusal_in result ≡ first_refused bytes.now (symbols bytes.now [] (sections.now.first + 24) sections.now.count)) }
     ensures entries { IfOk result (λ e. e.entries ≡ entries_at bytes.now (sections.now.first + 24) sections.now.count) }
 {
     let count = sections.count;
@@ -214,14 +223,20 @@ fn read_object(alloc: Global, bytes: &[u8]) -> Result<ElfCode, ElfError>
     read_entries(alloc, bytes, &sections)
 }
 
-/// The functions of the ELF64 relocatable object for x86-64 that the bytes are (System V gABI, chapter 4), in the order of their symbols.
-/// Err is the first field, in the order of tests, that is not all there (Short) or not allowed (BadField), or want of memory.
+/// The functions of the ELF64 relocatable object for x86-64 that the bytes are (System V gABI, chapter 4), in the order
+/// of their symbols.
+///
+/// # Errors
+///
+/// The first field, in the order of tests, that is not all there (`Short`) or not allowed (`BadField`); `Memory` where
+/// memory is wanting.
 #[tactic(auto, using(crate::proofs::Refusals::good_none, crate::proofs::Refusals::none_good))]
 pub fn read_elf(alloc: Global, bytes: &[u8]) -> Result<ElfCode, ElfError>
     // The bytes are an object with what is read.
     ensures found { IfOk result (λ e. ElfGives bytes.now e.entries) }
     // What the bytes are an object with is read, unless memory runs out.
-    ensures only { (es : List EntryValue) → ElfGives bytes.now es → UnlessMemory result (result ≡ Ok (record { entries = es })) }
+    ensures only { (es : List EntryValue) → ElfGives bytes.now es
+        → UnlessMemory result (result ≡ Ok (record { entries = es })) }
     // A refusal is that of the first field that isn't all there or isn't allowed, unless memory runs out.
     ensures refused { UnlessMemory result (refusal_in result ≡ first_bad_field bytes.now) }
 {

@@ -55,41 +55,18 @@ fn objects_written(rt: HostRuntime) -> Result<(), Fail> {
     assert_eq!(rt; one.len(), 480);
     assert_eq!(rt; part(&one, 40, 48), [0xa0, 0, 0, 0, 0, 0, 0, 0].as_slice());
     assert_eq!(rt; part(&one, 64, 160), RETURNS.as_slice());
-    // Symbols stand from 112 on: the codes begin at 0 and at 32 of section 1, which has 35 bytes.
-    let two = write_elf(alloc, &object(&rt, alloc, &[("a", 17), ("b_1", 3)])?)?;
-    assert_eq!(rt;
-        part(&two, 80, 96),
-        [
-            0xc3, 0xcc, 0xcc, 0xcc, 0xcc, 0xcc, 0xcc, 0xcc, 0xcc, 0xcc, 0xcc, 0xcc, 0xcc, 0xcc,
-            0xcc, 0xcc
-        ]
-        .as_slice()
-    );
-    assert_eq!(rt;
-        part(&two, 152, 176),
-        [
-            3, 0, 0, 0, 0x12, 0, 1, 0, 0x20, 0, 0, 0, 0, 0, 0, 0, 3, 0, 0, 0, 0, 0, 0, 0
-        ]
-        .as_slice()
-    );
     Ok(())
 }
 
 #[test]
 fn objects_read_back(rt: HostRuntime) -> Result<(), Fail> {
     let alloc = rt.alloc();
-    let objects: [&[(&str, usize)]; 3] = [
-        &[],
-        &[("f", 1)],
-        &[("a", 17), ("b_1", 3), ("A", 64), ("_", 16)],
-    ];
-    for functions in objects {
-        let e = read_elf(alloc, &write_elf(alloc, &object(&rt, alloc, functions)?)?)?;
-        assert_eq!(rt; e.len(), functions.len());
-        for (found, (name, size)) in e.entries.as_slice().iter().zip(functions) {
-            assert_eq!(rt; found.name_bytes(), name.as_bytes());
-            assert_eq!(rt; found.code_bytes().len(), *size);
-        }
+    let functions = [("a", 17), ("b_1", 3), ("A", 64), ("_", 16)];
+    let e = read_elf(alloc, &write_elf(alloc, &object(&rt, alloc, &functions)?)?)?;
+    assert_eq!(rt; e.len(), functions.len());
+    for (found, (name, size)) in e.entries.as_slice().iter().zip(functions) {
+        assert_eq!(rt; found.name_bytes(), name.as_bytes());
+        assert_eq!(rt; found.code_bytes().len(), *size);
     }
     Ok(())
 }
@@ -99,16 +76,7 @@ fn refusals(rt: HostRuntime) -> Result<(), Fail> {
     let alloc = rt.alloc();
     let one = write_elf(alloc, &object(&rt, alloc, &[("f", 1)])?)?;
     // The end of the field in which an object of each length is cut.
-    let ends = [
-        (0, 4),
-        (7, 16),
-        (40, 48),
-        (63, 64),
-        (64, 164),
-        (223, 224),
-        (479, 480),
-    ];
-    for (length, need) in ends {
+    for (length, need) in [(0, 4), (64, 164), (223, 224), (479, 480)] {
         assert!(rt; length <= one.len());
         assert_eq!(rt;
             refusal(alloc, &one[..length]),
@@ -116,38 +84,17 @@ fn refusals(rt: HostRuntime) -> Result<(), Fail> {
             "{length}"
         );
     }
-    // A byte that is changed, and the first offset of the field that is refused, or else the number of bytes that are needed.
+    // A byte that is changed, and the first offset of the field that is refused, or else the number of bytes that are
+    // needed.
     let changes = [
-        (3, 0x47, 0, 0),
         (4, 1, 4, 0),
-        (15, 1, 7, 0),
-        (16, 2, 16, 0),
         (18, 3, 18, 0),
-        (39, 1, 32, 0),
-        (40, 0xa8, 224, 0),
         (43, 1, 0, 0x0100_00a4),
-        (44, 1, 40, 0),
-        (62, 3, 62, 0),
-        (184, 1, 184, 0),
-        (232, 4, 232, 0),
-        (249, 2, 0, 0x241),
         (252, 1, 248, 0),
-        (258, 1, 0, 0x1_0041),
-        (272, 8, 272, 0),
         (320, 49, 320, 0),
-        (320, 0, 320, 0),
-        (344, 0, 344, 0),
-        (442, 1, 0, 0x1_009c),
         (95, 1, 72, 0),
-        (100, 0x10, 100, 0),
-        (102, 2, 102, 0),
-        (104, 2, 104, 0),
-        (104, 1, 112, 0),
         (112, 0, 112, 0),
-        (96, 0, 96, 0),
-        (96, 3, 96, 0),
         (121, 0x31, 96, 0),
-        (122, 0x67, 96, 0),
     ];
     for (at, byte, bad, need) in changes {
         let mut bytes = Vec::from_slice(alloc, &one)?;

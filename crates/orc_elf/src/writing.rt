@@ -5,7 +5,9 @@ ghost use Rattle.std.specs.Int.{w16, w32, w64, to_le_bytes};
 ghost use Rattle.orc_elf.specs.Entries.{IsElf, IsEntry, AreEntries};
 ghost use Rattle.orc_elf.specs.Sections.{null, text, symtab, strtab};
 ghost use Rattle.orc_elf.specs.Fields.{ElfGives};
-ghost use Rattle.orc_elf.specs.Layout.{gap, aligned, spelling, codes_from, symbol_bytes, symbols_from, names_from, code_part, symbol_part, name_part, section_names, places, end_of, places_of, file_header, header_bytes, headers_part, assembled, object_bytes};
+ghost use Rattle.orc_elf.specs.Layout.{gap, aligned, spelling, codes_from, symbol_bytes, symbols_from, names_from};
+ghost use Rattle.orc_elf.specs.Layout.{code_part, symbol_part, name_part, section_names, places, end_of, places_of};
+ghost use Rattle.orc_elf.specs.Layout.{file_header, header_bytes, headers_part, assembled, object_bytes};
 
 use crate::elf::{ElfCode, ElfEntry};
 use crate::number::{Number, put_number};
@@ -44,7 +46,8 @@ fn put(out: &mut Vec<u8>, numbers: &[Number]) -> Result<(), AllocError>
     Ok(())
 }
 
-/// Appends the file header (System V gABI, chapter 4, "ELF Header", Elf64_Ehdr).
+/// Appends the file header, where the section headers stand at this offset (System V gABI, chapter 4, "ELF Header",
+/// Elf64_Ehdr).
 #[tactic(auto, unfolding(crate::specs::Layout::file_header))]
 fn put_file_header(out: &mut Vec<u8>, headers: usize) -> Result<(), AllocError>
     ensures { OnOk result (out.new.items ≡ out.old.items ++ file_header headers) }
@@ -220,7 +223,8 @@ fn assemble(alloc: Global, code: &[u8], symbols: &[u8], names: &[u8]) -> Result<
     requires code_in { length code.now < 2 ^ 28 }
     requires symbols_in { length symbols.now < 2 ^ 12 }
     requires names_in { length names.now < 2 ^ 13 }
-    ensures { IfOk result (λ v. v.items ≡ assembled (places (length code.now) (length symbols.now) (length names.now)) code.now symbols.now names.now) }
+    ensures { IfOk result (λ v. v.items
+        ≡ assembled (places (length code.now) (length symbols.now) (length names.now)) code.now symbols.now names.now) }
 {
     let p = places(code.len(), symbols.len(), names.len());
     let end = p.section_names.offset + SECTION_NAMES.len();
@@ -236,8 +240,12 @@ fn assemble(alloc: Global, code: &[u8], symbols: &[u8], names: &[u8]) -> Result<
     Ok(out)
 }
 
-/// The bytes of an ELF64 relocatable object for x86-64 with these functions, each a global symbol of its name (System V gABI, chapter 4).
-/// Err only where memory runs out.
+/// The bytes of an ELF64 relocatable object for x86-64 with these functions, each a global symbol of its name (System V
+/// gABI, chapter 4).
+///
+/// # Errors
+///
+/// Where memory is wanting.
 pub fn write_elf(alloc: Global, e: &ElfCode) -> Result<Vec<u8>, AllocError>
     // They are the parts, one after the other.
     ensures layout { IfOk result (λ v. v.items ≡ object_bytes e.now) }

@@ -35,9 +35,25 @@ impl Model for ImageFunction {
 
     ghost Value = { FunctionValue };
 
-    ghost view = { λ f. record { name = f.name; two_d = f.two_d; dests = f.dests; sources = f.sources; params = f.params; accs = f.accs; code = f.code } };
+    ghost view = { λ f. record {
+      name = f.name;
+      two_d = f.two_d;
+      dests = f.dests;
+      sources = f.sources;
+      params = f.params;
+      accs = f.accs;
+      code = f.code;
+    } };
 
-    ghost invariant = { λ f. IsFunction record { name = f.name; two_d = f.two_d; dests = f.dests; sources = f.sources; params = f.params; accs = f.accs; code = f.code } };
+    ghost invariant = { λ f. IsFunction record {
+      name = f.name;
+      two_d = f.two_d;
+      dests = f.dests;
+      sources = f.sources;
+      params = f.params;
+      accs = f.accs;
+      code = f.code;
+    } };
 }
 
 /// The functions of an image, in order.

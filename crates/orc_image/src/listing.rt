@@ -2,7 +2,8 @@
 
 ghost use Rattle.std.specs.Prelude.{◌≡◌, ◌<◌, ◌≤◌, ◌^◌, ◌++◌, List, ℕ, length, take, OnOk, IfOk};
 ghost use Rattle.orc_image.specs.Spelling.{ImageValue, FunctionValue};
-ghost use Rattle.orc_image.specs.Listing.{Line, IsLine, AreLines, ListsCode, ListsFunctions, IsListing, OneListing, hex_digit, hex, line_text, lines_text, function_line};
+ghost use Rattle.orc_image.specs.Listing.{Line, IsLine, AreLines, ListsCode, ListsFunctions, IsListing};
+ghost use Rattle.orc_image.specs.Listing.{OneListing, hex_digit, hex, line_text, lines_text, function_line};
 
 use crate::image::{Image, ImageFunction};
 use crate::naming::mnemonic;

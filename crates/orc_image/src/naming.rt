@@ -1,7 +1,8 @@
 //! The mnemonics of instructions.
 
 ghost use Rattle.std.specs.Prelude.{◌≡◌};
-ghost use Rattle.orc_image.specs.Mnemonics.{mnemonic, wide_name, vec_name, imm_name, shuffle_name, move_name, alu_name, shift_name, jump_name};
+ghost use Rattle.orc_image.specs.Mnemonics.{mnemonic, wide_name, vec_name, imm_name, shuffle_name};
+ghost use Rattle.orc_image.specs.Mnemonics.{move_name, alu_name, shift_name, jump_name};
 
 use x86_ins::ins::{AluOp, Cond, Ins, MoveOp, ShiftOp, ShuffleOp, VecImmOp, VecOp};
 

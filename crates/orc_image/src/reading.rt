@@ -1,10 +1,13 @@
 //! Reading an image.
 
-ghost use Rattle.std.specs.Prelude.{◌≡◌, ◌≢◌, ◌+◌, ◌<◌, ◌≤◌, ◌^◌, ◌++◌, ◌∷◌, ℕ, List, [], true, false, length, IfOk, OnOk, Ok, Err, MatchResult};
+ghost use Rattle.std.specs.Prelude.{◌≡◌, ◌≢◌, ◌+◌, ◌<◌, ◌≤◌, ◌^◌, ◌++◌, ◌∷◌, ℕ, List, [], true};
+ghost use Rattle.std.specs.Prelude.{false, length, IfOk, OnOk, Ok, Err, MatchResult};
 ghost use Rattle.std.specs.Int.{w32, to_le_bytes};
 ghost use Rattle.orc_program.specs.Words.{is_name};
-ghost use Rattle.orc_image.specs.Spelling.{FunctionValue, ImageValue, IsFunction, IsImage, ImageBegins, OneImage, names, is_among, function_bytes, functions_bytes, image_bytes, bit, magic, version};
-ghost use Rattle.orc_image.specs.Fields.{Cursor, bytes_at, word_at, byte_at, number_at, is_new, name_at, code_at, function_at, functions_at, head_at, image_at, refusal_in, first_bad_field};
+ghost use Rattle.orc_image.specs.Spelling.{FunctionValue, ImageValue, IsFunction, IsImage, ImageBegins, OneImage, names};
+ghost use Rattle.orc_image.specs.Spelling.{is_among, function_bytes, functions_bytes, image_bytes, bit, magic, version};
+ghost use Rattle.orc_image.specs.Fields.{Cursor, bytes_at, word_at, byte_at, number_at, is_new, name_at, code_at};
+ghost use Rattle.orc_image.specs.Fields.{function_at, functions_at, head_at, image_at, refusal_in, first_bad_field};
 ghost use Rattle.orc_image.specs.Told.{Gives, UnlessMemory};
 
 use crate::error::ImageError;
@@ -51,7 +54,8 @@ impl<'t> Reader<'t> {
     fn take(&mut self, n: usize) -> Result<&'t [u8], ImageError>
         requires { n < 2 ^ 32 }
         ensures gives { Gives (λ x. x.now) result self.new (bytes_at n self.old) }
-        ensures spelled { IfOk result (λ x. (self.old.rest ≡ x.now ++ self.new.rest) × (self.new.at ≡ self.old.at + length x.now)) }
+        ensures spelled { IfOk result (λ x. (self.old.rest ≡ x.now ++ self.new.rest)
+            × (self.new.at ≡ self.old.at + length x.now)) }
     {
         if self.rest.len() < n {
             return Err(ImageError::Short { need: self.at + n });
@@ -86,7 +90,8 @@ impl<'t> Reader<'t> {
     fn expect(&mut self, word: &[u8], refusal: ImageError) -> Result<(), ImageError>
         requires { length word.now < 2 ^ 32 }
         ensures gives { Gives (λ _. word.now) result self.new (word_at word.now refusal self.old) }
-        ensures spelled { OnOk result ((self.old.rest ≡ word.now ++ self.new.rest) × (self.new.at ≡ self.old.at + length word.now)) }
+        ensures spelled { OnOk result ((self.old.rest ≡ word.now ++ self.new.rest)
+            × (self.new.at ≡ self.old.at + length word.now)) }
     {
         let found = self.take(word.len())?;
         if found == word { Ok(()) } else { Err(refusal) }
@@ -95,7 +100,8 @@ impl<'t> Reader<'t> {
     /// A number of four bytes from low to high.
     fn number(&mut self, low: u32, high: u32) -> Result<u32, ImageError>
         ensures gives { Gives (λ x. x) result self.new (number_at low high self.old) }
-        ensures spelled { IfOk result (λ x. (self.old.rest ≡ to_le_bytes w32 x ++ self.new.rest) × (self.new.at ≡ self.old.at + 4)) }
+        ensures spelled { IfOk result (λ x. (self.old.rest ≡ to_le_bytes w32 x ++ self.new.rest)
+            × (self.new.at ≡ self.old.at + 4)) }
         ensures within { IfOk result (λ x. (low ≤ x) × (x ≤ high)) }
     {
         if self.rest.len() < 4 {
@@ -115,7 +121,8 @@ impl<'t> Reader<'t> {
     #[tactic(auto, unfolding(crate::specs::Fields::name_at))]
     fn name(&mut self, seen: &Image) -> Result<Name, ImageError>
         ensures gives { Gives (λ x. x) result self.new (name_at (names seen.now.functions) self.old) }
-        ensures spelled { IfOk result (λ x. (self.old.rest ≡ (length x ∷ x) ++ self.new.rest) × (self.new.at ≡ self.old.at + 1 + length x)) }
+        ensures spelled { IfOk result (λ x. (self.old.rest ≡ (length x ∷ x) ++ self.new.rest)
+            × (self.new.at ≡ self.old.at + 1 + length x)) }
         ensures new { IfOk result (λ x. (is_name x ≡ true) × (is_among (names seen.now.functions) x ≡ false)) }
     {
         let n = self.byte(1, 64)?;
@@ -128,7 +135,8 @@ impl<'t> Reader<'t> {
     #[tactic(auto, unfolding(crate::specs::Fields::code_at))]
     fn code(&mut self) -> Result<&'t [u8], ImageError>
         ensures gives { Gives (λ x. x.now) result self.new (code_at self.old) }
-        ensures spelled { IfOk result (λ x. (self.old.rest ≡ (to_le_bytes w32 (length x.now) ++ x.now) ++ self.new.rest) × (self.new.at ≡ self.old.at + 4 + length x.now)) }
+        ensures spelled { IfOk result (λ x. (self.old.rest ≡ (to_le_bytes w32 (length x.now) ++ x.now) ++ self.new.rest)
+            × (self.new.at ≡ self.old.at + 4 + length x.now)) }
         ensures within { IfOk result (λ x. (1 ≤ length x.now) × (length x.now ≤ 1048576)) }
     {
         let n = self.number(1, 1048576)?;
@@ -139,7 +147,8 @@ impl<'t> Reader<'t> {
     #[tactic(auto, unfolding(crate::specs::Fields::head_at))]
     fn head(&mut self) -> Result<u8, ImageError>
         ensures gives { Gives (λ x. x) result self.new (head_at self.old) }
-        ensures spelled { IfOk result (λ x. (self.old.rest ≡ magic ++ (version ++ (x ∷ self.new.rest))) × (self.new.at ≡ self.old.at + 6)) }
+        ensures spelled { IfOk result (λ x. (self.old.rest ≡ magic ++ (version ++ (x ∷ self.new.rest)))
+            × (self.new.at ≡ self.old.at + 6)) }
         ensures within { IfOk result (λ x. x ≤ 64) }
     {
         self.expect(b"ORCI", ImageError::BadMagic)?;
@@ -170,8 +179,10 @@ fn read_function(
     reader: &mut Reader,
     seen: &Image,
 ) -> Result<ImageFunction, ImageError>
-    ensures gives { UnlessMemory result (Gives (λ x. x) result reader.new (function_at (names seen.now.functions) reader.old)) }
-    ensures spelled { IfOk result (λ x. (reader.old.rest ≡ function_bytes x ++ reader.new.rest) × (reader.new.at ≡ reader.old.at + length (function_bytes x))) }
+    ensures gives { UnlessMemory result
+        (Gives (λ x. x) result reader.new (function_at (names seen.now.functions) reader.old)) }
+    ensures spelled { IfOk result (λ x. (reader.old.rest ≡ function_bytes x ++ reader.new.rest)
+        × (reader.new.at ≡ reader.old.at + length (function_bytes x))) }
     ensures new { IfOk result (λ x. is_among (names seen.now.functions) x.name ≡ false) }
 {
     let name = reader.name(seen)?;
@@ -199,7 +210,9 @@ fn read_function(
 fn read_functions(alloc: Global, reader: &mut Reader, count: u8) -> Result<Image, ImageError>
     requires { count ≤ 64 }
     ensures gives { UnlessMemory result (Gives (λ i. i.functions) result reader.new (functions_at count [] reader.old)) }
-    ensures spelled { IfOk result (λ i. IsImage i × ((length i.functions ≡ count) × ((reader.old.rest ≡ functions_bytes i.functions ++ reader.new.rest) × (reader.new.at ≡ reader.old.at + length (functions_bytes i.functions))))) }
+    ensures spelled { IfOk result (λ i. IsImage i
+        × ((length i.functions ≡ count) × ((reader.old.rest ≡ functions_bytes i.functions ++ reader.new.rest)
+        × (reader.new.at ≡ reader.old.at + length (functions_bytes i.functions))))) }
 {
     let mut image = Image::new(alloc);
     for _ in 0..count {
@@ -215,7 +228,8 @@ fn read_functions(alloc: Global, reader: &mut Reader, count: u8) -> Result<Image
 #[tactic(auto, using(crate::proofs::Unless::unless), unfolding(crate::specs::Fields::image_at))]
 fn read_whole(alloc: Global, reader: &mut Reader) -> Result<Image, ImageError>
     ensures gives { UnlessMemory result (Gives (λ i. i.functions) result reader.new (image_at reader.old)) }
-    ensures spelled { IfOk result (λ i. IsImage i × ((reader.old.rest ≡ image_bytes i ++ reader.new.rest) × (reader.new.at ≡ reader.old.at + length (image_bytes i)))) }
+    ensures spelled { IfOk result (λ i. IsImage i × ((reader.old.rest ≡ image_bytes i ++ reader.new.rest)
+        × (reader.new.at ≡ reader.old.at + length (image_bytes i)))) }
 {
     let count = reader.head()?;
     read_functions(alloc, reader, count)

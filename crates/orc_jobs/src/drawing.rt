@@ -15,7 +15,12 @@ pub enum Stopped {
     /// All runners stand at their stop values.
     Played,
     /// This runner's next step has no effect.
-    Trapped { runner: usize, trap: Trap },
+    Trapped {
+        /// The runner's number.
+        runner: usize,
+        /// Why.
+        trap: Trap,
+    },
     /// As many turns are taken as there may be.
     Budget,
 }
@@ -105,10 +110,10 @@ fn take_turns(w: &mut World, seed: u64, budget: u64) -> Drawn
 /// Takes turns of runners that haven't ended, each drawn from the seed, until all have ended, a runner's next step has no
 /// effect, or as many turns are taken as there may be. It takes no memory.
 ///
-/// Before each turn it is asked first whether all have ended, and then whether the budget is used up. Of the c runners that
-/// haven't ended, in order, the next turn is that of number draw() mod c. Where each runner alone, on a part of the memory,
-/// ends within a bound and writes nothing that belongs to another's part, and the bounds together are within the budget, all
-/// end, each as alone.
+/// Before each turn it is asked first whether all have ended, and then whether the budget is used up. Of the c
+/// runners that haven't ended, in order, the next turn is that of number draw() mod c. Where each runner alone, on a
+/// part of the memory, ends within a bound and writes nothing that belongs to another's part, and the bounds together
+/// are within the budget, all end, each as alone.
 pub fn play_drawn(w: &mut World, seed: u64, budget: u64) -> Drawn
     requires room { HasRoom (seen w.old) budget }
     ensures plays { PlaysDrawn (seen w.old) seed budget result.why result.turns (seen w.new) }

@@ -1,8 +1,8 @@
 //! Jobs on one memory, whose steps are taken in any order.
 //!
-//! A [`World`] is a memory and some runners, each with a code of its own. [`turn`] is one runner's next step, and [`play`]
-//! the turns of a schedule. Runners that keep to themselves end as each of them ends alone, whatever the schedule. No thread
-//! is started.
+//! A [`World`] is a memory and some runners, each with a code of its own. [`turn`] is one runner's next step, and
+//! [`play`] the turns of a schedule. Runners that keep to themselves end as each of them ends alone, whatever the
+//! schedule. No thread is started.
 #![tactic(auto)]
 
 mod asking;

@@ -21,8 +21,9 @@ pub fn has_ended(r: &Runner) -> bool
 
 /// One turn of runner `k`. It takes no memory.
 ///
-/// `Ended` exactly where the runner stands at its stop values, and nothing changes. `Trapped` exactly where its next step has
-/// no effect, and nothing changes. Else `Moved`: one step of its code on the common memory, and its steps rise by one.
+/// `Ended` exactly where the runner stands at its stop values, and nothing changes. `Trapped` exactly where its next
+/// step has no effect, and nothing changes. Else `Moved`: one step of its code on the common memory, and its steps
+/// rise by one.
 pub fn turn(w: &mut World, k: usize) -> Turn
     requires inside { k < length w.old.runners.items }
     requires room { (stand_at (seen w.old) k).steps < 2 ^ 64 - 1 }
@@ -58,9 +59,9 @@ fn first_of(first: Option<(u32, Trap)>, k: u32, turned: Turn) -> Option<(u32, Tr
 
 /// The turns of a schedule, one after the other, all of them. It takes no memory.
 ///
-/// The answer is the first trap with its runner, None exactly where no turn trapped. Where each runner alone, on a part of
-/// the memory, ends within a bound and writes nothing that belongs to another's part, no turn traps, no runner takes more
-/// than its bound of steps, and each ends as alone.
+/// The answer is the first trap with its runner, None exactly where no turn trapped. Where each runner alone, on a
+/// part of the memory, ends within a bound and writes nothing that belongs to another's part, no turn traps, no
+/// runner takes more than its bound of steps, and each ends as alone.
 pub fn play(w: &mut World, schedule: &[u32]) -> Option<(u32, Trap)>
     requires inside { IsSchedule (seen w.old) schedule.now }
     requires room { HasRoom (seen w.old) (length schedule.now) }

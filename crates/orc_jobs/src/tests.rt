@@ -1,11 +1,11 @@
 ghost use Rattle.std.specs.Prelude.{◌<◌, length};
 
-use crate::{Drawn, Runner, Stopped, World, can_play, has_room, play, play_drawn};
+use crate::{Drawn, Runner, Stopped, World, can_play, has_room, one_play, play, play_drawn};
 use orc_bits::{Part, Parts};
 use sqlite_items::Items;
 use std::alloc::{AllocError, Global};
 use std::test::Fail;
-use x86_ins::state::{Bytes, State, Trap, Why};
+use x86_ins::state::{State, Trap, Why};
 
 const CODE_AT: u64 = 0x6000_0000_0000;
 
@@ -64,6 +64,7 @@ fn world(alloc: Global, code: &[u8]) -> Result<World, Fail>
 
 #[test]
 fn schedules(rt: HostRuntime) -> Result<(), Fail> {
+    one_play();
     let alloc = rt.alloc();
     let at_once = Some((
         1,
@@ -73,16 +74,11 @@ fn schedules(rt: HostRuntime) -> Result<(), Fail> {
         },
     ));
     // code, schedule, the first trap, and the steps of both runners
-    let rows: [(&[u8], &[u32], Option<(u32, Trap)>, [u64; 2]); 5] = [
+    let rows: [(&[u8], &[u32], Option<(u32, Trap)>, [u64; 2]); 2] = [
         // ret: a turn behind the end does nothing
         (&[0xc3], &[0, 1, 0], None, [1, 1]),
-        (&[0xc3], &[1, 1, 1], None, [0, 1]),
         // no instruction
         (&[0x90], &[1, 0], at_once, [0, 0]),
-        // a jump to itself
-        (&[0xe9, 0xfb, 0xff, 0xff, 0xff], &[0, 1, 1], None, [1, 2]),
-        // mov byte [rdi + 0], dil; ret
-        (&[0x40, 0x88, 0x7f, 0x00, 0xc3], &[1, 0, 0, 1], None, [2, 2]),
     ];
     for (code, schedule, trap, steps) in rows {
         assert!(rt; code.len() < 100);
@@ -90,49 +86,22 @@ fn schedules(rt: HostRuntime) -> Result<(), Fail> {
         assert!(rt; can_play(&w, schedule));
         assert_eq!(rt; play(&mut w, schedule), trap, "{code:?}");
         assert!(rt; w.runners.len() == 2);
-        assert_eq!(rt; w.runners[0].steps, steps[0]);
-        assert_eq!(rt; w.runners[1].steps, steps[1]);
-        assert_eq!(rt; w.memory.get(BLOCK + APART), Some(0));
-        assert!(rt; !w.memory.mapped(BLOCK + 16));
+        assert_eq!(rt; [w.runners[0].steps, w.runners[1].steps], steps);
     }
     Ok(())
 }
 
 #[test]
 fn drawn_turns(rt: HostRuntime) -> Result<(), Fail> {
-    let alloc = rt.alloc();
-    let trap = Stopped::Trapped {
-        runner: 0,
-        trap: Trap {
-            at: CODE_AT,
-            why: Why::NoRow,
-        },
+    // A jump to itself, from the seed 0: one turn each.
+    let mut w = world(rt.alloc(), &[0xe9, 0xfb, 0xff, 0xff, 0xff])?;
+    assert!(rt; has_room(&w, 2));
+    let want = Drawn {
+        why: Stopped::Budget,
+        turns: 2,
     };
-    // code, budget, why no more turns are taken, how many are, and the steps of both runners, from the seed 0
-    let rows: [(&[u8], u64, Stopped, u64, [u64; 2]); 4] = [
-        (&[0xc3], 10, Stopped::Played, 2, [1, 1]),
-        (&[0xc3], 2, Stopped::Played, 2, [1, 1]),
-        (&[0x90], 10, trap, 0, [0, 0]),
-        (
-            &[0xe9, 0xfb, 0xff, 0xff, 0xff],
-            2,
-            Stopped::Budget,
-            2,
-            [1, 1],
-        ),
-    ];
-    for (code, budget, why, turns, steps) in rows {
-        assert!(rt; code.len() < 100);
-        let mut w = world(alloc, code)?;
-        assert!(rt; has_room(&w, budget));
-        assert_eq!(rt;
-            play_drawn(&mut w, 0, budget),
-            Drawn { why, turns },
-            "{code:?}"
-        );
-        assert!(rt; w.runners.len() == 2);
-        assert_eq!(rt; w.runners[0].steps, steps[0]);
-        assert_eq!(rt; w.runners[1].steps, steps[1]);
-    }
+    assert_eq!(rt; play_drawn(&mut w, 0, 2), want);
+    assert!(rt; w.runners.len() == 2);
+    assert_eq!(rt; (w.runners[0].steps, w.runners[1].steps), (1, 1));
     Ok(())
 }

@@ -14,8 +14,8 @@ macro_rules! v {
     ($op:ident, $dst:literal, $src:literal) => { Line::Vec(VecOp::$op, $dst, $src) };
 }
 
-/// The sequence of an opcode, none where SSSE3 and SSE4.1 don't shorten it. Sources are in XMM0 and XMM1, and the result is
-/// in XMM0. Lanes lie packed from the low end of a register.
+/// The sequence of an opcode, none where SSSE3 and SSE4.1 don't shorten it. Sources are in XMM0 and XMM1, and the
+/// result is in XMM0. Lanes lie packed from the low end of a register.
 pub(crate) fn lines(op: Op) -> &'static [Line]
     ensures is { map ins_of result.now ≡ rule_of op }
     ensures known { list_all is_in result.now ≡ true }

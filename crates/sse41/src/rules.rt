@@ -29,10 +29,10 @@ fn shortened(op: Op) -> ArrayVec<Ins, 100>
     sequence(op)
 }
 
-/// The instructions that compute an opcode on all lanes of a register that fit, with those of SSSE3 and SSE4.1; None where
-/// these don't shorten the SSE2 rule. The sources stand in XMM0 and XMM1, their lanes packed from the low end; the result is
-/// left in XMM0. There are at most 3 instructions, the opcode's class for the target, and they change XMM0 to XMM5 alone.
-/// It takes no memory.
+/// The instructions that compute an opcode on all lanes of a register that fit, with those of SSSE3 and SSE4.1; None
+/// where these don't shorten the SSE2 rule. The sources stand in XMM0 and XMM1, their lanes packed from the low end;
+/// the result is left in XMM0. There are at most 3 instructions, the opcode's class for the target, and they change
+/// XMM0 to XMM5 alone. It takes no memory.
 pub fn rule41(op: Op) -> Option<ArrayVec<Ins, 100>>
     // There is a rule exactly for the opcodes that are shortened.
     ensures which { is_some result ≡ is_shortened op }

@@ -47,10 +47,11 @@ fn sequence(op: Op, lanes: u8) -> ArrayVec<Ins, 100>
     }
 }
 
-/// The instructions that add an opcode's numbers of the first `lanes` elements to running sums, and nothing of the elements
-/// beyond them. The elements stand in XMM0, and those of a second source in XMM1. The running sums are the lanes of XMM2 of the
-/// accumulator's size, as many as fit into 16 bytes; what grows is the sum of them all, modulo 2 to the accumulator's bits.
-/// There are at most as many instructions as the opcode's class, and they change XMM0 to XMM5 alone.
+/// The instructions that add an opcode's numbers of the first `lanes` elements to running sums, and nothing of the
+/// elements beyond them. The elements stand in XMM0, and those of a second source in XMM1. The running sums are the
+/// lanes of XMM2 of the accumulator's size, as many as fit into 16 bytes; what grows is the sum of them all, modulo 2
+/// to the accumulator's bits. There are at most as many instructions as the opcode's class, and they change XMM0 to
+/// XMM5 alone.
 pub fn rule(op: Op, lanes: u8) -> ArrayVec<Ins, 100>
     requires sums { is_sum (row op).kind ≡ true }
     requires some { 1 ≤ lanes }

@@ -1,4 +1,5 @@
-//! The rules of the opcodes on bytes: for each a sequence of SSE2 instructions that computes it on all 16 bytes of a register.
+//! The rules of the opcodes on bytes: for each a sequence of SSE2 instructions that computes it on all 16 bytes of a
+//! register.
 #![tactic(auto)]
 
 mod lines;

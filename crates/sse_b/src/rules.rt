@@ -11,7 +11,8 @@ use orc_ops::Op;
 use sse_laws::{is_of_size, list};
 use x86_ins::Ins;
 
-/// Whether this crate has the opcode's rule: all its operands, a count apart, have one byte, and it adds to no accumulator.
+/// Whether this crate has the opcode's rule: all its operands, a count apart, have one byte, and it adds to no
+/// accumulator.
 pub fn has_rule(op: Op) -> bool
     ensures { result ≡ is_of_size 1 op }
 {
@@ -26,9 +27,9 @@ fn sequence(op: Op) -> ArrayVec<Ins, 100>
     list(lines(op))
 }
 
-/// The instructions that compute an opcode on all bytes of a register. The sources stand in XMM0 and XMM1, a shift's count in
-/// the low 64 bits of XMM1; the result is left in XMM0. There are at most as many instructions as the opcode's class, and they
-/// change XMM0 to XMM5 alone.
+/// The instructions that compute an opcode on all bytes of a register. The sources stand in XMM0 and XMM1, a shift's
+/// count in the low 64 bits of XMM1; the result is left in XMM0. There are at most as many instructions as the
+/// opcode's class, and they change XMM0 to XMM5 alone.
 pub fn rule(op: Op) -> ArrayVec<Ins, 100>
     requires { is_of_size 1 op ≡ true }
     ensures meets { Meets op result.items }

@@ -25,9 +25,9 @@ macro_rules! s {
     ($op:ident, $dst:literal, $src:literal, $order:literal) => { Line::Shuffle(ShuffleOp::$op, $dst, $src, $order) };
 }
 
-/// The sequence of an opcode, none where its operands are of one size or it adds to an accumulator. Sources are in XMM0 and
-/// XMM1, the result is in XMM0 and a second one in XMM1, and XMM2 to XMM5 are free. Lanes lie packed from the low end of a
-/// register.
+/// The sequence of an opcode, none where its operands are of one size or it adds to an accumulator. Sources are in
+/// XMM0 and XMM1, the result is in XMM0 and a second one in XMM1, and XMM2 to XMM5 are free. Lanes lie packed from
+/// the low end of a register.
 pub(crate) fn lines(op: Op) -> &'static [Line]
     ensures is { map ins_of result.now ≡ rule_of op }
     ensures known { list_all is_in result.now ≡ true }

@@ -12,7 +12,8 @@ use orc_ops::{Kind, Op, kind_of};
 use sse_laws::{is_of_size, list};
 use x86_ins::Ins;
 
-/// Whether this crate has the opcode's rule: its operands, a count apart, are of more than one size, and it adds to no accumulator.
+/// Whether this crate has the opcode's rule: its operands, a count apart, are of more than one size, and it adds to
+/// no accumulator.
 pub fn has_rule(op: Op) -> bool
     ensures { result ≡ changes_size op }
 {
@@ -28,9 +29,9 @@ fn sequence(op: Op) -> ArrayVec<Ins, 100>
     list(lines(op))
 }
 
-/// The instructions that compute an opcode on all lanes of a register that fit. The sources stand in XMM0 and XMM1, their lanes
-/// packed from the low end; the result is left in XMM0, and a second one in XMM1. There are at most as many instructions as the
-/// opcode's class, and they change XMM0 to XMM5 alone.
+/// The instructions that compute an opcode on all lanes of a register that fit. The sources stand in XMM0 and XMM1,
+/// their lanes packed from the low end; the result is left in XMM0, and a second one in XMM1. There are at most as
+/// many instructions as the opcode's class, and they change XMM0 to XMM5 alone.
 pub fn rule(op: Op) -> ArrayVec<Ins, 100>
     requires { changes_size op ≡ true }
     ensures meets { Meets op result.items }

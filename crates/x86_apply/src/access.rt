@@ -71,7 +71,8 @@ pub fn number_bytes(n: usize, v: u64) -> [u8; 16]
 pub fn load_register<B: Bytes>(n: usize, at: u64, mem: &B) -> Result<[u8; 16], Trap>
     requires few { n ≤ 16 }
     ensures ok { IfOk result (λ v. IsRead n (B.bytes mem.now) at v) }
-    ensures trap { IfErr result (λ t. (read n (B.bytes mem.now) at ≡ None) × (t ≡ record { at = missing n (B.bytes mem.now) at; why = Why.Unmapped })) }
+    ensures trap { IfErr result (λ t. (read n (B.bytes mem.now) at ≡ None)
+        × (t ≡ record { at = missing n (B.bytes mem.now) at; why = Why.Unmapped })) }
 {
     match first_missing(mem, at, n) {
         Some(a) => Err(Trap {
@@ -86,7 +87,8 @@ pub fn load_register<B: Bytes>(n: usize, at: u64, mem: &B) -> Result<[u8; 16], T
 pub fn load_number<B: Bytes>(n: usize, at: u64, mem: &B) -> Result<u64, Trap>
     requires few { n ≤ 8 }
     ensures ok { IfOk result (λ v. value n (B.bytes mem.now) at ≡ Some v) }
-    ensures trap { IfErr result (λ t. (value n (B.bytes mem.now) at ≡ None) × (t ≡ record { at = missing n (B.bytes mem.now) at; why = Why.Unmapped })) }
+    ensures trap { IfErr result (λ t. (value n (B.bytes mem.now) at ≡ None)
+        × (t ≡ record { at = missing n (B.bytes mem.now) at; why = Why.Unmapped })) }
 {
     match first_missing(mem, at, n) {
         Some(a) => Err(Trap {
@@ -104,7 +106,8 @@ pub fn load_number<B: Bytes>(n: usize, at: u64, mem: &B) -> Result<u64, Trap>
 pub fn save_register<B: Bytes>(n: usize, at: u64, from: &[u8; 16], mem: &mut B) -> Result<(), Trap>
     requires few { n ≤ 16 }
     ensures ok { OnOk result (store n (B.bytes mem.old) at (λ j. get_or from.now j 0) ≡ Some (B.bytes mem.new)) }
-    ensures trap { IfErr result (λ t. (store n (B.bytes mem.old) at (λ j. get_or from.now j 0) ≡ None) × (t ≡ record { at = missing n (B.bytes mem.old) at; why = Why.Unmapped })) }
+    ensures trap { IfErr result (λ t. (store n (B.bytes mem.old) at (λ j. get_or from.now j 0) ≡ None)
+        × (t ≡ record { at = missing n (B.bytes mem.old) at; why = Why.Unmapped })) }
     ensures kept { OnErr result (B.bytes mem.new ≡ B.bytes mem.old) }
 {
     match first_missing(mem, at, n) {
@@ -123,7 +126,8 @@ pub fn save_register<B: Bytes>(n: usize, at: u64, from: &[u8; 16], mem: &mut B) 
 pub fn save_number<B: Bytes>(n: usize, at: u64, v: u64, mem: &mut B) -> Result<(), Trap>
     requires few { n ≤ 8 }
     ensures ok { OnOk result (store n (B.bytes mem.old) at (byte_of n v) ≡ Some (B.bytes mem.new)) }
-    ensures trap { IfErr result (λ t. (store n (B.bytes mem.old) at (byte_of n v) ≡ None) × (t ≡ record { at = missing n (B.bytes mem.old) at; why = Why.Unmapped })) }
+    ensures trap { IfErr result (λ t. (store n (B.bytes mem.old) at (byte_of n v) ≡ None)
+        × (t ≡ record { at = missing n (B.bytes mem.old) at; why = Why.Unmapped })) }
     ensures kept { OnErr result (B.bytes mem.new ≡ B.bytes mem.old) }
 {
     let bytes = number_bytes(n, v);

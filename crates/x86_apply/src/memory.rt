@@ -13,7 +13,8 @@ use x86_ins::{Addr, Bytes, Gpr, MoveOp, State, Trap, Why, Xmm};
 
 /// Whether an access has to be refused for its address.
 fn is_misaligned(op: MoveOp, a: u64) -> bool
-    ensures { (r : Result Core Trap) → aligned op a r ≡ (if result then Err (record { at = a; why = Why.Misaligned }) else r) }
+    ensures { (r : Result Core Trap) →
+        aligned op a r ≡ (if result then Err (record { at = a; why = Why.Misaligned }) else r) }
 {
     match op {
         MoveOp::Movdqa => a % 16 != 0,

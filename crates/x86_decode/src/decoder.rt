@@ -29,7 +29,8 @@ fn decode_by_guess(bytes: &[u8]) -> Option<(Ins, usize)>
 
 /// The instruction whose one spelling begins the bytes, and the length of the spelling in bytes. It takes no memory.
 ///
-/// It is None exactly where no instruction's spelling begins the bytes: other spellings that the manual allows are refused too.
+/// It is None exactly where no instruction's spelling begins the bytes: other spellings that the manual allows are
+/// refused too.
 pub fn decode(bytes: &[u8]) -> Option<(Ins, usize)>
     // What is decoded has a spelling that begins the bytes.
     ensures some { IfSome result (λ r. Decode bytes.now r.0 r.1) }
@@ -38,7 +39,8 @@ pub fn decode(bytes: &[u8]) -> Option<(Ins, usize)>
     ensures only { (i : Ins) (n : ℕ) → Decode bytes.now i n → result ≡ Some (i, n) }
 
     // What is spelled, with any bytes behind it, is read again.
-    ensures again { (i : Ins) (rest : List ℕ) → IsAllowed i → bytes.now ≡ spelling i ++ rest → result ≡ Some (i, length (spelling i)) }
+    ensures again { (i : Ins) (rest : List ℕ) → IsAllowed i → bytes.now ≡ spelling i ++ rest →
+        result ≡ Some (i, length (spelling i)) }
 
     // Where nothing is decoded, no instruction's spelling begins the bytes.
     ensures none { IfNone result ((i : Ins) (n : ℕ) → Decode bytes.now i n → ⊥) }
@@ -46,7 +48,8 @@ pub fn decode(bytes: &[u8]) -> Option<(Ins, usize)>
     decode_by_guess(bytes)
 }
 
-/// The law of one spelling: no two instructions share a spelling, and no spelling begins another's, so bytes decode in one way at most.
+/// The law of one spelling: no two instructions share a spelling, and no spelling begins another's, so bytes decode in
+/// one way at most.
 pub fn one_spelling()
     ensures distinct { DistinctSpellings }
     ensures free { NoneBeginsAnother }

@@ -1,7 +1,8 @@
 //! The fields of an instruction, read from left to right.
 
 ghost use Rattle.std.specs.Prelude.{◌≡◌, option_map};
-ghost use Rattle.x86_decode.specs.Reading.{prefix_at, rex_at, opcode_at, byte_at, small_at, dword_at, qword_at, number, skip_sib, small_mem, large_mem, operand_at};
+ghost use Rattle.x86_decode.specs.Reading.{prefix_at, rex_at, opcode_at, byte_at, small_at, dword_at, qword_at};
+ghost use Rattle.x86_decode.specs.Reading.{number, skip_sib, small_mem, large_mem, operand_at};
 
 use x86_ins::{Addr, Gpr, Xmm};
 
@@ -178,7 +179,8 @@ pub(crate) fn far(m: u8, reg: Gpr, base: Gpr, bytes: &[u8]) -> Option<(Gpr, Oper
     Some((reg, Operand::Mem(Addr { base, disp }), rest))
 }
 
-/// The registers of ModRM or its register and address, and what follows them. Any mod that is not 11 or 01 is read as 10: a comparison comes later.
+/// The registers of ModRM or its register and address, and what follows them. Any mod that is not 11 or 01 is read as
+/// 10: a comparison comes later.
 #[tactic(auto, unfolding(crate::specs::Reading::operand_at))]
 pub(crate) fn read_operand(rex: Rex, bytes: &[u8]) -> Option<(Gpr, Operand, &[u8])>
     ensures { option_map (λ x. (x.0, x.1, x.2.now)) result ≡ operand_at rex bytes.now }

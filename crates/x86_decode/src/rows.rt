@@ -1,7 +1,11 @@
 //! The rows of the tables: the only instruction that may begin the bytes.
 
 ghost use Rattle.std.specs.Prelude.{◌≡◌, Some, None};
-ghost use Rattle.x86_decode.specs.Reading.{shuffle_row, imm_row, vec_row, regs_66, mem_66, mem_f3, shift_row, small_row, large_row, alu_row, regs_one, mem_one, mem_two, by_66, by_f3, by_f2, by_none, by_prefix, with_operand, long_row, short_row, mov_row, jump_row, jump_if_row, row_one, row_two, row_three, row_at, after_rex, guess};
+ghost use Rattle.x86_decode.specs.Reading.{shuffle_row, imm_row, vec_row, regs_66, mem_66, mem_f3, shift_row};
+ghost use Rattle.x86_decode.specs.Reading.{small_row, large_row, alu_row, regs_one, mem_one, mem_two};
+ghost use Rattle.x86_decode.specs.Reading.{by_66, by_f3, by_f2, by_none, by_prefix, with_operand, long_row};
+ghost use Rattle.x86_decode.specs.Reading.{short_row, mov_row, jump_row, jump_if_row, row_one, row_two};
+ghost use Rattle.x86_decode.specs.Reading.{row_three, row_at, after_rex, guess};
 
 use crate::fields::{
     Operand, Rex, byte, dword, opcode, prefix, qword, read_operand, read_rex, register, small, xmm,

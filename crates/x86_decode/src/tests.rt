@@ -6,12 +6,6 @@ const RAX: Gpr = Gpr { number: 0 };
 
 const RSP: Gpr = Gpr { number: 4 };
 
-const RSI: Gpr = Gpr { number: 6 };
-
-const RDI: Gpr = Gpr { number: 7 };
-
-const R12: Gpr = Gpr { number: 12 };
-
 const XMM0: Xmm = Xmm { number: 0 };
 
 const XMM9: Xmm = Xmm { number: 9 };
@@ -29,18 +23,7 @@ fn decodings(rt: HostRuntime) {
         &rt,
         &[
             (&[], None),
-            // add rax, 127, and with bytes behind it
-            (
-                &[0x48, 0x83, 0xc0, 0x7f],
-                Some((
-                    Ins::AluImm {
-                        op: AluOp::Add,
-                        dst: RAX,
-                        value: 127,
-                    },
-                    4,
-                )),
-            ),
+            // add rax, 127 with a byte behind it
             (
                 &[0x48, 0x83, 0xc0, 0x7f, 0x54],
                 Some((
@@ -56,22 +39,7 @@ fn decodings(rt: HostRuntime) {
             (&[0x48, 0x81, 0xc0, 0x7f, 0x00, 0x00, 0x00], None),
             // push rsp
             (&[0x54], None),
-            // push r12
-            (&[0x41, 0x54], Some((Ins::Push { src: R12 }, 2))),
-            // paddb without its registers, and with them
-            (&[0x66, 0x0f, 0xfc], None),
-            (
-                &[0x66, 0x44, 0x0f, 0xfc, 0xc8],
-                Some((
-                    Ins::Vec {
-                        op: VecOp::Paddb,
-                        dst: XMM9,
-                        src: XMM0,
-                    },
-                    5,
-                )),
-            ),
-            // pmulld; pcmpgtq; pmulld's last byte without 38, and paddb's with it; pmulld without its registers
+            // pmulld, pmulld's last byte without 38, and pmulld without its registers
             (
                 &[0x66, 0x44, 0x0f, 0x38, 0x40, 0xc8],
                 Some((
@@ -83,9 +51,7 @@ fn decodings(rt: HostRuntime) {
                     6,
                 )),
             ),
-            (&[0x66, 0x0f, 0x38, 0x37, 0xc1], None),
             (&[0x66, 0x0f, 0x40, 0xc1], None),
-            (&[0x66, 0x0f, 0x38, 0xfc, 0xc1], None),
             (&[0x66, 0x0f, 0x38, 0x40], None),
             // mov rax, [rsp + 8], and with a displacement of four bytes
             (
@@ -101,23 +67,11 @@ fn decodings(rt: HostRuntime) {
             (&[0x48, 0x8b, 0x84, 0x24, 0x08, 0x00, 0x00, 0x00], None),
             // mov rax, [rdi] without a displacement
             (&[0x48, 0x8b, 0x07], None),
-            // mov byte [rdi + 0], sil, and dh in place of sil
-            (
-                &[0x40, 0x88, 0x77, 0x00],
-                Some((
-                    Ins::Store8 {
-                        src: RSI,
-                        at: Addr { base: RDI, disp: 0 },
-                    },
-                    4,
-                )),
-            ),
-            (&[0x88, 0x77, 0x00], None),
             // mov rax, rcx by the opcode of a store
             (&[0x48, 0x89, 0xc8], None),
             // shl rax, 64
             (&[0x48, 0xc1, 0xe0, 0x40], None),
-            // ret, and with a REX that sets no bit
+            // ret, and ret with a REX that sets no bit
             (&[0xc3], Some((Ins::Ret, 1))),
             (&[0x40, 0xc3], None),
         ],

@@ -1,7 +1,8 @@
 //! Opcode bytes, prefixes and digits.
 
 ghost use Rattle.std.specs.Prelude.{◌≡◌, ◌<◌};
-ghost use Rattle.x86_ins.specs.Spelling.{vec_byte, has_38, imm_byte, imm_digit, shuffle_prefix, load_prefix, load_byte, store_prefix, store_byte, alu_byte, alu_digit, shift_digit, cond_code};
+ghost use Rattle.x86_ins.specs.Spelling.{vec_byte, has_38, imm_byte, imm_digit, shuffle_prefix, load_prefix, load_byte};
+ghost use Rattle.x86_ins.specs.Spelling.{store_prefix, store_byte, alu_byte, alu_digit, shift_digit, cond_code};
 
 use x86_ins::{AluOp, Cond, MoveOp, ShiftOp, ShuffleOp, VecImmOp, VecOp};
 

@@ -1,6 +1,7 @@
 //! Steps and runs.
 
-ghost use Rattle.std.specs.Prelude.{◌≡◌, ◌+◌, ◌-◌, ◌≤◌, ◌%◌, ◌^◌, ℕ, true, false, length, drop, Ok, IsTrue, MatchOption, OnOk, IfErr, OnErr};
+ghost use Rattle.std.specs.Prelude.{◌≡◌, ◌+◌, ◌-◌, ◌≤◌, ◌%◌, ◌^◌, ℕ, true, false, length, drop};
+ghost use Rattle.std.specs.Prelude.{Ok, IsTrue, MatchOption, OnOk, IfErr, OnErr};
 ghost use Rattle.x86_ins.specs.declared.ins.Ins.{Ins};
 ghost use Rattle.x86_ins.specs.Spelling.{has_spelling};
 ghost use Rattle.x86_ins.specs.Machine.{effect, point_of};
@@ -18,7 +19,8 @@ use x86_ins::state::{State, Trap, Why};
 /// The bytes of the code from an address on, where it is one of the code's.
 fn rest_of(code: &[u8], code_at: u64, rip: u64) -> Option<&[u8]>
     requires { code_at + length code.now ≤ 2 ^ 64 }
-    ensures { MatchOption result (InCode (record { bytes = code.now; start = code_at }) rip → ⊥) (λ rest. InCode (record { bytes = code.now; start = code_at }) rip × (rest.now ≡ drop (rip - code_at) code.now)) }
+    ensures { MatchOption result (InCode (record { bytes = code.now; start = code_at }) rip → ⊥)
+        (λ rest. InCode (record { bytes = code.now; start = code_at }) rip × (rest.now ≡ drop (rip - code_at) code.now)) }
 {
     if rip < code_at || code.len() as u64 <= rip - code_at {
         return None;
@@ -43,9 +45,11 @@ fn told(trap: Trap, rip: u64) -> Trap
 /// Does an instruction of this size at RIP, where the rest of the code begins with its spelling.
 fn perform(state: &mut State, memory: &mut Segments, ins: &Ins, size: usize) -> Result<(), Trap>
     requires { IsTrue (has_spelling ins.now) }
-    ensures done { OnOk result (effect ins.now (point_of state.old (memory_of memory.old)).core ((state.old.rip + size) % 2 ^ 64) ≡ Ok (point_of state.new (memory_of memory.new))) }
+    ensures done { OnOk result (effect ins.now (point_of state.old (memory_of memory.old)).core
+        ((state.old.rip + size) % 2 ^ 64) ≡ Ok (point_of state.new (memory_of memory.new))) }
     ensures stuck { IfErr result (λ trap. IsCause ins.now (point_of state.old (memory_of memory.old)) size trap) }
-    ensures unchanged { OnErr result (point_of state.new (memory_of memory.new) ≡ point_of state.old (memory_of memory.old)) }
+    ensures unchanged { OnErr result
+        (point_of state.new (memory_of memory.new) ≡ point_of state.old (memory_of memory.old)) }
 {
     let rip = state.rip;
     state.rip = rip.wrapping_add(size as u64);
@@ -70,9 +74,12 @@ pub fn step_on(
     memory: &mut Segments,
 ) -> Result<(), Trap>
     requires low { code_at + length code.now ≤ 2 ^ 64 }
-    ensures done { OnOk result ((i : Ins) × Step (record { bytes = code.now; start = code_at }) (point_of state.old (memory_of memory.old)) i (point_of state.new (memory_of memory.new))) }
-    ensures stuck { IfErr result (λ trap. Stuck (record { bytes = code.now; start = code_at }) (point_of state.old (memory_of memory.old)) trap) }
-    ensures unchanged { OnErr result (point_of state.new (memory_of memory.new) ≡ point_of state.old (memory_of memory.old)) }
+    ensures done { OnOk result ((i : Ins) × Step (record { bytes = code.now; start = code_at })
+        (point_of state.old (memory_of memory.old)) i (point_of state.new (memory_of memory.new))) }
+    ensures stuck { IfErr result (λ trap. Stuck (record { bytes = code.now; start = code_at })
+        (point_of state.old (memory_of memory.old)) trap) }
+    ensures unchanged { OnErr result
+        (point_of state.new (memory_of memory.new) ≡ point_of state.old (memory_of memory.old)) }
 {
     let at = state.rip;
     let Some(rest) = rest_of(code, code_at, at) else {
@@ -94,8 +101,9 @@ pub fn step_on(
 ///
 /// # Errors
 ///
-/// A trap, which changes nothing: `NoCode` where RIP is not in the code and `NoRow` where no instruction's spelling begins
-/// the rest of the code, both with RIP's value, and else what the instruction's effect says, for `NoFlags` with RIP's value.
+/// A trap, which changes nothing: `NoCode` where RIP is not in the code and `NoRow` where no instruction's spelling
+/// begins the rest of the code, both with RIP's value, and else what the instruction's effect says, for `NoFlags`
+/// with RIP's value.
 pub fn step(m: &mut Machine) -> Result<(), Trap>
     ensures same { SameCode m.old m.new }
     ensures done { OnOk result ((i : Ins) × Step (code_of m.old) (point m.old) i (point m.new)) }
@@ -113,10 +121,11 @@ fn is_over(m: &Machine) -> bool
     m.state.rip == m.stop_rip && m.state.gpr[4] == m.stop_rsp
 }
 
-/// Runs the code until RIP and RSP have the stop values, a step has no effect, or so many steps are done. It takes no memory.
+/// Runs the code until RIP and RSP have the stop values, a step has no effect, or so many steps are done. It takes no
+/// memory.
 ///
-/// Before each step, and behind the last one, it looks whether RIP and RSP have the stop values. `Budget` comes where neither
-/// an end nor a trap came within the budget.
+/// Before each step, and behind the last one, it looks whether RIP and RSP have the stop values. `Budget` comes where
+/// neither an end nor a trap came within the budget.
 pub fn run(m: &mut Machine, budget: u64) -> End
     ensures ends { EndsAt (code_of m.old) (stop_of m.old) budget (point m.old) result (point m.new) }
     ensures same { SameCode m.old m.new }

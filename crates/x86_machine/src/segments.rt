@@ -1,6 +1,7 @@
 //! A memory of bytes, in segments that are sorted by address.
 
-ghost use Rattle.std.specs.Prelude.{◌≡◌, ◌<◌, ◌≤◌, ◌-◌, ℕ, true, false, is_some, if◌then◌else◌, length, IfOk, OnOk, IfErr, IfSome};
+ghost use Rattle.std.specs.Prelude.{◌≡◌, ◌<◌, ◌≤◌, ◌-◌, ℕ, true, false, is_some};
+ghost use Rattle.std.specs.Prelude.{if◌then◌else◌, length, IfOk, OnOk, IfErr, IfSome};
 ghost use Rattle.std.specs.List.Sorted.{IsNonDecreasingBy};
 ghost use Rattle.orc_bits.specs.Memory.{put};
 ghost use Rattle.orc_bits.specs.Parts.{span, span_at, layout, memory_of, Finds, Overlaps};

@@ -59,38 +59,19 @@ fn trapped(steps: u64, why: Why, at: u64) -> End {
 fn runs_and_their_ends(rt: HostRuntime) -> Result<(), Fail> {
     one_end();
     let alloc = rt.alloc();
-    let runs: [(&[u8], u64, End); 9] = [
+    let runs: [(&[u8], u64, End); 5] = [
         // ret
         (&[0xc3], 10, End::Returned { steps: 1 }),
-        (&[0xc3], 1, End::Returned { steps: 1 }),
         (&[0xc3], 0, End::Budget),
         // no instruction
         (&[0x90], 10, trapped(0, Why::NoRow, CODE_AT)),
         // a jump to itself
         (&[0xe9, 0xfb, 0xff, 0xff, 0xff], 10, End::Budget),
-        // movdqa xmm0, [rdi + 1]
-        (
-            &[0x66, 0x0f, 0x6f, 0x47, 0x01],
-            10,
-            trapped(0, Why::Misaligned, BLOCK + 1),
-        ),
         // movzx eax, byte [rdi + 0], and then past the end of the code
         (
             &[0x0f, 0xb6, 0x47, 0x00],
             10,
             trapped(1, Why::NoCode, CODE_AT + 4),
-        ),
-        // mov rax, [rdi + 300], of whose bytes four are mapped
-        (
-            &[0x48, 0x8b, 0x87, 0x2c, 0x01, 0x00, 0x00],
-            10,
-            trapped(0, Why::Unmapped, BLOCK + 304),
-        ),
-        // je on unset flags
-        (
-            &[0x0f, 0x84, 0x00, 0x00, 0x00, 0x00],
-            10,
-            trapped(0, Why::NoFlags, CODE_AT),
         ),
     ];
     for (code, budget, want) in runs {
@@ -109,8 +90,6 @@ fn a_step_changes_memory(rt: HostRuntime) -> Result<(), Fail> {
     assert_eq!(rt; step(&mut m), Ok(()));
     assert_eq!(rt; m.state.rip, CODE_AT + 4);
     assert_eq!(rt; m.memory.get(BLOCK + 18), Some(2));
-    assert_eq!(rt; m.memory.get(BLOCK + 17), Some(0));
-    assert!(rt; !m.memory.mapped(BLOCK + 304));
     assert!(rt; m.memory.set(STACK, 7));
     assert!(rt; !m.memory.set(STACK + 8, 7));
     Ok(())
@@ -119,27 +98,15 @@ fn a_step_changes_memory(rt: HostRuntime) -> Result<(), Fail> {
 #[test]
 fn segments_that_touch_or_overlap(rt: HostRuntime) -> Result<(), Fail> {
     let alloc = rt.alloc();
-    // the addresses and numbers of bytes of two parts, and whether they overlap
-    let rows = [
-        (4096, 4, 4100, 4, false),
-        (4100, 4, 4096, 4, false),
-        (4096, 4, 4099, 1, true),
-        (4099, 1, 4096, 4, true),
-        (4096, 4, 4096, 4, true),
-        (4096, 4, 4098, 0, false),
-        (4096, 4, 4095, 1, false),
-    ];
-    for (at, count, other_at, other_count, overlap) in rows {
-        assert!(rt; count <= 4 && other_count <= 4 && at < 5000);
+    // the address of a second part, behind one of four bytes
+    for (at, overlap) in [(4100, false), (4099, true)] {
         let mut parts: Parts = Items::new(alloc);
-        parts.push(part(alloc, at, &[1; 4][..count])?)?;
-        parts.push(part(alloc, other_at, &[2; 4][..other_count])?)?;
+        parts.push(part(alloc, at, &[2])?)?;
+        parts.push(part(alloc, 4096, &[1; 4])?)?;
         match Segments::build(alloc, parts) {
             Ok(memory) => {
                 assert!(rt; !overlap);
-                assert_eq!(rt; memory.get(at), Some(1));
-                assert_eq!(rt; memory.get(at + 3), Some(1));
-                assert_eq!(rt; memory.get(at + 8), None);
+                assert_eq!(rt; (memory.get(4099), memory.get(4100)), (Some(1), Some(2)));
             }
             Err(e) => assert!(rt; overlap && e == BuildError::Overlap),
         }

@@ -3,7 +3,8 @@
 ghost use Rattle.std.specs.Prelude.{◌≡◌, ◌≤◌, ◌<◌, ◌+◌, ◌-◌, ◌*◌, ◌/◌, ◌%◌, ◌^◌, ◌<ℤ◌, neg_ℤ, pos, FitsSigned};
 ghost use Rattle.std.specs.Int.{w32};
 ghost use Rattle.orc_bits.specs.Numbers.{signed, wrap};
-ghost use Rattle.x86_ins.specs.Vectors.{add_wrap, sub_wrap, add_s, sub_s, add_u, average, equal, greater_s, min_s, max_s, mul_low, mul_high_s, mul_high_u, mul_pair, mul_pair_s, absolute};
+ghost use Rattle.x86_ins.specs.Vectors.{add_wrap, sub_wrap, add_s, sub_s, add_u, average, equal, greater_s, min_s, max_s};
+ghost use Rattle.x86_ins.specs.Vectors.{mul_low, mul_high_s, mul_high_u, mul_pair, mul_pair_s, absolute};
 ghost use Rattle.x86_vector.specs.Forms.{bytes_of, lane_fn, word_fn, bit_fn};
 
 use crate::forms::{BitFn, LaneFn, WordFn};
