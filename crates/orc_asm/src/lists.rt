@@ -293,7 +293,15 @@ fn push_action(
 {
     let results = step.results.as_slice();
     let homes = homes_of(at, results);
-    push_sources(list, at, sizes, layout, step.sources.as_slice(), &homes, span)?;
+    push_sources(
+        list,
+        at,
+        sizes,
+        layout,
+        step.sources.as_slice(),
+        &homes,
+        span,
+    )?;
     push_sum(list, at, sizes, layout, results, span.count)?;
     push_rule(list, at, step.op, results, &homes, span.count)?;
     push_results(list, at, sizes, layout, results, span)
