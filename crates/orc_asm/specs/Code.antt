@@ -1,5 +1,5 @@
 -- The code of a function: the compiler's plan.
-use Rattle.std.specs.Prelude.{◌≡◌, ◌≢◌, ℕ, zero, suc, ◌+◌, ◌*◌, ◌/◌, ◌<◌, ◌≤◌, ◌==◌, Bool, true, false, if◌then◌else◌, pos, List, [], ◌∷◌, ◌++◌, length, map, slice_index}
+use Rattle.std.specs.Prelude.{◌≡◌, ◌≢◌, ℕ, zero, suc, ◌+◌, ◌*◌, ◌/◌, ◌<◌, ◌≤◌, ◌==◌, ◌&&◌, nat_lt, Bool, true, false, if◌then◌else◌, pos, List, [], ◌∷◌, ◌++◌, length, map, slice_index}
 use Rattle.x86_ins.specs.declared.ins.AluOp.TheVariants.{Add, Sub}
 use Rattle.x86_ins.specs.declared.ins.Ins.{Ins}
 use Rattle.x86_ins.specs.declared.ins.Ins.TheVariants.{AluImm, Vec, VecLoad, VecStore}
@@ -14,6 +14,7 @@ use Rattle.orc_program.specs.declared.program.VarKind.TheVariants as kind
 use Rattle.orc_program.specs.declared.program.Pattern.{Pattern}
 use Rattle.orc_program.specs.Program.{FunctionValue, count_of}
 use Rattle.orc_program.specs.Checks.{patterns_of}
+use Rattle.orc_program.specs.Need.{lanes}
 use Rattle.orc_program.specs.Slots.{size_of_slot}
 use Rattle.orc_plan.specs.declared.steps.Item.{Item}
 use Rattle.orc_plan.specs.declared.steps.Item.TheVariants as item
@@ -21,6 +22,9 @@ use Rattle.orc_plan.specs.declared.steps.Step.{Step}
 use Rattle.orc_plan.specs.Places.{GoodPlaces}
 use Rattle.orc_plan.specs.Lowered.{steps_of}
 use Rattle.orc_asm.specs.declared.span.Span.{Span}
+use Rattle.orc_asm.specs.Regions.{aligned_row, plain_row}
+use Rattle.x86_ins.specs.declared.ins.Cond.TheVariants.{Ns}
+use Rattle.x86_flow.specs.Flow.{Flow, Plain, Repeat}
 use Rattle.x86_flow.specs.Moves.{IsWidth, away, load_far_code, store_either_code}
 use Rattle.orc_frame.specs.declared.frame.Layout.{Layout}
 use Rattle.orc_frame.specs.Layout.{pattern_slot, sum_slot}
@@ -266,15 +270,49 @@ AddsActions at size span steps old new =
     (actions : List Action) × AreActions at span.count steps actions × (new ≡ old ++ actions_far_code span.count size (far_by span.first size) (aligned_first span.aligned) actions)
 
 -- a turn of steps with these places, by the sizes of array slots
-abbrev pub IsTurnBy : List ℕ → List ℕ → List Step → ℕ → ℕ → ℕ → List Ins → Type 0
-IsTurnBy at sizes steps dests sources count list =
-    (actions : List Action) × AreActions at count steps actions
-    × (list ≡ actions_far_code count (slice_index sizes) (far_by 0 (slice_index sizes)) (aligned_first false) actions ++ (advance_code (slice_index sizes) count 0 dests ++ (advance_code (slice_index sizes) count 4 sources ++ AluImm Sub 1 (pos count) ∷ [])))
+abbrev pub IsTurnBy : List ℕ → List ℕ → List Step → ℕ → ℕ → Span → List Ins → Type 0
+IsTurnBy at sizes steps dests sources span list =
+    (actions : List Action) × AreActions at span.count steps actions
+    × (list ≡ actions_far_code span.count (slice_index sizes) (far_by span.first (slice_index sizes)) (aligned_first span.aligned) actions ++ (advance_code (slice_index sizes) span.count 0 dests ++ (advance_code (slice_index sizes) span.count 4 sources ++ AluImm Sub 1 (pos span.count) ∷ [])))
 
--- a turn of a function's code, by some good places of its values
-abbrev pub IsTurn : FunctionValue → ℕ → List Ins → Type 0
-IsTurn f count list =
-    (at : List ℕ) × GoodPlaces (steps_of f) at × ((actions : List Action) × AreActions at count (steps_of f) actions × (list ≡ turn_code (plan_with f actions) count))
+-- so many elements from the one that the pointers are at, with aligned stores to the first dest or without
+abbrev pub span_of : ℕ → Bool → Span
+span_of count aligned = record { first = 0; count = count; aligned = aligned }
+
+-- a turn of so many elements of a function's code, by these places of its values
+abbrev pub IsTurn : FunctionValue → List ℕ → ℕ → List Ins → Type 0
+IsTurn f at count list = (actions : List Action) × AreActions at count (steps_of f) actions × (list ≡ turn_code (plan_with f actions) count)
+
+-- and one that stores the first dest aligned
+abbrev pub IsAlignedTurn : FunctionValue → List ℕ → ℕ → List Ins → Type 0
+IsAlignedTurn f at count list = (actions : List Action) × AreActions at count (steps_of f) actions × (list ≡ blocks_turn_code (plan_with f actions) (aligned_first true) count 1)
+
+-- ---- the elements of a row
+
+-- the size of an element as a power of two
+abbrev pub shift_of : ℕ → ℕ
+shift_of size = if size == 8 then 3 else (if size == 4 then 2 else (if size == 2 then 1 else 0))
+
+-- there is a first dest, of which so many elements fill a register
+abbrev pub is_filled : ℕ → ℕ → ℕ → Bool
+is_filled dests lanes size = nat_lt 0 dests && lanes * size == 16
+
+-- the loops over a row's elements, by turns of one element, of `lanes` and of `lanes` with aligned stores
+abbrev pub elements_flow : Bool → ℕ → ℕ → List Ins → List Ins → List Ins → Flow
+elements_flow true shift lanes single wide aligned = aligned_row shift lanes (Plain single) (Repeat Ns (Plain wide)) (Repeat Ns (Plain aligned))
+elements_flow false shift lanes single wide aligned = plain_row lanes (Plain single) (Repeat Ns (Plain wide))
+
+-- the turns of a function's code by some good places of its values
+pub record Turns (f : FunctionValue) (single wide aligned : List Ins) : Type 0 where
+  pub at : List ℕ
+  pub good : GoodPlaces (steps_of f) at
+  pub one : IsTurn f at 1 single
+  pub more : IsTurn f at (lanes f) wide
+  pub stored : IsAlignedTurn f at (lanes f) aligned
+
+abbrev pub elements_of : FunctionValue → List Ins → List Ins → List Ins → Flow
+elements_of f single wide aligned =
+    elements_flow (is_filled (count_of kind.Dest f.vars) (lanes f) (size_of_slot f.vars 0)) (shift_of (size_of_slot f.vars 0)) (lanes f) single wide aligned
 
 -- ---- steps whose code can be given for so many elements
 
