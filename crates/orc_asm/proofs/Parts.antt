@@ -1,5 +1,5 @@
 -- A function's code in a good call: the lists around its rows, and the turns over the elements of a row.
-use Rattle.std.proofs.Common.{◌≡◌, ℕ, ◌+◌, ◌-◌, ◌*◌, ◌/◌, ◌%◌, ◌^◌, ◌<◌, ◌≤◌, true, true≢false, List, [], length, get_or, slice_index, Some, is_some, Ok, refl, lit<, sym, ap, ap₂, ◌∙◌, subst, arith, inl, inr, ⊎_elim}
+use Rattle.std.proofs.Common.{◌≡◌, ℕ, Bool, ◌+◌, ◌-◌, ◌*◌, ◌/◌, ◌%◌, ◌^◌, ◌<◌, ◌≤◌, true, false, true≢false, List, [], length, get_or, slice_index, Some, is_some, Ok, refl, lit<, sym, ap, ap₂, ◌∙◌, subst, arith, inl, inr, ⊎_elim}
 use Rattle.std.proofs.Math.Nat.{zero-mod, zero-div}
 use Rattle.orc_bits.specs.Memory.{Memory, word, IsMapped}
 use Rattle.orc_bits.specs.Numbers.{cut}
@@ -35,15 +35,19 @@ use Rattle.orc_frame.specs.GoodCall.{GoodCall}
 use Rattle.orc_frame.specs.Function.{IsCellByte, subject_of}
 use Rattle.orc_plan.specs.Lowered.{steps_of}
 use Rattle.orc_plan.specs.Standing.{AllStand}
-use Rattle.orc_asm.specs.Code.{Action, AreActions, plan_with, turn_code}
-use Rattle.orc_asm.specs.Rows.{turns_flow}
+use Rattle.orc_program.specs.Need.{lanes, turns}
+use Rattle.x86_ins.specs.declared.ins.Cond.TheVariants.{Ns}
+use Rattle.x86_flow.specs.Flow.{Flow, Plain, Repeat}
+use Rattle.orc_asm.specs.Code.{Action, Plan, AreActions, plan_with, turn_code, action_far_code, block_far, blocks_turn_code, aligned_first, shift_of, is_filled, elements_flow, elements_of}
+use Rattle.orc_asm.specs.Regions.{left_word, plain_row, aligned_row}
 use Rattle.orc_asm.proofs.Cells.{Numbers, IsOf}
 use Rattle.orc_asm.proofs.Frames.{IsFrame, Framed, framed_below, no_sum}
 use Rattle.orc_asm.proofs.Emulated.{IsCells, state}
 use Rattle.orc_asm.proofs.Elements.{Agrees, Reached, reaches}
 use Rattle.orc_asm.proofs.Block.{IsFit}
-use Rattle.orc_asm.proofs.Turn.{Setting, IsCell, IsDestCell, Calm, Inside}
-use Rattle.orc_asm.proofs.Loop.{loop_line}
+use Rattle.orc_asm.proofs.Turn.{Setting, IsCell, IsDestCell, Inside}
+use Rattle.orc_asm.proofs.Rounds.{Outside, At, plain_done, aligned_done}
+use Rattle.orc_asm.proofs.RegionSteps.{regions_of}
 use Rattle.orc_asm.proofs.Direct.{pattern_of, number_of}
 use Rattle.orc_asm.proofs.Acts.{StandsIn, nothing_stands}
 use Rattle.orc_asm.proofs.Knows.{width_of, numbers_of, all_meant, all_known}
@@ -53,18 +57,54 @@ use Rattle.orc_asm.proofs.RowsEmulated.{end_with, sum_of_end}
 use Rattle.orc_asm.proofs.RowCells.{Arrays, arrays, call, P, row_base, mapped, low, separate, decided, slot_at, cell_is, cell_cells, row_dests, dest_cell}
 use Rattle.orc_asm.proofs.RowLines.{InRows}
 use Rattle.orc_asm.proofs.RowLoop.{rsp, stack_low, Steady, Ready, Ended}
-use Rattle.orc_asm.proofs.RowElements.{RowDone, row_ended}
-use Rattle.orc_asm.proofs.RowPath.{Still, Gone, Parts, cell_weight}
-use Rattle.orc_asm.proofs.RowRuns.{elements_of}
+use Rattle.orc_asm.proofs.RowElements.{InFree, RowDone, row_ended}
+use Rattle.orc_asm.proofs.RowPath.{Still, Gone, Parts, by_pointer, cell_weight}
 
--- what is known of a function, of the places of its values and of its actions
-pub record Done (f : FunctionValue) (at : List ℕ) (actions : List Action) : Type 0 where
+-- what is known of actions that do so many elements at once
+pub record Able (f : FunctionValue) (at : List ℕ) (count : ℕ) (actions : List Action) : Type 0 where
+  pub are : AreActions at count (steps_of f) actions
+  pub fit : Each (IsFit count (size_of_slot f.vars)) actions
+  pub turn : Each IsIns (turn_code (plan_with f actions) count)
+
+-- and of those that store the first dest aligned, of which so many elements fill a register
+pub record Stored (f : FunctionValue) (at : List ℕ) (count : ℕ) (actions : List Action) : Type 0 where
+  pub able : Able f at count actions
+  pub block : Each (λ a. Each IsIns (action_far_code count (size_of_slot f.vars) (block_far (plan_with f actions) (0 * count)) (aligned_first true) a)) actions
+  pub turn : Each IsIns (blocks_turn_code (plan_with f actions) (aligned_first true) count 1)
+  pub some : 0 < count_of kind.Dest f.vars
+  pub shift : shift_of (size_of_slot f.vars 0) ≤ 3
+  pub size : size_of_slot f.vars 0 ≡ 2 ^ shift_of (size_of_slot f.vars 0)
+  pub full : 16 / 2 ^ shift_of (size_of_slot f.vars 0) ≡ count
+
+-- a first dest of the function fills a register
+abbrev pub fills : FunctionValue → Bool
+fills f = is_filled (count_of kind.Dest f.vars) (lanes f) (size_of_slot f.vars 0)
+
+-- what is known of a function, of the places of its values, and of its turns, of which none has more instructions or touches more cells than so many
+pub record Done (f : FunctionValue) (at : List ℕ) (single wide aligned : List Ins) (each some : ℕ) : Type 0 where
   pub is : is_function f ≡ true
   pub arrays : Arrays f
   pub stand : AllStand f.vars (patterns_of f.vars f.insns) at [] f.insns
-  pub are : AreActions at 1 (steps_of f) actions
-  pub fit : Each (IsFit 1 (size_of_slot f.vars)) actions
-  pub turn : Each IsIns (turn_code (plan_with f actions) 1)
+  pub positive : 0 < lanes f
+  pub most : lanes f ≤ 16
+  pub one : List Action
+  pub able_one : Able f at 1 one
+  pub single_is : single ≡ turn_code (plan_with f one) 1
+  pub more : List Action
+  pub able_more : Able f at (lanes f) more
+  pub wide_is : wide ≡ turn_code (plan_with f more) (lanes f)
+  pub stored : fills f ≡ true → (actions : List Action) × Stored f at (lanes f) actions × (aligned ≡ blocks_turn_code (plan_with f actions) (aligned_first true) (lanes f) 1)
+  pub short_single : length single ≤ each
+  pub short_wide : length wide ≤ each
+  pub short_aligned : fills f ≡ true → length aligned ≤ each
+  pub light_single : weigh cell_weight single ≤ some
+  pub light_wide : weigh cell_weight wide ≤ some
+  pub light_aligned : fills f ≡ true → weigh cell_weight aligned ≤ some
+
+-- the instructions of a row's elements besides their turns
+abbrev pub besides_of : Bool → ℕ
+besides_of true = 19
+besides_of false = 4
 
 is_sum_kind : (k : VarKind) → same_kind kind.Accumulator k ≡ true → k ≡ kind.Accumulator
 is_sum_kind kind.Accumulator h = refl
@@ -96,7 +136,7 @@ in_sum rsp sums x h =
     let d = x - (rsp + 768) in
     record { sum = d / 16; byte = d % 16; few = omega (arith, h.0, h.1); inside = omega arith; here = omega (arith, h.0) }
 
-module _ (f : FunctionValue) (at : List ℕ) (actions : List Action) (done : Done f at actions) (code : Placed) (s : Point) (args : Arguments) (back : ℕ) (good : GoodCall (subject_of f) code s args back) where
+module _ (f : FunctionValue) (at : List ℕ) (single wide aligned : List Ins) (each some : ℕ) (done : Done f at single wide aligned each some) (code : Placed) (s : Point) (args : Arguments) (back : ℕ) (good : GoodCall (subject_of f) code s args back) where
   abbrev known : Arrays f
   known = done.arrays
 
@@ -280,8 +320,8 @@ module _ (f : FunctionValue) (at : List ℕ) (actions : List Action) (done : Don
     sums_frame : (a : ℕ) → InRunning lowered numbers.sums a → Frame a
     sums_frame a h = (omega (arith, h.0), omega (arith, h.1, known.few.accs))
 
-    setting : Setting args.n base Slot numbers lowered (plan_with f actions) Emul Frame
-    setting = record {
+    setting : (count : ℕ) (actions : List Action) → AreActions at count (steps_of f) actions → Setting args.n base Slot numbers lowered (plan_with f actions) Emul Frame
+    setting count actions are = record {
       ground = record {
         separate = separate f known code s args back good r row;
         low = low f known code s args back good r row;
@@ -290,29 +330,41 @@ module _ (f : FunctionValue) (at : List ℕ) (actions : List Action) (done : Don
       };
       decided = decided f known code s args back good r row;
       slots = λ k h. h;
-      known = all_known f at Args args.n base Slot has known.few.dests done.is done.stand 1 actions done.are;
+      known = all_known f at Args args.n base Slot has known.few.dests done.is done.stand count actions are;
       few_dests = known.few.dests;
       few_sources = known.few.sources;
       few = (arrays f known code s args back good).few;
-      emulates = reaches f Args r base size Slot (separate f known code s args back good r row) (low f known code s args back good r row) has cells numbers (number_of f) (λ j. refl) (StandsIn at) actions ([], steps_of f) (nothing_stands at (steps_of f)) (all_meant f done.is at done.stand 1 actions done.are) e;
+      emulates = reaches f Args r base size Slot (separate f known code s args back good r row) (low f known code s args back good r row) has cells numbers (number_of f) (λ j. refl) (StandsIn at) actions ([], steps_of f) (nothing_stands at (steps_of f)) (all_meant f done.is at done.stand count actions are) e;
       apart = apart;
       sums = sums_frame;
     }
 
+    abbrev first_plan : Plan
+    first_plan = plan_with f done.one
+
+    first_setting : Setting args.n base Slot numbers lowered first_plan Emul Frame
+    first_setting = setting 1 done.one done.able_one.are
+
     abbrev Within : Memory → ℕ → Memory → (ℕ → ℕ) → Core → Type 0
-    Within mem = Inside args.n base Slot numbers lowered (plan_with f actions) Emul Frame setting (s.core.gpr 7) mem
+    Within mem = Inside args.n base Slot numbers lowered first_plan Emul Frame first_setting (s.core.gpr 7) mem
 
     abbrev InRow : ℕ → Type 0
-    InRow = IsCell args.n base Slot numbers lowered (plan_with f actions) Emul Frame setting
+    InRow = IsCell args.n base Slot numbers lowered first_plan Emul Frame first_setting
 
     row_cell : (a : ℕ) → InRow a → Cell a
     row_cell a w = subst Cell (sym w.6) (cell_cells f known code s args back good r row w.0 w.1 w.2 w.3 w.4 w.5)
 
-    row_dest : (a : ℕ) → IsDestCell args.n base Slot numbers lowered (plan_with f actions) Emul Frame setting a → Dests a
+    row_dest : (a : ℕ) → IsDestCell args.n base Slot numbers lowered first_plan Emul Frame first_setting a → Dests a
     row_dest a w = row_dests f known code s args back good r row a w
 
     first_pointer : (b z : ℕ) → b % 2 ^ 64 ≡ (b % 2 ^ 64 + 0 * z) % 2 ^ 64
     first_pointer b z = omega arith
+
+    in_frame : (a : ℕ) → lowered ≤ a → a < lowered + 1024 → Frame a
+    in_frame a l u = (l, u)
+
+    free_frame : (a : ℕ) → InFree f known code s args back good Kept a → Frame a
+    free_frame a w = (omega (arith, w.0), omega (arith, w.1))
 
     module _ (c : Core) (h : Ready f known code s args back good Kept r e c) where
       inside_first : Within c.memory 0 e.memory h.steady.kept.totals c
@@ -326,39 +378,90 @@ module _ (f : FunctionValue) (at : List ℕ) (actions : List Action) (done : Don
         bounded = h.steady.bounded;
       }
 
-      still : (u : Core) → Calm args.n base Slot numbers lowered (plan_with f actions) Emul Frame setting (s.core.gpr 7) c.memory u → (a : ℕ) → (Dests a → ⊥) → (Frame a → ⊥) → u.memory a ≡ s.core.memory a
-      still u w a nd nf = w.quiet a (λ i. nd (row_dest a i)) (λ i. nf (sums_frame a i)) ∙ h.steady.quiet a nd nf
+      -- what holds at each step in a row
+      calmly : (u : Core) (i : Ins) → Outside args.n base Slot numbers lowered first_plan Emul Frame first_setting (s.core.gpr 7) c.memory Q stack_room in_frame u → Q u i
+      calmly u i w = (record { stack = inr w.stack; quiet = λ a nc nf ns. w.quiet a (λ i. nc (row_dest a i)) (λ i. nf (sums_frame a i)) (λ i. nf (free_frame a i)) ∙ h.steady.quiet a nc nf }, tt)
 
-      turns : (end : Memory) × (new : ℕ → ℕ) × (list : List Ins) × (d : Core) × Does Q (turns_flow (turn_code (plan_with f actions) 1)) c list d × Within c.memory args.n end new d × Emul args.n end new × (length list ≤ elements_of (length (turn_code (plan_with f actions) 1)) args.n) × (weigh cell_weight list ≤ args.n * weigh cell_weight (turn_code (plan_with f actions) 1))
-      turns = loop_line args.n base Slot numbers lowered (plan_with f actions) Emul Frame setting (s.core.gpr 7) c.memory done.fit done.turn cell_weight (λ q rel. refl, λ rel. refl) Q
-          (λ u i w. (record { stack = inr w.stack; quiet = λ a nc nf ns. still u w a nc nf }, tt))
-          e.memory h.steady.kept.totals c inside_first h.counter
-          (record { temps = e.temps; sums = e.sums; is = refl; agrees = h.steady.kept.agrees }) h.tests
+      abbrev Place : ℕ → Core → Type 0
+      Place = At args.n base Slot numbers lowered first_plan Emul Frame first_setting (s.core.gpr 7) c.memory Q stack_room in_frame
 
-      -- what the turns leave
-      row_done : (end : Memory) (new temps sums : ℕ → ℕ) (d : Core) → Within c.memory args.n end new d → row_of f Args r args.n e ≡ Ok (state end temps sums) → Agrees f sums new → RowDone f known code s args back good Kept (count_of kind.Accumulator f.vars) r row e (state end temps sums) c d
-      row_done end new temps sums d w is agrees = record {
-        emulated = is;
-        stack = w.calm.stack;
-        block = w.block;
-        quiet = w.calm.quiet;
-        agree = w.agree;
-        mapped = w.mapped;
-        running = λ a i. let x = in_sum lowered (count_of kind.Accumulator f.vars) a i in ap is_some (ap d.memory x.here ∙ w.framed.sums x.sum x.few x.byte x.inside);
-        bounded = w.bounded;
-        kept = record {
-          saved_words = words_stay c d (λ x l u n. w.calm.quiet x (λ i. dest_frame x (row_dest x i) (l, omega (arith, u))) n) h.steady.kept.saved_words;
-          totals = new;
-          framed = w.framed;
-          agrees = agrees;
-        };
+      place_first : Place 0 c
+      place_first = record {
+        e = e.memory;
+        totals = h.steady.kept.totals;
+        mem = c.memory;
+        near = λ a k t w. refl;
+        inside = inside_first;
+        emulated = record { temps = e.temps; sums = e.sums; is = refl; agrees = h.steady.kept.agrees };
+        there = λ a w. h.steady.frame a (free_frame a w);
       }
 
-      does : (t : State) × (list : List Ins) × (d : Core) × Does Q (turns_flow (turn_code (plan_with f actions) 1)) c list d × Ended f known code s args back good Kept r e t c d × (length list ≤ elements_of (length (turn_code (plan_with f actions) 1)) args.n) × (weigh cell_weight list ≤ args.n * weigh cell_weight (turn_code (plan_with f actions) 1))
+      abbrev Goes : Flow → ℕ → Type 0
+      Goes flow besides = (list : List Ins) × (d : Core) × Does Q flow c list d × Place args.n d × (length list ≤ besides + turns (lanes f) args.n * (2 + each)) × (weigh cell_weight list ≤ turns (lanes f) args.n * some)
+
+      -- the loops of a row, by what its turns are
+      module _ (short_one : length (turn_code first_plan 1) ≤ each) (short_more : length (turn_code (plan_with f done.more) (lanes f)) ≤ each) (light_one : weigh cell_weight (turn_code first_plan 1) ≤ some) (light_more : weigh cell_weight (turn_code (plan_with f done.more) (lanes f)) ≤ some) where
+        plain : Goes (plain_row (lanes f) (Plain (turn_code first_plan 1)) (Repeat Ns (Plain (turn_code (plan_with f done.more) (lanes f))))) 4
+        plain = plain_done args.n base Slot numbers lowered first_plan Emul Frame first_setting (s.core.gpr 7) c.memory Q stack_room in_frame calmly by_pointer refl done.more (setting (lanes f) done.more done.able_more.are) (lanes f) done.positive done.most
+            done.able_one.fit done.able_one.turn done.able_more.fit done.able_more.turn each some short_one short_more light_one light_more c place_first h.counter
+
+        filled : (stored : List Action) (x : Stored f at (lanes f) stored) → length (blocks_turn_code (plan_with f stored) (aligned_first true) (lanes f) 1) ≤ each → weigh cell_weight (blocks_turn_code (plan_with f stored) (aligned_first true) (lanes f) 1) ≤ some
+            → Goes (aligned_row (shift_of (size 0)) (lanes f) (Plain (turn_code first_plan 1)) (Repeat Ns (Plain (turn_code (plan_with f done.more) (lanes f)))) (Repeat Ns (Plain (blocks_turn_code (plan_with f stored) (aligned_first true) (lanes f) 1)))) 19
+        filled stored x short light = aligned_done args.n base Slot numbers lowered first_plan Emul Frame first_setting (s.core.gpr 7) c.memory Q stack_room in_frame calmly by_pointer refl done.more (setting (lanes f) done.more done.able_more.are) (lanes f) done.positive done.most
+            done.able_one.fit done.able_one.turn done.able_more.fit done.able_more.turn each some short_one short_more light_one light_more
+            stored (setting (lanes f) stored x.able.are) x.able.fit x.able.turn (shift_of (size 0)) x.shift x.full x.some x.size x.block x.turn short light c place_first h.counter
+
+      by_turns : (b : Bool) → fills f ≡ b → Goes (elements_flow b (shift_of (size 0)) (lanes f) single wide aligned) (besides_of b)
+      by_turns false e =
+          let short_one = subst (λ l. length l ≤ each) done.single_is done.short_single in
+          let light_one = subst (λ l. weigh cell_weight l ≤ some) done.single_is done.light_single in
+          let short_more = subst (λ l. length l ≤ each) done.wide_is done.short_wide in
+          let light_more = subst (λ l. weigh cell_weight l ≤ some) done.wide_is done.light_wide in
+          subst (λ l. Goes (elements_flow false (shift_of (size 0)) (lanes f) l wide aligned) 4) (sym done.single_is)
+          (subst (λ l. Goes (elements_flow false (shift_of (size 0)) (lanes f) (turn_code first_plan 1) l aligned) 4) (sym done.wide_is) (plain short_one short_more light_one light_more))
+      by_turns true e =
+          let x = done.stored e in
+          let short_one = subst (λ l. length l ≤ each) done.single_is done.short_single in
+          let light_one = subst (λ l. weigh cell_weight l ≤ some) done.single_is done.light_single in
+          let short_more = subst (λ l. length l ≤ each) done.wide_is done.short_wide in
+          let light_more = subst (λ l. weigh cell_weight l ≤ some) done.wide_is done.light_wide in
+          let short = subst (λ l. length l ≤ each) x.2 (done.short_aligned e) in
+          let light = subst (λ l. weigh cell_weight l ≤ some) x.2 (done.light_aligned e) in
+          subst (λ l. Goes (elements_flow true (shift_of (size 0)) (lanes f) l wide aligned) 19) (sym done.single_is)
+          (subst (λ l. Goes (elements_flow true (shift_of (size 0)) (lanes f) (turn_code first_plan 1) l aligned) 19) (sym done.wide_is)
+          (subst (λ l. Goes (elements_flow true (shift_of (size 0)) (lanes f) (turn_code first_plan 1) (turn_code (plan_with f done.more) (lanes f)) l) 19) (sym x.2)
+          (filled short_one short_more light_one light_more x.0 x.1 short light)))
+
+      -- what the turns leave
+      row_done : (d : Core) (p : Place args.n d) → RowDone f known code s args back good Kept (count_of kind.Accumulator f.vars) r row e (state p.e p.emulated.temps p.emulated.sums) c d
+      row_done d p =
+          let w = p.inside in
+          let quiet : (a : ℕ) → (IsDestCell args.n base Slot numbers lowered first_plan Emul Frame first_setting a → ⊥) → (InRunning lowered numbers.sums a → ⊥) → (InFree f known code s args back good Kept a → ⊥) → d.memory a ≡ c.memory a = λ a k t z. w.calm.quiet a k t ∙ p.near a k t z in
+          record {
+            emulated = p.emulated.is;
+            stack = w.calm.stack;
+            block = w.block;
+            quiet = quiet;
+            agree = w.agree;
+            mapped = w.mapped;
+            running = λ a i. let x = in_sum lowered (count_of kind.Accumulator f.vars) a i in ap is_some (ap d.memory x.here ∙ w.framed.sums x.sum x.few x.byte x.inside);
+            free = p.there;
+            bounded = w.bounded;
+            kept = record {
+              saved_words = words_stay c d (λ x l u n. quiet x (λ i. dest_frame x (row_dest x i) (l, omega (arith, u))) n (λ z. omega (arith, z.0, u))) h.steady.kept.saved_words;
+              totals = p.totals;
+              framed = w.framed;
+              agrees = p.emulated.agrees;
+            };
+          }
+
+      does : (t : State) × (list : List Ins) × (d : Core) × Does Q (elements_of f single wide aligned) c list d × Ended f known code s args back good Kept r e t c d × (length list ≤ regions_of (besides_of (fills f)) (lanes f) each args.n) × (weigh cell_weight list ≤ turns (lanes f) args.n * some)
       does =
-          let x = turns in
-          let t = state x.0 x.6.temps x.6.sums in
-          (t, x.2, x.3, x.4, row_ended f known code s args back good Kept (count_of kind.Accumulator f.vars) known.few.accs r row e t c x.3 h (row_done x.0 x.1 x.6.temps x.6.sums x.3 x.5 x.6.is x.6.agrees), x.7, x.8)
+          let x = by_turns (fills f) refl in
+          let d = x.1 in
+          let p = x.3 in
+          let t = state p.e p.emulated.temps p.emulated.sums in
+          (t, x.0, d, x.2, row_ended f known code s args back good Kept (count_of kind.Accumulator f.vars) known.few.accs r row e t c d h (row_done d p), x.4, x.5)
 
   -- ---- after the rows
 
@@ -429,7 +532,7 @@ module _ (f : FunctionValue) (at : List ℕ) (actions : List Action) (done : Don
         )
 
   pub parts : (first last : List Ins) → Prepares (layout_of f) first → Finishes (layout_of f) last
-      → Parts f known code s args back good Any first (turns_flow (turn_code (plan_with f actions) 1)) last (elements_of (length (turn_code (plan_with f actions) 1)) args.n) (args.n * weigh cell_weight (turn_code (plan_with f actions) 1))
+      → Parts f known code s args back good Any first (elements_of f single wide aligned) last (regions_of (besides_of (fills f)) (lanes f) each args.n) (turns (lanes f) args.n * some)
   parts first last prepares finishes = record {
     Kept = Kept;
     kept_on = kept_on;

@@ -163,7 +163,7 @@ module _ (n : ℕ) (base : ℕ → ℕ) (P : ℕ → Type 0) (numbers : Numbers)
               le_refl (weigh (touch_weight by) (blocks_turn_code q aligned count b)),
             )
 
--- a row without aligned stores, by today's turns: those of `p` do one element, and those of `actions` several
+-- a row without aligned stores: the turns of `p` do one element, and those of `actions` several
 module _ (n : ℕ) (base : ℕ → ℕ) (P : ℕ → Type 0) (numbers : Numbers) (rsp : ℕ) (p : Plan) (Emul : ℕ → Memory → (ℕ → ℕ) → Type 0) (F : ℕ → Type 0) (set : Setting n base P numbers rsp p Emul F) (rdi : ℕ) (first : Memory)
     (Q : Core → Ins → Type 0) (stack_low : rsp + 1032 ≤ 2 ^ 47) (framed : (a : ℕ) → rsp ≤ a → a < rsp + 1024 → F a)
     (calmly : (u : Core) (i : Ins) → Outside n base P numbers rsp p Emul F set rdi first Q stack_low framed u → Q u i)
@@ -201,14 +201,11 @@ module _ (n : ℕ) (base : ℕ → ℕ) (P : ℕ → Type 0) (numbers : Numbers)
   first_is zero e = refl
   first_is (suc k) e = absurd (true≢false (sym e ∙ eq_false (suc k) 0 (λ z. omega (arith, z))))
 
-  abbrev pub aligned : Flow
-  aligned = Repeat Ns (Plain (blocks_turn_code (record p { actions = actions }) first_only lanes 1))
-
-  -- a row whose first dest has elements of 2 ^ k bytes, of which `lanes` fill a register
-  module _ (k : ℕ) (small : k ≤ 3) (full : 16 / 2 ^ k ≡ lanes) (some_dest : 0 < p.dests) (size_is : p.size 0 ≡ 2 ^ k)
-      (ins_block : Each (λ a. Each IsIns (action_far_code lanes p.size (block_far (record p { actions = actions }) (0 * lanes)) first_only a)) actions)
-      (ins_aligned : Each IsIns (blocks_turn_code (record p { actions = actions }) first_only lanes 1))
-      (short_aligned : length (blocks_turn_code (record p { actions = actions }) first_only lanes 1) ≤ each) (light_aligned : weigh (touch_weight by) (blocks_turn_code (record p { actions = actions }) first_only lanes 1) ≤ some) where
+  -- a row whose first dest has elements of 2 ^ k bytes, of which `lanes` fill a register; the turns of `stored` store it aligned
+  module _ (stored : List Action) (still : Setting n base P numbers rsp (record p { actions = stored }) Emul F) (fit_stored : Each (IsFit lanes p.size) stored) (ins_stored : Each IsIns (turn_code (record p { actions = stored }) lanes)) (k : ℕ) (small : k ≤ 3) (full : 16 / 2 ^ k ≡ lanes) (some_dest : 0 < p.dests) (size_is : p.size 0 ≡ 2 ^ k)
+      (ins_block : Each (λ a. Each IsIns (action_far_code lanes p.size (block_far (record p { actions = stored }) (0 * lanes)) first_only a)) stored)
+      (ins_aligned : Each IsIns (blocks_turn_code (record p { actions = stored }) first_only lanes 1))
+      (short_aligned : length (blocks_turn_code (record p { actions = stored }) first_only lanes 1) ≤ each) (light_aligned : weigh (touch_weight by) (blocks_turn_code (record p { actions = stored }) first_only lanes 1) ≤ some) where
     whole : lanes * p.size 0 ≡ 16
     whole = each_size (λ k. (l s : ℕ) → 16 / 2 ^ k ≡ l → s ≡ 2 ^ k → l * s ≡ 16)
         (λ l s a b. sym (ap (λ x. x * s) a) ∙ ap (λ x. 16 * x) b) (λ l s a b. sym (ap (λ x. x * s) a) ∙ ap (λ x. 8 * x) b) (λ l s a b. sym (ap (λ x. x * s) a) ∙ ap (λ x. 4 * x) b) (λ l s a b. sym (ap (λ x. x * s) a) ∙ ap (λ x. 2 * x) b)
@@ -219,9 +216,12 @@ module _ (n : ℕ) (base : ℕ → ℕ) (P : ℕ → Type 0) (numbers : Numbers)
         let z = first_is j e in
         (ap (λ t. lanes * p.size t) z ∙ whole, ap (λ t. (base t + i * p.size t) % 16) z ∙ ap (λ t. (base 0 + i * t) % 16) size_is ∙ at)
 
-    each_block : (j : ℕ) → j < 1 → Each (λ a. Each IsIns (action_far_code lanes p.size (block_far (record p { actions = actions }) (j * lanes)) first_only a)) actions
+    each_block : (j : ℕ) → j < 1 → Each (λ a. Each IsIns (action_far_code lanes p.size (block_far (record p { actions = stored }) (j * lanes)) first_only a)) stored
     each_block zero l = ins_block
     each_block (suc j) l = absurd (omega (arith, l))
+
+    abbrev pub aligned : Flow
+    aligned = Repeat Ns (Plain (blocks_turn_code (record p { actions = stored }) first_only lanes 1))
 
     pub aligned_done : (c : Core) → Place 0 c → c.gpr 1 ≡ n
         → (done : List Ins) × (d : Core) × Does Q (aligned_row k lanes single wide aligned) c done d × Place n d × (length done ≤ 19 + turns lanes n * (2 + each)) × (weigh (touch_weight by) done ≤ turns lanes n * some)
@@ -229,15 +229,15 @@ module _ (n : ℕ) (base : ℕ → ℕ) (P : ℕ → Type 0) (numbers : Numbers)
         let g = ground n base P numbers rsp p Emul F set rdi first Q stack_low framed calmly in
         let one = turn_is n base P numbers rsp p Emul F set rdi first Q stack_low framed calmly by by_stack each some 1 (omega arith) (omega arith) fit_one ins_one (λ i. Unit {0}) in
         let more = turn_with n base P numbers rsp p Emul F set rdi first Q stack_low framed calmly by by_stack each some actions other lanes positive most fit_more ins_more (λ i. (j : ℕ) → j + lanes ≤ n → AtSixteen k (base 0) j → ⊥) in
-        let block = blocks_with n base P numbers rsp p Emul F set rdi first Q stack_low framed calmly by by_stack each some actions other first_only lanes 1 positive most (omega (arith, most)) fit_more ins_more each_block ins_aligned in
+        let block = blocks_with n base P numbers rsp p Emul F set rdi first Q stack_low framed calmly by by_stack each some stored still first_only lanes 1 positive most (omega (arith, most)) fit_stored ins_stored each_block ins_aligned in
         let same : 1 * lanes ≡ lanes = omega arith in
-        let block_turn : IsTurn Q rsp stack_low n Place g by by_stack each some (Plain (blocks_turn_code (record p { actions = actions }) first_only lanes 1)) lanes (AtSixteen k (base 0)) each some =
+        let block_turn : IsTurn Q rsp stack_low n Place g by by_stack each some (Plain (blocks_turn_code (record p { actions = stored }) first_only lanes 1)) lanes (AtSixteen k (base 0)) each some =
         (λ i d w a t. let x = block i d (omega (arith, w)) a (aligns i t) in
         (x.0, x.1, x.2, subst (λ l. Place (l + i) x.1) same x.3, record { counter = x.4.counter ∙ ap (λ l. (d.gpr 1 + (2 ^ 64 - l)) % 2 ^ 64) same; tested = x.4.tested; word = x.4.word }, omega (arith, x.5, short_aligned), omega (arith, x.6, light_aligned))) in
         let address : base 0 % 2 ^ 64 ≡ c.gpr 2 = (let x = h.inside.pointers 0 (inl some_dest) in omega (arith, x)) in
         aligned_line Q rsp stack_low n Place g by by_stack each some single wide aligned k lanes 1 (base 0) positive (omega (arith, most))
         (λ i d w a t. let x = one i d w a t in (x.0, x.1, x.2, x.3, x.4, omega (arith, x.5, short_one), omega (arith, x.6, light_one)))
-        (wide_region Q rsp stack_low n Place g by by_stack each some (Plain (blocks_turn_code (record p { actions = actions }) first_only lanes 1)) lanes (AtSixteen k (base 0)) positive (omega (arith, most))
+        (wide_region Q rsp stack_low n Place g by by_stack each some (Plain (blocks_turn_code (record p { actions = stored }) first_only lanes 1)) lanes (AtSixteen k (base 0)) positive (omega (arith, most))
         (λ i t. subst (λ l. AtSixteen k (base 0) (l + i)) full (sixteen_on k small (base 0) i t)) block_turn)
         (wide_region Q rsp stack_low n Place g by by_stack each some (Plain (turn_code (record p { actions = actions }) lanes)) lanes (λ i. (j : ℕ) → j + lanes ≤ n → AtSixteen k (base 0) j → ⊥) positive (omega (arith, most)) (λ i t. t)
         (λ i d w a t. let x = more i d w a t in (x.0, x.1, x.2, x.3, x.4, omega (arith, x.5, short_more), omega (arith, x.6, light_more))))

@@ -6,7 +6,8 @@ use Rattle.orc_bits.proofs.LaneLaws.{change_other}
 use Rattle.orc_program.specs.declared.program.VarKind.TheVariants as kind
 use Rattle.orc_program.specs.Program.{FunctionValue, count_of}
 use Rattle.orc_program.specs.Checks.{patterns_of}
-use Rattle.orc_program.specs.Need.{turns, steps, cost}
+use Rattle.orc_program.specs.Need.{lanes, turns, steps, steps_with, cost}
+use Rattle.orc_asm.proofs.RegionSteps.{regions_of, regions_steps}
 use Rattle.x86_ins.specs.declared.ins.Ins.{Ins}
 use Rattle.x86_ins.specs.declared.ins.Ins.TheVariants.{Ret}
 use Rattle.x86_ins.specs.Machine.{Core, Point, Touches, moved}
@@ -57,51 +58,43 @@ one_or : (t : Bool) (m : ℕ) → (if t then (if t then m else 1) else 1) ≡ (i
 one_or true m = refl
 one_or false m = refl
 
-turns_one : (n : ℕ) → turns 1 n ≡ n
-turns_one n = ap (λ q. min n (q + 2 * 1 - 2)) (div-one n) ∙ ap (λ q. min n q) (let z : n + 2 * 1 - 2 ≡ n = omega arith in z) ∙ min-eq_left (le_refl n)
-
 -- what the lists, and a turn, may have
-pub record AreShort (f : FunctionValue) (first last : List Ins) (turn : ℕ) : Type 0 where
+pub record AreShort (f : FunctionValue) (first last : List Ins) (turn besides : ℕ) : Type 0 where
   pub lists : length first + length last ≤ 15 + 8 * length (patterns_of f.vars f.insns) + 16 * count_of kind.Accumulator f.vars
   pub turn_few : turn ≤ cost f + (count_of kind.Dest f.vars + count_of kind.Source f.vars) + 1
+  -- what a row's elements take besides their turns
+  pub besides_few : besides ≤ 17 + 3 * (count_of kind.Dest f.vars + count_of kind.Source f.vars)
 
--- the instructions of a row's elements, by those of a turn
-abbrev pub elements_of : ℕ → ℕ → ℕ
-elements_of turn n = 1 + n * (2 + turn)
-
-pub steps_rows : (f : FunctionValue) (known : Arrays f) (first last : List Ins) (turn n m : ℕ) → AreShort f first last turn
-    → length first + length last + (2 * (count_of kind.Dest f.vars + count_of kind.Source f.vars) + 3) + (1 + (if f.two_d then m else 1) * (2 + (elements_of turn n + 5 * (count_of kind.Dest f.vars + count_of kind.Source f.vars) + 5))) + 1
+pub steps_rows : (f : FunctionValue) (known : Arrays f) (first last : List Ins) (turn besides n m : ℕ) → AreShort f first last turn besides
+    → length first + length last + (2 * (count_of kind.Dest f.vars + count_of kind.Source f.vars) + 3) + (1 + (if f.two_d then m else 1) * (2 + (regions_of besides (lanes f) turn n + 5 * (count_of kind.Dest f.vars + count_of kind.Source f.vars) + 5))) + 1
     ≤ steps f n (if f.two_d then m else 1)
-steps_rows f known first last turn n m short =
+steps_rows f known first last turn besides n m short =
     let arrays = count_of kind.Dest f.vars + count_of kind.Source f.vars in
     let g = count_of kind.Accumulator f.vars in
     let c = length (patterns_of f.vars f.insns) in
     let rows = if f.two_d then m else 1 in
-    let within : n * (2 + turn) ≤ n * (cost f + arrays + 6) = mul-le-mul_left n (omega (arith, short.turn_few)) in
-    let row : rows * (2 + (elements_of turn n + 5 * arrays + 5)) ≤ rows * (24 + 8 * arrays + n * (cost f + arrays + 6)) = mul-le-mul_left rows (omega (arith, within)) in
-    let same : steps f n rows ≡ 64 + 8 * c + 16 * g + rows * (24 + 8 * arrays + n * (cost f + arrays + 6)) =
-    ap (λ k. 64 + 8 * c + 16 * g + k * (24 + 8 * arrays + turns 1 n * (cost f + arrays + 6))) (one_or f.two_d m)
-    ∙ ap (λ k. 64 + 8 * c + 16 * g + rows * (24 + 8 * arrays + k * (cost f + arrays + 6))) (turns_one n) in
-    omega (arith, same, row, short.lists, known.few.dests, known.few.sources)
+    let few : arrays ≤ 12 = omega (arith, known.few.dests, known.few.sources) in
+    subst (λ k. length first + length last + (2 * arrays + 3) + (1 + rows * (2 + (regions_of besides (lanes f) turn n + 5 * arrays + 5))) + 1 ≤ steps_with (lanes f) (cost f) c g arrays n k) (sym (one_or f.two_d m))
+    (regions_steps (lanes f) (cost f) c g arrays (length first + length last) besides turn n rows short.lists short.turn_few short.besides_few few)
 
 -- ---- the whole
 
-module _ (f : FunctionValue) (known : Arrays f) (first : List Ins) (elements : Flow) (last : List Ins) (turn touches : ℕ) (short : AreShort f first last turn)
+module _ (f : FunctionValue) (known : Arrays f) (first : List Ins) (elements : Flow) (last : List Ins) (turn besides touches : ℕ) (short : AreShort f first last turn besides)
     (Tame : Point → Arguments → Core → Ins → Type 0)
     (own : (code : Placed) (s : Point) (args : Arguments) (back : ℕ) (good : GoodCall (subject_of f) code s args back) → Own f known code s args back good (Tame s args))
-    (parts : (code : Placed) (s : Point) (args : Arguments) (back : ℕ) (good : GoodCall (subject_of f) code s args back) → Parts f known code s args back good (Tame s args) first elements last (elements_of turn args.n) (args.n * touches)) where
+    (parts : (code : Placed) (s : Point) (args : Arguments) (back : ℕ) (good : GoodCall (subject_of f) code s args back) → Parts f known code s args back good (Tame s args) first elements last (regions_of besides (lanes f) turn args.n) (turns (lanes f) args.n * touches)) where
   abbrev pub flow : Flow
   flow = whole_flow first elements last f.two_d (count_of kind.Dest f.vars) (count_of kind.Source f.vars)
 
   -- of the moments of a way, at most so many have a property that an instruction which goes by no pointer doesn't have
   abbrev pub Counted : Point → Arguments → List Moment → Type 1
-  Counted s args way = (R : Moment → Type 0) → ((m : Moment) → Tame s args m.point.core m.ins → cell_weight m.ins ≡ 0 → R m → ⊥) → AtMost (weigh cell_weight first + rows (subject_of f) args * (args.n * touches) + weigh cell_weight last) R way
+  Counted s args way = (R : Moment → Type 0) → ((m : Moment) → Tame s args m.point.core m.ins → cell_weight m.ins ≡ 0 → R m → ⊥) → AtMost (weigh cell_weight first + rows (subject_of f) args * (turns (lanes f) args.n * touches) + weigh cell_weight last) R way
 
   -- each good call of the code returns, with what follows from its being quiet, from Tame at each step and from the count
   pub runs_with : (P : Promise) → ((s : Point) (args : Arguments) (way : List Moment) (t : Point) → quiet (subject_of f) s s.core.memory args way t → Each (λ m. Tame s args m.point.core m.ins) way → Counted s args way → P s s.core.memory args way t) → Each IsAllowed (with_return flow) → RunsWith (subject_of f) P (spell_all (with_return flow))
   runs_with P promised allowed start s args back good =
       let code : Placed = record { bytes = spell_all (with_return flow); start = start } in
-      let x = path f known code s args back good (Tame s args) (own code s args back good) first elements last (elements_of turn args.n) (args.n * touches) (parts code s args back good) in
+      let x = path f known code s args back good (Tame s args) (own code s args back good) first elements last (regions_of besides (lanes f) turn args.n) (turns (lanes f) args.n * touches) (parts code s args back good) in
       let done = x.0 in
       let d = x.1 in
       let h = x.3 in
@@ -117,7 +110,7 @@ module _ (f : FunctionValue) (known : Arrays f) (first : List Ins) (elements : F
       let b = returns Q flow start allowed good.code_low s.core d done x.2 (h.still, last_tame) back word_back in
       let at_start : record { core = s.core; rip = start } ≡ s = ap (λ r. record { core = s.core; rip = r }) (sym good.first) in
       let raised : moved (d.gpr 4) (pos 8) ≡ s.core.gpr 4 + 8 = ap (λ r. moved r (pos 8)) h.stack ∙ moved_up (s.core.gpr 4) low in
-      let bound = steps_rows f known first last turn args.n args.m short in
+      let bound = steps_rows f known first last turn besides args.n args.m short in
       record {
         end = end_with f h.end;
         means = all_rows f (call f known code s args back good) s.core.memory h.end h.emulated;
@@ -137,7 +130,7 @@ module _ (f : FunctionValue) (known : Arrays f) (first : List Ins) (elements : F
         more = promised s args b.way (returned d back)
             (each_map _ _ (λ m q a nd ns nf. q.0.quiet a nd nf ns) b.way b.each, λ a nd ns nf. h.still.quiet a nd nf ns)
             (each_map _ _ (λ m q. q.1) b.way b.each)
-            (λ R sees. at_most_back cell_weight R Q code s.core done d back (weigh cell_weight first + rows (subject_of f) args * (args.n * touches) + weigh cell_weight last) b refl h.light (λ m q. sees m q.1));
+            (λ R sees. at_most_back cell_weight R Q code s.core done d back (weigh cell_weight first + rows (subject_of f) args * (turns (lanes f) args.n * touches) + weigh cell_weight last) b refl h.light (λ m q. sees m q.1));
       }
 
   -- and so it is quiet on its way

@@ -53,79 +53,69 @@ ok_map (Err e) P Q f h = h
 
 -- ---- what is known of a function whose values have places
 
-module _ (f : FunctionValue) (h : is_function f ≡ true) (at : List ℕ) (good : GoodPlaces (steps_of f) at) where
-  stand : AllStand f.vars (patterns_of f.vars f.insns) at [] f.insns
-  stand = all_stand f h at good
+-- of a dest's size so many of which fill a register
+record Filled (dests count size : ℕ) : Type 0 where
+  some : 0 < dests
+  shift : shift_of size ≤ 3
+  size_is : size ≡ 2 ^ shift_of size
+  full : 16 / 2 ^ shift_of size ≡ count
 
-  -- its steps' code can be given
-  pub ready : All (IsReady (layout_of f) at (slice_index (sizes_of f)) 1) (steps_of f)
-  ready = all_ready f h at stand
+filled_by : (dests count size : ℕ) → IsSize size → is_filled dests count size ≡ true → Filled dests count size
+filled_by dests count size is h =
+    let x = both (nat_lt 0 dests) (count * size == 16) h in
+    let some : 0 < dests = ltb-true 0 dests x.0 in
+    let whole : count * size ≡ 16 = eqb-true (count * size) 16 x.1 in
+    go is some whole
+  where
+    go : IsSize size → 0 < dests → count * size ≡ 16 → Filled dests count size
+    go (inl e) some w = subst (λ n. count * n ≡ 16 → Filled dests count n) (sym e) (λ w. record { some = some; shift = omega arith; size_is = refl; full = omega (arith, w) }) w
+    go (inr (inl e)) some w = subst (λ n. count * n ≡ 16 → Filled dests count n) (sym e) (λ w. record { some = some; shift = omega arith; size_is = refl; full = omega (arith, w) }) w
+    go (inr (inr (inl e))) some w = subst (λ n. count * n ≡ 16 → Filled dests count n) (sym e) (λ w. record { some = some; shift = omega arith; size_is = refl; full = omega (arith, w) }) w
+    go (inr (inr (inr e))) some w = subst (λ n. count * n ≡ 16 → Filled dests count n) (sym e) (λ w. record { some = some; shift = omega arith; size_is = refl; full = omega (arith, w) }) w
 
-  module _ (actions : List Action) (is : AreActions at 1 (steps_of f) actions) where
-    small_plan : Small (plan_with f actions)
-    small_plan = small_with f h at actions (all_movable f h at stand actions is) is
+module _ (f : FunctionValue) (h : is_function f ≡ true) where
+  -- the first dest has a size
+  first_size : 0 < count_of kind.Dest f.vars → IsSize (size_of_slot f.vars 0)
+  first_size l =
+      let x = nth_is kind.Dest f.vars 0 (omega (arith, l, length-places_of kind.Dest f.vars)) in
+      size_kept f h (slice_index (places_of kind.Dest f.vars) 0) x.inside
 
-    weights_few : weights actions ≤ cost f
-    weights_few = weights_within f h at stand actions is
+  filled_first : fills f ≡ true → Filled (count_of kind.Dest f.vars) (lanes f) (size_of_slot f.vars 0)
+  filled_first e =
+      let some = ltb-true 0 (count_of kind.Dest f.vars) (both (nat_lt 0 (count_of kind.Dest f.vars)) (lanes f * size_of_slot f.vars 0 == 16) e).0 in
+      filled_by (count_of kind.Dest f.vars) (lanes f) (size_of_slot f.vars 0) (first_size some) e
 
-    done : Done f at actions
-    done = record {
-      is = h;
-      arrays = record { few = limits f h; small = slot_size f h; some = some_size f h };
-      stand = stand;
-      are = is;
-      fit = all_fit f h at stand actions is;
-      turn = ins_of (turn_code (plan_with f actions) 1) (fine_turn (plan_with f actions) small_plan);
-    }
+  module _ (at : List ℕ) (good : GoodPlaces (steps_of f) at) where
+    stand : AllStand f.vars (patterns_of f.vars f.insns) at [] f.insns
+    stand = all_stand f h at good
 
-  -- the sizes of the steps are those of the slots
-  turn_is : (list : List Ins) → IsTurnBy at (sizes_of f) (steps_of f) (count_of kind.Dest f.vars) (count_of kind.Source f.vars) 1 list → IsTurn f 1 list
-  turn_is list x =
-      let few = limits f h in
-      let size : ℕ → ℕ = size_of_slot f.vars in
-      let steps : ℕ → ℕ = slice_index (sizes_of f) in
-      let last : List Ins = AluImm Sub 1 (pos 1) ∷ [] in
-      let block = same_actions steps size 1 (far_by 0 steps) at_pointer unaligned (λ k e. let z : 0 * steps k ≡ 0 = omega arith in z) x.0 (all_same f h at stand x.0 x.1) in
-      let dests = same_advance steps size 1 0 (count_of kind.Dest f.vars) (λ k l m. slot_sized f h k (inl (omega (arith, m)))) in
-      let sources = same_advance steps size 1 4 (count_of kind.Source f.vars) (λ k l m. slot_sized f h k (inr (l, m))) in
-      (at, good, (x.0, x.1, x.2 ∙ ap₂ (λ (a b : List Ins). a ++ b) block (ap₂ (λ (a b : List Ins). a ++ (b ++ last)) dests sources)))
+    able : (count : ℕ) → IsCount f count → (actions : List Action) → AreActions at count (steps_of f) actions → Able f at count actions
+    able count c actions is = record { are = is; fit = fit_for f h at good count c actions is; turn = turn_ins f h at good count c actions is }
 
--- in whole slices, and by the views of what is handed over
-pub ready_slices : (l : Layout) (count : ℕ) (at at' sizes sizes' : List ℕ) (steps steps' : List Step) → at' ≡ at → sizes' ≡ sizes → steps' ≡ steps → All (IsReady l at (slice_index sizes) count) steps → All (IsReady l at' (slice_index sizes') count) steps'
-ready_slices l count at at' sizes sizes' steps steps' a b c h =
-    subst (λ xs. All (IsReady l at' (slice_index sizes') count) xs) (sym c) (subst (λ xs. All (IsReady l at' (slice_index xs) count) steps) (sym b) (subst (λ xs. All (IsReady l xs (slice_index sizes) count) steps) (sym a) h))
-
-pub ready_for : (f : FunctionValue) → is_function f ≡ true → (l : Layout) (at sizes : List ℕ) (steps : List Step) → l ≡ layout_of f → sizes ≡ sizes_of f → steps ≡ steps_of f → GoodPlaces steps at → All (IsReady l at (slice_index sizes) 1) steps
-ready_for f h l at sizes steps a b c good =
-    subst (λ y. All (IsReady y at (slice_index sizes) 1) steps) (sym a)
-    (ready_slices (layout_of f) 1 at at (sizes_of f) sizes (steps_of f) steps refl b c (ready f h at (subst (λ xs. GoodPlaces xs at) c good)))
-
-pub turn_of : (f : FunctionValue) → is_function f ≡ true → (at sizes : List ℕ) (steps : List Step) (dests sources : ℕ) (list : List Ins) → sizes ≡ sizes_of f → steps ≡ steps_of f → dests ≡ count_of kind.Dest f.vars → sources ≡ count_of kind.Source f.vars → GoodPlaces steps at
-    → IsTurnBy at sizes steps dests sources 1 list → IsTurn f 1 list
-turn_of f h at sizes steps dests sources list a b c d good x =
-    turn_is f h at (subst (λ xs. GoodPlaces xs at) b good) list
-    (subst (λ n. IsTurnBy at (sizes_of f) (steps_of f) (count_of kind.Dest f.vars) n 1 list) d
-    (subst (λ n. IsTurnBy at (sizes_of f) (steps_of f) n sources 1 list) c
-    (subst (λ xs. IsTurnBy at (sizes_of f) xs dests sources 1 list) b
-    (subst (λ xs. IsTurnBy at xs steps dests sources 1 list) a x))))
-
-pub spelled_turn : (f : FunctionValue) → is_function f ≡ true → (list : List Ins) → IsTurn f 1 list → All (λ i. IsTrue (has_spelling i)) list
-spelled_turn f h list x = subst (All (λ i. IsTrue (has_spelling i))) (sym x.2.2) (fine_spelled (turn_code (plan_with f x.2.0) 1) (fine_turn (plan_with f x.2.0) (small_plan f h x.0 x.1 x.2.0 x.2.1)))
-
-pub turn_fits : (f : FunctionValue) → is_function f ≡ true → (list : List Ins) → IsTurn f 1 list → size list ≤ 900000
-turn_fits f h list x = omega (arith, ap size x.2.2, turn_bytes (plan_with f x.2.0) (small_plan f h x.0 x.1 x.2.0 x.2.1))
+    stored : (actions : List Action) → AreActions at (lanes f) (steps_of f) actions → fills f ≡ true → Stored f at (lanes f) actions
+    stored actions is e =
+        let c = lanes_count f h in
+        let x = filled_first e in
+        record {
+          able = able (lanes f) c actions is;
+          block = aligned_block_ins f h at good (lanes f) c actions is;
+          turn = aligned_ins f h at good (lanes f) c actions is;
+          some = x.some;
+          shift = x.shift;
+          size = x.size_is;
+          full = x.full;
+        }
 
 -- ---- the code
 
--- the lists that a function's code is made of
-pub record Lists (f : FunctionValue) (l : Layout) (first turn last : List Ins) : Type 0 where
+-- the lists around the rows of a function's code
+pub record Lists (f : FunctionValue) (l : Layout) (first last : List Ins) : Type 0 where
   pub layout : l ≡ layout_of f
   pub prepares : Prepares l first
   pub first_own : AreOwn first
   pub first_allowed : Each IsAllowed first
   pub first_bytes : size first ≤ 11 * length first
   pub first_short : length first ≤ 8 + 8 * length l.patterns.items + 3 * length l.acc_sizes.items
-  pub turn_is : IsTurn f 1 turn
   pub finishes : Finishes l last
   pub last_own : AreOwn last
   pub last_allowed : Each IsAllowed last
@@ -140,62 +130,122 @@ ret_bytes : size (Ret ∷ []) ≡ 1
 unfolding spelling
 ret_bytes = refl
 
-module _ (f : FunctionValue) (h : is_function f ≡ true) (l : Layout) (first turn last : List Ins) (x : Lists f l first turn last) where
-  abbrev at : List ℕ
-  at = x.turn_is.0
+-- ---- the loops over a row's elements: allowed, and of few bytes
 
-  abbrev actions : List Action
-  actions = x.turn_is.2.0
+fits_turn : (list : List Ins) → Each IsFine list → size list ≤ 200000 → Fits 200000 list
+fits_turn list h few = record { allowed = all_allowed list h; bytes = few }
 
-  abbrev plan : Plan
-  plan = plan_with f actions
+fits_turns : (list : List Ins) → Fits 200000 list → Fits 200011 (loop_code Ns list)
+fits_turns list h = (let b = h.bytes in record { allowed = loop_fine Ns list (omega (arith, b)) h.allowed; bytes = omega (arith, loop_size Ns list, b) })
 
-  abbrev list : List Ins
-  list = turn_code plan 1
+fits_elements : (b : Bool) (shift lanes : ℕ) (single wide aligned : List Ins) → shift ≤ 3 → lanes ≤ 64 → Fits 200000 single → Fits 200000 wide → (b ≡ true → Fits 200000 aligned) → Fits 801000 (flat (elements_flow b shift lanes single wide aligned))
+fits_elements true shift lanes single wide aligned small most one more stored =
+    let x = fits_aligned (Plain single) (Repeat Ns (Plain wide)) (Repeat Ns (Plain aligned)) lanes 200000 200011 200011 most (omega arith) (omega arith) (omega arith) one (fits_turns wide more) (fits_turns aligned (stored refl)) shift small in
+    record { allowed = x.allowed; bytes = (let y = x.bytes in omega (arith, y)) }
+fits_elements false shift lanes single wide aligned small most one more stored =
+    let x = fits_plain (Plain single) (Repeat Ns (Plain wide)) (Repeat Ns (Plain wide)) lanes 200000 200011 200011 most (omega arith) (omega arith) (omega arith) one (fits_turns wide more) (fits_turns wide more) in
+    record { allowed = x.allowed; bytes = (let y = x.bytes in omega (arith, y)) }
 
+shift_small : (size : ℕ) → shift_of size ≤ 3
+shift_small size = go (size == 8) (size == 4) (size == 2)
+  where
+    go : (a b c : Bool) → (if a then 3 else (if b then 2 else (if c then 1 else 0))) ≤ 3
+    go true b c = omega arith
+    go false true c = omega arith
+    go false false true = omega arith
+    go false false false = omega arith
+
+besides_fit : (dests lanes size sources : ℕ) (b : Bool) → is_filled dests lanes size ≡ b → besides_of b ≤ 17 + 3 * (dests + sources)
+besides_fit dests lanes size sources true e = (let some = ltb-true 0 dests (both (nat_lt 0 dests) (lanes * size == 16) e).0 in omega (arith, some))
+besides_fit dests lanes size sources false e = omega arith
+
+module _ (f : FunctionValue) (h : is_function f ≡ true) (l : Layout) (first last : List Ins) (x : Lists f l first last) (single wide aligned : List Ins) (turns : Turns f single wide aligned) where
   abbrev dests : ℕ
   dests = count_of kind.Dest f.vars
 
   abbrev sources : ℕ
   sources = count_of kind.Source f.vars
 
-  small : Small plan
-  small = small_plan f h at x.turn_is.1 actions x.turn_is.2.1
+  few : Limits f
+  few = limits f h
 
   fact : Facts l
   fact = facts l (f, h, x.layout)
 
+  abbrev elements : Flow
+  elements = elements_of f single wide aligned
+
   abbrev rows : List Ins
-  rows = flat (rows_flow (turns_flow list) f.two_d dests sources)
+  rows = flat (rows_flow elements f.two_d dests sources)
 
   abbrev pub flow : Flow
-  flow = whole_flow first (turns_flow list) last f.two_d dests sources
+  flow = whole_flow first elements last f.two_d dests sources
 
-  turns_size : size (loop_code Ne list) ≤ 200011
-  turns_size = omega (arith, loop_bytes dests sources small.dests small.sources list, turn_bytes plan small)
+  -- the longest turn, and the cells that one touches
+  abbrev each : ℕ
+  each = cost f + (dests + sources) + 1
+
+  abbrev some : ℕ
+  some = weigh cell_weight single + weigh cell_weight wide + weigh cell_weight aligned
+
+  single_few : IsShort f single
+  single_few = turn_short f h turns.good 1 (one_count f h) single turns.one
+
+  wide_few : IsShort f wide
+  wide_few = turn_short f h turns.good (lanes f) (lanes_count f h) wide turns.more
+
+  aligned_few : fills f ≡ true → IsShort f aligned
+  aligned_few e = aligned_short f h turns.good (lanes f) (lanes_count f h) aligned (turns.stored e)
+
+  done : Done f turns.at single wide aligned each some
+  done = record {
+    is = h;
+    arrays = record { few = few; small = slot_size f h; some = some_size f h };
+    stand = stand f h turns.at turns.good;
+    positive = (lanes_count f h).some;
+    most = (lanes_count f h).most;
+    one = turns.one.0;
+    able_one = able f h turns.at turns.good 1 (one_count f h) turns.one.0 turns.one.1;
+    single_is = turns.one.2;
+    more = turns.more.0;
+    able_more = able f h turns.at turns.good (lanes f) (lanes_count f h) turns.more.0 turns.more.1;
+    wide_is = turns.more.2;
+    stored = λ e. ((turns.stored e).0, stored f h turns.at turns.good (turns.stored e).0 (turns.stored e).1 e, (turns.stored e).2);
+    short_single = single_few.steps;
+    short_wide = wide_few.steps;
+    short_aligned = λ e. (aligned_few e).steps;
+    light_single = omega arith;
+    light_wide = omega arith;
+    light_aligned = λ e. omega arith;
+  }
+
+  fits : Fits 801000 (flat elements)
+  fits = fits_elements (fills f) (shift_of (size_of_slot f.vars 0)) (lanes f) single wide aligned (shift_small (size_of_slot f.vars 0)) (let m = (lanes_count f h).most in omega (arith, m))
+      (fits_turn single single_few.fine single_few.bytes) (fits_turn wide wide_few.fine wide_few.bytes) (λ e. fits_turn aligned (aligned_few e).fine (aligned_few e).bytes)
 
   allowed : Each IsAllowed (with_return flow)
   allowed =
-      let turns = loop_allowed dests sources small.dests small.sources list (omega (arith, turn_bytes plan small)) (all_allowed list (fine_turn plan small)) in
-      let middle = rows_allowed dests sources small.dests small.sources (turns_flow list) f.two_d (omega (arith, turns_size)) turns in
+      let middle = rows_allowed dests sources few.dests few.sources elements f.two_d (let b = fits.bytes in omega (arith, b)) fits.allowed in
       each_both IsAllowed (first ++ (rows ++ last)) (Ret ∷ []) (each_both IsAllowed first (rows ++ last) x.first_allowed (each_both IsAllowed rows last middle x.last_allowed)) ((tt, refl), tt)
 
   code_length : HasCodeLength (spell_all (with_return flow))
   code_length =
-      let both = size_both dests sources small.dests small.sources in
+      let both = size_both dests sources few.dests few.sources in
       let all = both (first ++ (rows ++ last)) (Ret ∷ []) in
       let front = both first (rows ++ last) in
       let back = both rows last in
-      let middle = rows_bytes dests sources small.dests small.sources (turns_flow list) f.two_d in
-      (omega (arith, all, ret_bytes), omega (arith, all, ret_bytes, front, back, middle, turns_size, x.first_bytes, x.first_short, x.last_bytes, x.last_short, fact.few_patterns, fact.few_sums))
+      let middle = rows_bytes dests sources few.dests few.sources elements f.two_d in
+      let b = fits.bytes in
+      (omega (arith, all, ret_bytes), omega (arith, all, ret_bytes, front, back, middle, b, x.first_bytes, x.first_short, x.last_bytes, x.last_short, fact.few_patterns, fact.few_sums))
 
-  short : AreShort f first last (length list)
+  short : AreShort f first last each (besides_of (fills f))
   short =
       let patterns : length l.patterns.items ≡ length (patterns_of f.vars f.insns) = ap (λ (y : Layout). length y.patterns.items) x.layout ∙ ap length (patterns_are f) in
       let sums : length l.acc_sizes.items ≡ count_of kind.Accumulator f.vars = ap (λ (y : Layout). length y.acc_sizes.items) x.layout ∙ ap length (sizes_are f) ∙ length-acc_sizes_of f in
       record {
         lists = omega (arith, x.first_short, x.last_short, patterns, sums);
-        turn_few = omega (arith, turn_count plan 1 small.actions, weights_few f h at x.turn_is.1 actions x.turn_is.2.1);
+        turn_few = omega arith;
+        besides_few = besides_fit dests (lanes f) (size_of_slot f.vars 0) sources (fills f) refl;
       }
 
   -- the lists around the rows touch no cell
@@ -207,19 +257,22 @@ module _ (f : FunctionValue) (h : is_function f ≡ true) (l : Layout) (first tu
 
   code_runs : RunsQuietly f (spell_all (with_return flow))
   code_runs =
-      let d : Done f at actions = done f h at x.turn_is.1 actions x.turn_is.2.1 in
       lift (subject_of f) (quiet (subject_of f)) (quiet_lifts (subject_of f)) (spell_all (with_return flow))
-      (runs f d.arrays first (turns_flow list) last (length list) (weigh cell_weight list) short (λ s args u i. Unit {0}) (λ code s args back good u i t. tt)
-      (λ code s args back good. parts f at actions d code s args back good first last (subst (λ y. Prepares y first) x.layout x.prepares) (subst (λ y. Finishes y last) x.layout x.finishes))
+      (runs f done.arrays first elements last each (besides_of (fills f)) some short (λ s args u i. Unit {0}) (λ code s args back good u i t. tt)
+      (λ code s args back good. parts f turns.at single wide aligned each some done code s args back good first last (subst (λ y. Prepares y first) x.layout x.prepares) (subst (λ y. Finishes y last) x.layout x.finishes))
       allowed)
 
-  pub whole_runs : (bytes : List ℕ) (two_d : Bool) (d s : ℕ) → two_d ≡ f.two_d → d ≡ dests → s ≡ sources → bytes ≡ spell_all (with_return (whole_flow first (turns_flow turn) last two_d d s)) → RunsQuietly f bytes × HasCodeLength bytes
-  whole_runs bytes two_d d s a b c e =
+  pub whole_runs : (bytes : List ℕ) (two_d : Bool) (d s : ℕ) (tree : List Ins) → two_d ≡ f.two_d → d ≡ dests → s ≡ sources → tree ≡ flat elements → bytes ≡ spell_all (with_return (whole_flow first (Plain tree) last two_d d s)) → RunsQuietly f bytes × HasCodeLength bytes
+  whole_runs bytes two_d d s tree a b c t e =
       let is : bytes ≡ spell_all (with_return flow) =
-      e ∙ ap (λ r. spell_all (with_return (whole_flow first (turns_flow turn) last r d s))) a ∙ ap₂ (λ d s. spell_all (with_return (whole_flow first (turns_flow turn) last f.two_d d s))) b c
-      ∙ ap (λ t. spell_all (with_return (whole_flow first (turns_flow t) last f.two_d dests sources))) x.turn_is.2.2 in
+      e ∙ ap (λ r. spell_all (with_return (whole_flow first (Plain tree) last r d s))) a ∙ ap₂ (λ d s. spell_all (with_return (whole_flow first (Plain tree) last f.two_d d s))) b c
+      ∙ ap (λ t. spell_all (with_return (whole_flow first (Plain t) last f.two_d dests sources))) t in
       (subst (RunsQuietly f) (sym is) code_runs, subst HasCodeLength (sym is) code_length)
 
+  -- the bytes of the elements' loops
+  pub elements_few : (tree : List Ins) → tree ≡ flat elements → size tree ≤ 900000
+  elements_few tree e = (let b = fits.bytes in omega (arith, ap size e, b))
+
 -- in whole slices
-pub list_slices : (f : FunctionValue) (l : Layout) (first turn last a b c : List Ins) → a ≡ first → b ≡ turn → c ≡ last → Lists f l first turn last → Lists f l a b c
-list_slices f l first turn last a b c p q r x = subst (λ z. Lists f l z b c) (sym p) (subst (λ z. Lists f l first z c) (sym q) (subst (λ z. Lists f l first turn z) (sym r) x))
+pub list_slices : (f : FunctionValue) (l : Layout) (first last a c : List Ins) → a ≡ first → c ≡ last → Lists f l first last → Lists f l a c
+list_slices f l first last a c p r x = subst (λ z. Lists f l z c) (sym p) (subst (λ z. Lists f l first z) (sym r) x)

@@ -308,7 +308,8 @@ pub record Turns (f : FunctionValue) (single wide aligned : List Ins) : Type 0 w
   pub good : GoodPlaces (steps_of f) at
   pub one : IsTurn f at 1 single
   pub more : IsTurn f at (lanes f) wide
-  pub stored : IsAlignedTurn f at (lanes f) aligned
+  -- where a register of the first dest is filled
+  pub stored : is_filled (count_of kind.Dest f.vars) (lanes f) (size_of_slot f.vars 0) ≡ true → IsAlignedTurn f at (lanes f) aligned
 
 abbrev pub elements_of : FunctionValue → List Ins → List Ins → List Ins → Flow
 elements_of f single wide aligned =
