@@ -1,13 +1,12 @@
 -- Plans of functions are small.
-use Rattle.std.proofs.Common.{◌≡◌, ℕ, suc, ◌+◌, ◌*◌, ◌-◌, ◌<◌, ◌≤◌, ◌&&◌, nat_le, nat_lt, true, false, if◌then◌else◌, List, [], ◌∷◌, ◌++◌, length, slice_index, refl, sym, ap, ◌∙◌, subst, arith, inl, inr, ⊎_elim, length-append}
-use Rattle.std.proofs.lemmas.Bool.{cases_lt, leb-false, or_parts}
+use Rattle.std.proofs.Common.{◌≡◌, ℕ, suc, ◌+◌, ◌*◌, ◌-◌, ◌<◌, ◌≤◌, ◌&&◌, nat_le, nat_lt, true, false, if◌then◌else◌, List, [], ◌∷◌, ◌++◌, length, slice_index, refl, sym, ap, ◌∙◌, subst, arith, inl, inr, length-append}
+use Rattle.std.proofs.lemmas.Bool.{leb-false, or_parts}
 use Rattle.std.proofs.lemmas.Bool.Decides.{nat_tests}
-use Rattle.std.proofs.lemmas.List.{get_or_past}
 use Rattle.orc_program.specs.declared.program.Var.{Var}
 use Rattle.orc_program.specs.declared.program.VarKind.TheVariants as kind
 use Rattle.orc_program.specs.declared.program.Insn.{Insn}
 use Rattle.orc_program.specs.declared.program.Pattern.{Pattern}
-use Rattle.orc_program.specs.Program.{FunctionValue, var_at, no_var, count_of, places_of}
+use Rattle.orc_program.specs.Program.{FunctionValue, var_at, count_of, places_of}
 use Rattle.orc_program.specs.Slots.{slot_of, size_of_slot}
 use Rattle.orc_program.specs.Checks.{insn_fault, patterns_of, most_insns, most_patterns}
 use Rattle.orc_program.specs.Need.{made_by}
@@ -28,21 +27,8 @@ use Rattle.orc_asm.proofs.Block.{IsMovedFrom, IsMovedTo}
 use Rattle.orc_asm.proofs.Turn.{IsSlot}
 use Rattle.orc_asm.proofs.Passing.{checked}
 use Rattle.orc_asm.proofs.Counts.{IsFromSlot, IsToSlot, IsMovable}
+use Rattle.orc_asm.proofs.Several.{IsCount, any_size, width_of_count}
 use Rattle.orc_asm.proofs.Sizes.{Small}
-
--- ---- sizes
-
-few_bytes : (n : ℕ) → IsSize n → n ≤ 8
-few_bytes n (inl e) = omega (arith, e)
-few_bytes n (inr (inl e)) = omega (arith, e)
-few_bytes n (inr (inr (inl e))) = omega (arith, e)
-few_bytes n (inr (inr (inr e))) = omega (arith, e)
-
-any_size : (f : FunctionValue) → is_function f ≡ true → (q : ℕ) → (var_at f.vars q).size ≤ 8
-any_size f h q = ⊎_elim
-    (λ l. few_bytes (var_at f.vars q).size (size_kept f h q l))
-    (λ g. omega (arith, ap (λ (v : Var). v.size) (get_or_past f.vars q no_var g)))
-    (cases_lt q (length f.vars))
 
 -- ---- the number of instructions
 
@@ -70,20 +56,14 @@ no_call = record { n = 0; m = 0; base = λ k. 0; stride = λ k. 0; param = λ k.
 
 -- ---- actions
 
-pub lanes_fit : (k w : ℕ) → w * k ≤ 8 → 1 * k * w ≤ 16
-lanes_fit k w h = omega (arith, h)
+pub lanes_fit : (count k w : ℕ) → count * (w * k) ≤ 16 → count * k * w ≤ 16
+lanes_fit count k w h = omega (arith, h)
 
-one_width : (n : ℕ) → IsSize n → IsWidth (1 * n)
-one_width n (inl e) = inl (omega (arith, e))
-one_width n (inr (inl e)) = inr (inl (omega (arith, e)))
-one_width n (inr (inr (inl e))) = inr (inr (inl (omega (arith, e))))
-one_width n (inr (inr (inr e))) = inr (inr (inr (inl (omega (arith, e)))))
-
-same_length : (at : List ℕ) (steps : List Step) (actions : List Action) → AreActions at 1 steps actions → length actions ≡ length steps
-same_length at [] [] is = refl
-same_length at [] (a ∷ rest) is = absurd is
-same_length at (s ∷ steps) [] is = absurd is
-same_length at (s ∷ steps) (a ∷ rest) is = ap suc (same_length at steps rest is.1)
+same_length : (at : List ℕ) (count : ℕ) (steps : List Step) (actions : List Action) → AreActions at count steps actions → length actions ≡ length steps
+same_length at count [] [] is = refl
+same_length at count [] (a ∷ rest) is = absurd is
+same_length at count (s ∷ steps) [] is = absurd is
+same_length at count (s ∷ steps) (a ∷ rest) is = ap suc (same_length at count steps rest is.1)
 
 -- one step per instruction
 step_each : (vars : List Var) (known : List Pattern) (temps : List ℕ) (insns : List Insn) → length (steps_after vars known temps insns) ≡ length insns
@@ -121,21 +101,6 @@ module _ (f : FunctionValue) (h : is_function f ≡ true) where
           let here : nat_lt (k - 4) (count_of kind.Source f.vars) ≡ true = grind (arith, nat_tests, l.0, l.1) in
           ap (λ b. if b then nat_lt k (count_of kind.Dest f.vars) else nat_lt (k - 4) (count_of kind.Source f.vars)) later ∙ here
 
-  pub slot_width : (p b : ℕ) → IsCells f p b → IsWidth (1 * size_of_slot f.vars (slot_of f.vars p))
-  slot_width p b is = subst (λ n. IsWidth (1 * n)) (sym (slot_there p b is).size) (one_width (var_at f.vars p).size (size_kept f h p is.inside))
-
-  pub moved_from : (ss : List Source) → Each (IsFromSlot 1 (size_of_slot f.vars)) ss → Each (IsMovedFrom 1 (size_of_slot f.vars)) ss
-  moved_from [] h = tt
-  moved_from (FromArray k ∷ ss) h = (h.0.0, moved_from ss h.1)
-  moved_from (FromPattern j ∷ ss) h = (tt, moved_from ss h.1)
-  moved_from (FromPlace p ∷ ss) h = (tt, moved_from ss h.1)
-
-  pub moved_to : (ts : List Target) → Each (IsToSlot 1 (size_of_slot f.vars)) ts → Each (IsMovedTo 1 (size_of_slot f.vars)) ts
-  moved_to [] h = tt
-  moved_to (ToArray k ∷ ts) h = (h.0.0, moved_to ts h.1)
-  moved_to (ToSum g ∷ ts) h = (tt, moved_to ts h.1)
-  moved_to (ToPlace p ∷ ts) h = (tt, moved_to ts h.1)
-
   pub some_size : (p : ℕ) → p < length f.vars → 0 < (var_at f.vars p).size
   some_size p l = some_bytes (var_at f.vars p).size (size_kept f h p l)
     where
@@ -148,12 +113,34 @@ module _ (f : FunctionValue) (h : is_function f ≡ true) where
   pub slot_size : (k : ℕ) → size_of_slot f.vars k ≤ 8
   slot_size k = any_size f h (if nat_lt k 4 then slice_index (places_of kind.Dest f.vars) k else slice_index (places_of kind.Source f.vars) (k - 4))
 
-  -- plans of functions are small
-  pub small_with : (at : List ℕ) (actions : List Action) → Each (IsMovable 1 (size_of_slot f.vars)) actions → AreActions at 1 (steps_of f) actions → Small (plan_with f actions)
-  small_with at actions m is = record {
-    dests = few.dests;
-    sources = few.sources;
-    size = slot_size;
-    actions = m;
-    few = omega (arith, same_length at (steps_of f) actions is, steps_length f, few_pass f.vars [] f.insns (kept_of f h).insns (omega arith));
-  }
+  -- ---- so many elements at once
+
+  module _ (count : ℕ) where
+    pub moved_from : (ss : List Source) → Each (IsFromSlot count (size_of_slot f.vars)) ss → Each (IsMovedFrom count (size_of_slot f.vars)) ss
+    moved_from [] h = tt
+    moved_from (FromArray k ∷ ss) h = (h.0.0, moved_from ss h.1)
+    moved_from (FromPattern j ∷ ss) h = (tt, moved_from ss h.1)
+    moved_from (FromPlace p ∷ ss) h = (tt, moved_from ss h.1)
+
+    pub moved_to : (ts : List Target) → Each (IsToSlot count (size_of_slot f.vars)) ts → Each (IsMovedTo count (size_of_slot f.vars)) ts
+    moved_to [] h = tt
+    moved_to (ToArray k ∷ ts) h = (h.0.0, moved_to ts h.1)
+    moved_to (ToSum g ∷ ts) h = (tt, moved_to ts h.1)
+    moved_to (ToPlace p ∷ ts) h = (tt, moved_to ts h.1)
+
+    module _ (is_count : IsCount f count) where
+      pub slot_width : (p b : ℕ) → IsCells f p b → IsWidth (count * size_of_slot f.vars (slot_of f.vars p))
+      slot_width p b is =
+          subst (λ n. IsWidth (count * n)) (sym (slot_there p b is).size)
+          (width_of_count f count is_count (var_at f.vars p).size (size_kept f h p is.inside) (is_count.arrays p is.inside is.array))
+
+      -- plans of functions are small
+      pub small_with : (at : List ℕ) (actions : List Action) → Each (IsMovable count (size_of_slot f.vars)) actions → AreActions at count (steps_of f) actions → Small count (plan_with f actions)
+      small_with at actions m is = record {
+        most = is_count.most;
+        dests = few.dests;
+        sources = few.sources;
+        size = slot_size;
+        actions = m;
+        few = omega (arith, same_length at count (steps_of f) actions is, steps_length f, few_pass f.vars [] f.insns (kept_of f h).insns (omega arith));
+      }

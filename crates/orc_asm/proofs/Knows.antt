@@ -27,7 +27,7 @@ use Rattle.orc_frame.specs.Frame.{period}
 use Rattle.orc_frame.specs.Layout.{layout_of}
 use Rattle.orc_frame.proofs.Apart.{length-acc_sizes_of}
 use Rattle.orc_program.specs.declared.program.Pattern.{Pattern}
-use Rattle.orc_asm.specs.Code.{Action, Source, FromArray, FromPattern, FromPlace, Target, ToArray, ToSum, ToPlace, source_of, target_of, IsAction, AreActions, IsLoaded, IsStored, IsReady, patterns_in, first_register, second_register, action_code, IsMoved}
+use Rattle.orc_asm.specs.Code.{Action, Source, FromArray, FromPattern, FromPlace, Target, ToArray, ToSum, ToPlace, source_of, target_of, IsAction, AreActions, IsLoaded, IsStored, IsReady, patterns_in, first_register, second_register, at_pointer, unaligned, action_code, IsMoved}
 use Rattle.orc_asm.proofs.Cells.{Numbers, IsOf, IsTo, IsFrom, IsBeside, AreFrom, IsMade, AreTo, IsKept, IsKnown, AllKnown, live_target, live_targets, live_act, no_values}
 use Rattle.orc_asm.proofs.Emulated.{IsCells, IsSum, meant}
 use Rattle.orc_asm.proofs.Elements.{IsRead, AreRead, Follows, IsWritten, AreWritten, IsMeant, AreMeant}
@@ -38,11 +38,12 @@ use Rattle.orc_asm.proofs.Keeping.{ins_of}
 use Rattle.orc_asm.proofs.Cost.{from_weight, from_weights, to_weight, to_weights, weight, weights}
 use Rattle.orc_asm.proofs.Counts.{IsFromSlot, IsToSlot, IsMovable}
 use Rattle.orc_asm.proofs.Sizes.{fine_action}
-use Rattle.orc_asm.proofs.Sized.{HasPrefix, first_period, second_period, sum_ok}
+use Rattle.orc_asm.proofs.Sized.{HasPrefix, first_period, second_period}
 use Rattle.orc_asm.proofs.Direct.{pattern_of, number_of, IsSourced, IsTargeted}
 use Rattle.orc_asm.proofs.Acts.{View, StandsIn, nothing_stands, place_in, AreSourced, AreTargeted, AreFollowed, IsClear, IsPlanned, ArePlanned, are_planned}
 use Rattle.orc_asm.proofs.Layouts.{patterns_are, sizes_are}
 use Rattle.orc_asm.proofs.SameSizes.{SameFrom, SameTo, SameFor}
+use Rattle.orc_asm.proofs.Several.{FitsIn, IsCount, sum_fits}
 use Rattle.orc_asm.proofs.Fits.{slot_small, slot_same, slot_width, moved_from, moved_to, lanes_fit}
 
 -- the bytes of accumulator g
@@ -290,14 +291,14 @@ module _ (f : FunctionValue) (at : List ℕ) (call : Call) (n : ℕ) (base : ℕ
 
 -- ---- what the code needs
 
-module _ (f : FunctionValue) (h : is_function f ≡ true) (at : List ℕ) where
-  from_slot : (temps : List ℕ) (steps : List Step) (op : Op) (prefix position : ℕ) (o : Operand) (s : Source) → IsSourced f at temps steps op prefix position o s → IsFromSlot 1 (size_of_slot f.vars) s
-  from_slot temps steps op prefix position o (FromArray k) d = subst (λ k. IsWidth (1 * size_of_slot f.vars k) × (k < 12)) d.3 (slot_width f h d.0 (size_of_source op position * prefix) d.2, slot_small f h d.0 (size_of_source op position * prefix) d.2)
+module _ (f : FunctionValue) (h : is_function f ≡ true) (at : List ℕ) (count : ℕ) (is_count : IsCount f count) where
+  from_slot : (temps : List ℕ) (steps : List Step) (op : Op) (prefix position : ℕ) (o : Operand) (s : Source) → IsSourced f at temps steps op prefix position o s → IsFromSlot count (size_of_slot f.vars) s
+  from_slot temps steps op prefix position o (FromArray k) d = subst (λ k. IsWidth (count * size_of_slot f.vars k) × (k < 12)) d.3 (slot_width f h count is_count d.0 (size_of_source op position * prefix) d.2, slot_small f h d.0 (size_of_source op position * prefix) d.2)
   from_slot temps steps op prefix position o (FromPattern j) d = let l = patterns_few f h in let m = d.1 in omega (arith, l, m)
   from_slot temps steps op prefix position o (FromPlace a) d = d.6
 
-  to_slot : (op : Op) (prefix position : ℕ) (o : Operand) (t : Target) → IsTargeted f op prefix position o t → IsToSlot 1 (size_of_slot f.vars) t
-  to_slot op prefix position o (ToArray k) d = subst (λ k. IsWidth (1 * size_of_slot f.vars k) × (k < 12)) d.4 (slot_width f h d.0 (size_of_result op position * prefix) d.2, slot_small f h d.0 (size_of_result op position * prefix) d.2)
+  to_slot : (op : Op) (prefix position : ℕ) (o : Operand) (t : Target) → IsTargeted f op prefix position o t → IsToSlot count (size_of_slot f.vars) t
+  to_slot op prefix position o (ToArray k) d = subst (λ k. IsWidth (count * size_of_slot f.vars k) × (k < 12)) d.4 (slot_width f h count is_count d.0 (size_of_result op position * prefix) d.2, slot_small f h d.0 (size_of_result op position * prefix) d.2)
   to_slot op prefix position o (ToSum g) d = let l = before_less kind.Accumulator f.vars d.0 d.2.inside (ap (same_kind kind.Accumulator) d.2.sum) in omega (arith, l, d.3, (limits f h).accs)
   to_slot op prefix position o (ToPlace a) d = d.5
 
@@ -306,13 +307,13 @@ module _ (f : FunctionValue) (h : is_function f ≡ true) (at : List ℕ) where
   abbrev sizes : ℕ → ℕ
   sizes = slice_index (sizes_of f)
 
-  moved : (p b k : ℕ) → IsCells f p b → slot_of f.vars p ≡ k → IsMoved sizes 1 k
-  moved p b k is e = subst (IsMoved sizes 1) e (slot_small f h p b is, subst (λ n. IsWidth (1 * n)) (sym (slot_same f h p b is)) (slot_width f h p b is))
+  moved : (p b k : ℕ) → IsCells f p b → slot_of f.vars p ≡ k → IsMoved sizes count k
+  moved p b k is e = subst (IsMoved sizes count) e (slot_small f h p b is, subst (λ n. IsWidth (count * n)) (sym (slot_same f h p b is)) (slot_width f h count is_count p b is))
 
   same_size : (p b k : ℕ) → IsCells f p b → slot_of f.vars p ≡ k → sizes k ≡ size_of_slot f.vars k
   same_size p b k is e = subst (λ k. sizes k ≡ size_of_slot f.vars k) e (slot_same f h p b is)
 
-  from_loaded : (temps : List ℕ) (steps : List Step) (op : Op) (prefix position : ℕ) (o : Operand) (s : Source) → IsSourced f at temps steps op prefix position o s → IsLoaded (layout_of f) sizes 1 s
+  from_loaded : (temps : List ℕ) (steps : List Step) (op : Op) (prefix position : ℕ) (o : Operand) (s : Source) → IsSourced f at temps steps op prefix position o s → IsLoaded (layout_of f) sizes count s
   from_loaded temps steps op prefix position o (FromArray k) d = moved d.0 (size_of_source op position * prefix) k d.2 d.3
   from_loaded temps steps op prefix position o (FromPattern j) d = subst (λ (ps : List Pattern). j < length ps) (sym (patterns_are f)) d.1
   from_loaded temps steps op prefix position o (FromPlace a) d = d.6
@@ -322,7 +323,7 @@ module _ (f : FunctionValue) (h : is_function f ≡ true) (at : List ℕ) where
   from_same temps steps op prefix position o (FromPattern j) d = tt
   from_same temps steps op prefix position o (FromPlace a) d = tt
 
-  to_stored : (op : Op) (prefix position : ℕ) (o : Operand) (t : Target) → IsTargeted f op prefix position o t → IsStored (layout_of f) sizes 1 t
+  to_stored : (op : Op) (prefix position : ℕ) (o : Operand) (t : Target) → IsTargeted f op prefix position o t → IsStored (layout_of f) sizes count t
   to_stored op prefix position o (ToArray k) d = moved d.0 (size_of_result op position * prefix) k d.2 d.4
   to_stored op prefix position o (ToSum g) d =
       let l = before_less kind.Accumulator f.vars d.0 d.2.inside (ap (same_kind kind.Accumulator) d.2.sum) in
@@ -369,8 +370,8 @@ module _ (f : FunctionValue) (h : is_function f ≡ true) (at : List ℕ) where
   -- ---- one or two of each
 
   record AreFew (os : List Operand) (ss : List Source) : Type 0 where
-    slots : Each (IsFromSlot 1 (size_of_slot f.vars)) ss
-    loaded : Each (IsLoaded (layout_of f) sizes 1) ss
+    slots : Each (IsFromSlot count (size_of_slot f.vars)) ss
+    loaded : Each (IsLoaded (layout_of f) sizes count) ss
     same : Each (SameFrom sizes (size_of_slot f.vars)) ss
     few : length ss ≤ 2
     cost : from_weights ss ≤ sum_by (source_cost f.vars) os
@@ -405,8 +406,8 @@ module _ (f : FunctionValue) (h : is_function f ≡ true) (at : List ℕ) where
   few_sources temps steps op prefix (x ∷ y ∷ z ∷ rest) ss d = absurd d
 
   record AreFewTo (os : List Operand) (ts : List Target) : Type 0 where
-    slots : Each (IsToSlot 1 (size_of_slot f.vars)) ts
-    stored : Each (IsStored (layout_of f) sizes 1) ts
+    slots : Each (IsToSlot count (size_of_slot f.vars)) ts
+    stored : Each (IsStored (layout_of f) sizes count) ts
     same : Each (SameTo sizes (size_of_slot f.vars)) ts
     few : length ts ≤ 2
     cost : to_weights ts ≤ sum_by (result_cost f.vars) os
@@ -442,46 +443,46 @@ module _ (f : FunctionValue) (h : is_function f ≡ true) (at : List ℕ) where
 
   -- ---- actions
 
-  movable_one : (temps : List ℕ) (insn : Insn) (rest : List Insn) (a : Action) → IsPlanned f at temps insn rest → IsAction at 1 (step_at f temps insn) a → IsMovable 1 (size_of_slot f.vars) a
+  movable_one : (temps : List ℕ) (insn : Insn) (rest : List Insn) (a : Action) → IsPlanned f at temps insn rest → IsAction at count (step_at f temps insn) a → IsMovable count (size_of_slot f.vars) a
   movable_one temps insn rest a d is = record {
-    to = subst (Each (IsToSlot 1 (size_of_slot f.vars))) (sym is.to) (to_few temps insn rest d).slots;
-    sources = subst (Each (IsFromSlot 1 (size_of_slot f.vars))) (sym is.sources) (from_few temps insn rest d).slots;
+    to = subst (Each (IsToSlot count (size_of_slot f.vars))) (sym is.to) (to_few temps insn rest d).slots;
+    sources = subst (Each (IsFromSlot count (size_of_slot f.vars))) (sym is.sources) (from_few temps insn rest d).slots;
     few = omega (arith, ap length is.sources, (from_few temps insn rest d).few);
     few_to = omega (arith, ap length is.to, (to_few temps insn rest d).few);
     rule = is.rule;
   }
 
-  movable_from : (temps : List ℕ) (insns : List Insn) (actions : List Action) → ArePlanned f at temps insns → AreActions at 1 (steps_from f temps insns) actions → Each (IsMovable 1 (size_of_slot f.vars)) actions
+  movable_from : (temps : List ℕ) (insns : List Insn) (actions : List Action) → ArePlanned f at temps insns → AreActions at count (steps_from f temps insns) actions → Each (IsMovable count (size_of_slot f.vars)) actions
   movable_from temps [] [] d is = tt
   movable_from temps [] (a ∷ rest) d is = absurd is
   movable_from temps (insn ∷ insns) [] d is = absurd is
   movable_from temps (insn ∷ insns) (a ∷ rest) d is = (movable_one temps insn insns a d.0 is.0, movable_from (temps ++ made_by f.vars insn) insns rest d.1 is.1)
 
-  fit_one : (temps : List ℕ) (insn : Insn) (rest : List Insn) (a : Action) → IsPlanned f at temps insn rest → IsAction at 1 (step_at f temps insn) a → IsFit 1 (size_of_slot f.vars) a
-  fit_one temps insn rest a d is =
+  fit_one : (temps : List ℕ) (insn : Insn) (rest : List Insn) (a : Action) → IsPlanned f at temps insn rest → FitsIn count insn → IsAction at count (step_at f temps insn) a → IsFit count (size_of_slot f.vars) a
+  fit_one temps insn rest a d fits is =
       let m = movable_one temps insn rest a d is in
       record {
-        to = moved_to f h a.to m.to;
-        sources = moved_from f h a.sources m.sources;
-        lanes = lanes_fit a.prefix (widest a.op) (subst (λ k. widest a.op * k ≤ 8) (sym is.prefix) (subst (λ o. widest o * insn.prefix ≤ 8) (sym is.op) d.prefix.few));
+        to = moved_to f h count a.to m.to;
+        sources = moved_from f h count a.sources m.sources;
+        lanes = lanes_fit count a.prefix (widest a.op) (subst (λ k. count * (widest a.op * k) ≤ 16) (sym is.prefix) (subst (λ o. count * (widest o * insn.prefix) ≤ 16) (sym is.op) fits));
         rule = is.rule;
-        known = ins_of (action_code 1 (size_of_slot f.vars) a) (fine_action (size_of_slot f.vars) a m);
+        known = ins_of (action_code count (size_of_slot f.vars) a) (fine_action count (size_of_slot f.vars) at_pointer unaligned (λ k. omega arith) a m);
       }
 
-  fit_from : (temps : List ℕ) (insns : List Insn) (actions : List Action) → ArePlanned f at temps insns → AreActions at 1 (steps_from f temps insns) actions → Each (IsFit 1 (size_of_slot f.vars)) actions
-  fit_from temps [] [] d is = tt
-  fit_from temps [] (a ∷ rest) d is = absurd is
-  fit_from temps (insn ∷ insns) [] d is = absurd is
-  fit_from temps (insn ∷ insns) (a ∷ rest) d is = (fit_one temps insn insns a d.0 is.0, fit_from (temps ++ made_by f.vars insn) insns rest d.1 is.1)
+  fit_from : (temps : List ℕ) (insns : List Insn) (actions : List Action) → ArePlanned f at temps insns → Each (FitsIn count) insns → AreActions at count (steps_from f temps insns) actions → Each (IsFit count (size_of_slot f.vars)) actions
+  fit_from temps [] [] d fits is = tt
+  fit_from temps [] (a ∷ rest) d fits is = absurd is
+  fit_from temps (insn ∷ insns) [] d fits is = absurd is
+  fit_from temps (insn ∷ insns) (a ∷ rest) d fits is = (fit_one temps insn insns a d.0 fits.0 is.0, fit_from (temps ++ made_by f.vars insn) insns rest d.1 fits.1 is.1)
 
-  weight_within : (temps : List ℕ) (insn : Insn) (rest : List Insn) (a : Action) → IsPlanned f at temps insn rest → IsAction at 1 (step_at f temps insn) a → weight a ≤ insn_cost f.vars insn
+  weight_within : (temps : List ℕ) (insn : Insn) (rest : List Insn) (a : Action) → IsPlanned f at temps insn rest → IsAction at count (step_at f temps insn) a → weight a ≤ insn_cost f.vars insn
   weight_within temps insn rest a d is =
       let sources : from_weights a.sources ≡ from_weights (sources_at f at temps insn) = ap from_weights is.sources in
       let results : to_weights a.to ≡ to_weights (targets_at f at temps insn) = ap to_weights is.to in
       let class : (row a.op).class ≡ (row insn.op).class = ap (λ o. (row o).class) is.op in
       omega (arith, sources, results, class, is.rule.few, (from_few temps insn rest d).cost, (to_few temps insn rest d).cost)
 
-  weights_from : (temps : List ℕ) (insns : List Insn) (actions : List Action) → ArePlanned f at temps insns → AreActions at 1 (steps_from f temps insns) actions → weights actions ≤ sum_by (insn_cost f.vars) insns
+  weights_from : (temps : List ℕ) (insns : List Insn) (actions : List Action) → ArePlanned f at temps insns → AreActions at count (steps_from f temps insns) actions → weights actions ≤ sum_by (insn_cost f.vars) insns
   weights_from temps [] [] d is = omega arith
   weights_from temps [] (a ∷ rest) d is = absurd is
   weights_from temps (insn ∷ insns) [] d is = absurd is
@@ -489,51 +490,51 @@ module _ (f : FunctionValue) (h : is_function f ≡ true) (at : List ℕ) where
 
   -- ---- what is asked of a step whose code is to be given
 
-  ready_one : (temps : List ℕ) (insn : Insn) (rest : List Insn) → IsPlanned f at temps insn rest → IsReady (layout_of f) at sizes 1 (step_at f temps insn)
-  ready_one temps insn rest d = record {
-    has_rule = λ e. (omega arith, omega arith, (sum_ok insn.op e).some);
+  ready_one : (temps : List ℕ) (insn : Insn) (rest : List Insn) → IsPlanned f at temps insn rest → FitsIn count insn → IsReady (layout_of f) at sizes count (step_at f temps insn)
+  ready_one temps insn rest d fits = record {
+    has_rule = λ e. (is_count.some, is_count.most, sum_fits insn.op count e (subst (λ k. count * k ≤ 16) (one_size (widest insn.op) insn.prefix (d.prefix.one e)) fits));
     sources = (from_few temps insn rest d).loaded;
     to = (to_few temps insn rest d).stored;
   }
 
-  ready_from : (temps : List ℕ) (insns : List Insn) → ArePlanned f at temps insns → (k : ℕ) (d : Step) → k < length (steps_from f temps insns) → IsReady (layout_of f) at sizes 1 (get_or (steps_from f temps insns) k d)
-  ready_from temps [] b k d l = absurd (omega (arith, l))
-  ready_from temps (insn ∷ insns) b zero d l = ready_one temps insn insns b.0
-  ready_from temps (insn ∷ insns) b (suc k) d l = ready_from (temps ++ made_by f.vars insn) insns b.1 k d (omega (arith, l))
+  ready_from : (temps : List ℕ) (insns : List Insn) → ArePlanned f at temps insns → Each (FitsIn count) insns → (k : ℕ) (d : Step) → k < length (steps_from f temps insns) → IsReady (layout_of f) at sizes count (get_or (steps_from f temps insns) k d)
+  ready_from temps [] b fits k d l = absurd (omega (arith, l))
+  ready_from temps (insn ∷ insns) b fits zero d l = ready_one temps insn insns b.0 fits.0
+  ready_from temps (insn ∷ insns) b fits (suc k) d l = ready_from (temps ++ made_by f.vars insn) insns b.1 fits.1 k d (omega (arith, l))
 
   -- ---- sizes by slots
 
-  same_one : (temps : List ℕ) (insn : Insn) (rest : List Insn) (a : Action) → IsPlanned f at temps insn rest → IsAction at 1 (step_at f temps insn) a → SameFor sizes (size_of_slot f.vars) a
+  same_one : (temps : List ℕ) (insn : Insn) (rest : List Insn) (a : Action) → IsPlanned f at temps insn rest → IsAction at count (step_at f temps insn) a → SameFor sizes (size_of_slot f.vars) a
   same_one temps insn rest a d is = (
     subst (Each (SameFrom sizes (size_of_slot f.vars))) (sym is.sources) (from_few temps insn rest d).same,
     subst (Each (SameTo sizes (size_of_slot f.vars))) (sym is.to) (to_few temps insn rest d).same,
   )
 
-  same_from : (temps : List ℕ) (insns : List Insn) (actions : List Action) → ArePlanned f at temps insns → AreActions at 1 (steps_from f temps insns) actions → Each (SameFor sizes (size_of_slot f.vars)) actions
+  same_from : (temps : List ℕ) (insns : List Insn) (actions : List Action) → ArePlanned f at temps insns → AreActions at count (steps_from f temps insns) actions → Each (SameFor sizes (size_of_slot f.vars)) actions
   same_from temps [] [] d is = tt
   same_from temps [] (a ∷ rest) d is = absurd is
   same_from temps (insn ∷ insns) [] d is = absurd is
   same_from temps (insn ∷ insns) (a ∷ rest) d is = (same_one temps insn insns a d.0 is.0, same_from (temps ++ made_by f.vars insn) insns rest d.1 is.1)
 
-  -- ---- of a function's steps
+-- ---- of a function's steps
 
-  module _ (stand : AllStand f.vars (patterns_of f.vars f.insns) at [] f.insns) where
-    pub all_movable : (actions : List Action) → AreActions at 1 (steps_of f) actions → Each (IsMovable 1 (size_of_slot f.vars)) actions
-    unfolding steps_of
-    all_movable actions is = movable_from [] f.insns actions (are_planned f h at stand) is
+module _ (f : FunctionValue) (h : is_function f ≡ true) (at : List ℕ) (stand : AllStand f.vars (patterns_of f.vars f.insns) at [] f.insns) (count : ℕ) (is_count : IsCount f count) where
+  pub all_movable : (actions : List Action) → AreActions at count (steps_of f) actions → Each (IsMovable count (size_of_slot f.vars)) actions
+  unfolding steps_of
+  all_movable actions is = movable_from f h at count is_count [] f.insns actions (are_planned f h at stand) is
 
-    pub all_fit : (actions : List Action) → AreActions at 1 (steps_of f) actions → Each (IsFit 1 (size_of_slot f.vars)) actions
-    unfolding steps_of
-    all_fit actions is = fit_from [] f.insns actions (are_planned f h at stand) is
+  pub all_fit : (actions : List Action) → AreActions at count (steps_of f) actions → Each (IsFit count (size_of_slot f.vars)) actions
+  unfolding steps_of
+  all_fit actions is = fit_from f h at count is_count [] f.insns actions (are_planned f h at stand) is_count.operands is
 
-    pub weights_within : (actions : List Action) → AreActions at 1 (steps_of f) actions → weights actions ≤ cost f
-    unfolding steps_of
-    weights_within actions is = weights_from [] f.insns actions (are_planned f h at stand) is
+  pub weights_within : (actions : List Action) → AreActions at count (steps_of f) actions → weights actions ≤ cost f
+  unfolding steps_of
+  weights_within actions is = weights_from f h at count is_count [] f.insns actions (are_planned f h at stand) is
 
-    pub all_ready : (k : ℕ) (d : Step) → k < length (steps_of f) → IsReady (layout_of f) at sizes 1 (get_or (steps_of f) k d)
-    unfolding steps_of
-    all_ready k d l = ready_from [] f.insns (are_planned f h at stand) k d l
+  pub all_ready : (k : ℕ) (d : Step) → k < length (steps_of f) → IsReady (layout_of f) at (slice_index (sizes_of f)) count (get_or (steps_of f) k d)
+  unfolding steps_of
+  all_ready k d l = ready_from f h at count is_count [] f.insns (are_planned f h at stand) is_count.operands k d l
 
-    pub all_same : (actions : List Action) → AreActions at 1 (steps_of f) actions → Each (SameFor sizes (size_of_slot f.vars)) actions
-    unfolding steps_of
-    all_same actions is = same_from [] f.insns actions (are_planned f h at stand) is
+  pub all_same : (actions : List Action) → AreActions at count (steps_of f) actions → Each (SameFor (slice_index (sizes_of f)) (size_of_slot f.vars)) actions
+  unfolding steps_of
+  all_same actions is = same_from f h at count is_count [] f.insns actions (are_planned f h at stand) is

@@ -24,6 +24,7 @@ pub mod Cost
 pub mod Pressed
 pub mod Counts
 pub mod Vectored
+pub mod Several
 pub mod Sizes
 pub mod Pushes
 pub mod Loop
@@ -42,6 +43,7 @@ pub mod Fits
 pub mod Layouts
 pub mod SameSizes
 pub mod Knows
+pub mod TurnLists
 pub mod Numbered
 pub mod Parts
 pub mod Whole
