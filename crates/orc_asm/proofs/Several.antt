@@ -2,6 +2,7 @@
 use Rattle.std.proofs.Common.{◌≡◌, ℕ, ◌*◌, ◌/◌, ◌<◌, ◌≤◌, ◌==◌, ◌&&◌, true, false, List, [], ◌∷◌, ◌++◌, length, refl, sym, ap, subst, arith, ◌⊎◌, inl, inr, ⊎_elim}
 use Rattle.std.proofs.lemmas.Bool.{true≢false, cases_lt, eqb-true}
 use Rattle.std.proofs.lemmas.List.{get_or_past}
+use Rattle.orc_program.proofs.Lanes.{lanes_is, declared_fits, insn_fits}
 use Rattle.orc_ops.specs.declared.opcode.Op.{Op}
 use Rattle.orc_ops.specs.declared.opcode.Op.TheVariants as op
 use Rattle.orc_ops.specs.Table.{row, size_of_result}
@@ -12,7 +13,7 @@ use Rattle.orc_program.specs.declared.program.VarKind.TheVariants as kind
 use Rattle.orc_program.specs.Program.{FunctionValue, var_at, no_var, is_array, is_array_kind, is_of, same_kind}
 use Rattle.orc_program.specs.Checks.{insn_fault, operand_sizes}
 use Rattle.orc_program.specs.Kept.{is_function, all_pass, is_shaped, has_no_fault}
-use Rattle.orc_program.specs.Need.{largest}
+use Rattle.orc_program.specs.Need.{largest, lanes}
 use Rattle.orc_program.proofs.Apart.{IsSize}
 use Rattle.orc_program.proofs.Sizes.{both, kept_of, size_kept}
 use Rattle.x86_ins.specs.Way.{Each}
@@ -175,3 +176,7 @@ several_count f count power declared insns = record {
   arrays = λ p l a. (let k = array_declared (var_at f.vars p).kind a in declared p l k.0 k.1);
   operands = all_fit_in count f.insns insns;
 }
+
+-- the lanes of a function
+pub lanes_count : (f : FunctionValue) → is_function f ≡ true → IsCount f (lanes f)
+lanes_count f h = several_count f (lanes f) (lanes_is f h) (declared_fits f h) (insn_fits f h)

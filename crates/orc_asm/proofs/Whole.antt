@@ -1,51 +1,49 @@
 -- The code of a function: it is allowed, its bytes are few, and it runs as the function means.
-use Rattle.std.proofs.Common.{◌≡◌, Bool, ℕ, ◌+◌, ◌*◌, ◌≤◌, true, List, [], ◌∷◌, ◌++◌, length, pos, slice_index, false, ◌<◌, Result, Ok, Err, IfOk, refl, sym, ap, ap₂, ◌∙◌, subst, arith, All, IsTrue, inl, inr}
+use Rattle.std.proofs.Common.{◌≡◌, Bool, ℕ, ◌+◌, ◌*◌, ◌/◌, ◌^◌, ◌==◌, ◌&&◌, nat_lt, ◌≤◌, true, if◌then◌else◌, List, [], ◌∷◌, ◌++◌, length, pos, slice_index, false, ◌<◌, Result, Ok, Err, IfOk, refl, sym, ap, ap₂, ◌∙◌, subst, arith, All, IsTrue, inl, inr}
+use Rattle.std.proofs.lemmas.Bool.{eqb-true, ltb-true}
 use Rattle.orc_program.specs.declared.program.VarKind.TheVariants as kind
-use Rattle.orc_program.specs.Program.{FunctionValue, count_of}
+use Rattle.orc_program.specs.Program.{FunctionValue, count_of, places_of}
 use Rattle.orc_program.specs.Checks.{patterns_of}
 use Rattle.orc_program.specs.Kept.{is_function}
-use Rattle.orc_program.specs.Need.{cost}
+use Rattle.orc_program.specs.Need.{cost, lanes}
 use Rattle.orc_program.specs.Slots.{size_of_slot}
-use Rattle.orc_plan.specs.declared.steps.Step.{Step}
-use Rattle.orc_plan.specs.Lowered.{steps_of, sizes_of}
+use Rattle.orc_program.proofs.Apart.{IsSize}
+use Rattle.orc_program.proofs.Sizes.{both, size_kept}
+use Rattle.orc_plan.specs.Lowered.{steps_of}
 use Rattle.orc_plan.specs.Places.{GoodPlaces}
-use Rattle.orc_plan.specs.Standing.{AllStand}
-use Rattle.orc_plan.proofs.Standing.{all_stand}
-use Rattle.x86_ins.specs.declared.ins.Cond.TheVariants.{Ne}
+use Rattle.x86_ins.specs.declared.ins.Cond.TheVariants.{Ns}
 use Rattle.x86_ins.specs.declared.ins.Ins.{Ins}
-use Rattle.x86_ins.specs.declared.ins.AluOp.TheVariants.{Sub}
-use Rattle.x86_ins.specs.declared.ins.Ins.TheVariants.{AluImm, Ret}
-use Rattle.x86_ins.specs.Spelling.{IsAllowed, spelling, has_spelling}
+use Rattle.x86_ins.specs.declared.ins.Ins.TheVariants.{Ret}
+use Rattle.x86_ins.specs.Spelling.{IsAllowed, spelling}
 use Rattle.x86_ins.specs.Way.{Each}
-use Rattle.x86_flow.specs.Flow.{Flow, flat, size, spell_all, loop_code, with_return}
+use Rattle.x86_flow.specs.Flow.{Flow, Plain, Repeat, flat, size, spell_all, loop_code, with_return}
 use Rattle.x86_flow.specs.Touching.{AreOwn}
 use Rattle.x86_flow.proofs.Plans.{weigh}
-use Rattle.x86_flow.proofs.Spelled.{all_allowed, each_both}
-use Rattle.x86_flow.proofs.Spelled.{all_spelled as fine_spelled}
+use Rattle.x86_flow.proofs.Shapes.{size_both, loop_size, loop_fine}
+use Rattle.x86_flow.proofs.Spelled.{IsFine, all_allowed, each_both}
 use Rattle.orc_frame.specs.declared.frame.Layout.{Layout}
 use Rattle.orc_frame.specs.Layout.{layout_of}
 use Rattle.orc_frame.specs.Frame.{Prepares, Finishes}
 use Rattle.orc_frame.proofs.Facts.{Facts, facts}
 use Rattle.orc_frame.proofs.Apart.{length-acc_sizes_of}
+use Rattle.orc_frame.proofs.Places.{length-places_of}
 use Rattle.orc_frame.specs.Function.{subject_of}
 use Rattle.orc_asm.specs.RunsAs.{quiet}
 use Rattle.orc_asm.specs.Function.{RunsQuietly}
-use Rattle.orc_asm.specs.Code.{Action, AreActions, Plan, IsReady, IsTurn, IsTurnBy, plan_with, at_pointer, unaligned, far_by, aligned_first, actions_far_code, advance_code, turn_code}
-use Rattle.orc_asm.specs.Rows.{turns_flow, rows_flow, whole_flow}
+use Rattle.orc_asm.specs.Code.{Action, AreActions, Turns, IsTurn, is_filled, shift_of, elements_flow, elements_of}
+use Rattle.orc_asm.specs.Rows.{rows_flow, whole_flow}
+use Rattle.orc_asm.proofs.Several.{IsCount, one_count, lanes_count}
 use Rattle.orc_asm.proofs.Layouts.{patterns_are, sizes_are}
-use Rattle.orc_asm.proofs.Cost.{weights}
-use Rattle.orc_asm.proofs.Counts.{turn_count}
-use Rattle.orc_asm.proofs.Sizes.{Small, fine_turn, turn_bytes}
-use Rattle.orc_asm.proofs.Keeping.{ins_of}
-use Rattle.orc_asm.proofs.Slots.{limits}
-use Rattle.orc_asm.proofs.Fits.{small_with, some_size, slot_size, slot_sized}
-use Rattle.orc_asm.proofs.SameSizes.{same_actions, same_advance}
-use Rattle.orc_asm.proofs.Knows.{all_movable, all_fit, all_ready, all_same, weights_within}
-use Rattle.orc_asm.proofs.RowCounts.{size_both, loop_bytes, loop_allowed, rows_bytes, rows_allowed}
+use Rattle.orc_asm.proofs.Slots.{Limits, limits}
+use Rattle.orc_asm.proofs.Fits.{some_size, slot_size}
+use Rattle.orc_asm.proofs.Numbered.{nth_is}
+use Rattle.orc_asm.proofs.TurnLists.{stand_is, fit_actions, ins_blocks, ins_turn, ins_aligned, turn_fine, turn_size, turn_few, aligned_fine, aligned_size, aligned_few}
+use Rattle.orc_asm.proofs.RegionSizes.{Fits, fits_plain, fits_aligned}
+use Rattle.orc_asm.proofs.RowCounts.{rows_bytes, rows_allowed}
 use Rattle.orc_asm.proofs.RowPath.{cell_weight, own_free}
 use Rattle.orc_asm.proofs.RowRuns.{AreShort, runs}
 use Rattle.orc_asm.proofs.Inside.{lift, quiet_lifts}
-use Rattle.orc_asm.proofs.Parts.{Done, parts}
+use Rattle.orc_asm.proofs.Parts.{Able, Stored, Done, fills, besides_of, parts}
 
 pub ok_map : {A E : Type 0} (r : Result A E) (P Q : A → Type 0) → ((x : A) → P x → Q x) → IfOk r P → IfOk r Q
 ok_map (Ok x) P Q f h = f x h
@@ -86,11 +84,8 @@ module _ (f : FunctionValue) (h : is_function f ≡ true) where
       filled_by (count_of kind.Dest f.vars) (lanes f) (size_of_slot f.vars 0) (first_size some) e
 
   module _ (at : List ℕ) (good : GoodPlaces (steps_of f) at) where
-    stand : AllStand f.vars (patterns_of f.vars f.insns) at [] f.insns
-    stand = all_stand f h at good
-
     able : (count : ℕ) → IsCount f count → (actions : List Action) → AreActions at count (steps_of f) actions → Able f at count actions
-    able count c actions is = record { are = is; fit = fit_for f h at good count c actions is; turn = turn_ins f h at good count c actions is }
+    able count c actions is = record { are = is; fit = fit_actions f h at good count c actions is; turn = ins_turn f h at good count c actions is }
 
     stored : (actions : List Action) → AreActions at (lanes f) (steps_of f) actions → fills f ≡ true → Stored f at (lanes f) actions
     stored actions is e =
@@ -98,8 +93,8 @@ module _ (f : FunctionValue) (h : is_function f ≡ true) where
         let x = filled_first e in
         record {
           able = able (lanes f) c actions is;
-          block = aligned_block_ins f h at good (lanes f) c actions is;
-          turn = aligned_ins f h at good (lanes f) c actions is;
+          block = ins_blocks f h at good (lanes f) c actions is;
+          turn = ins_aligned f h at good (lanes f) c actions is;
           some = x.some;
           shift = x.shift;
           size = x.size_is;
@@ -131,9 +126,6 @@ unfolding spelling
 ret_bytes = refl
 
 -- ---- the loops over a row's elements: allowed, and of few bytes
-
-fits_turn : (list : List Ins) → Each IsFine list → size list ≤ 200000 → Fits 200000 list
-fits_turn list h few = record { allowed = all_allowed list h; bytes = few }
 
 fits_turns : (list : List Ins) → Fits 200000 list → Fits 200011 (loop_code Ns list)
 fits_turns list h = (let b = h.bytes in record { allowed = loop_fine Ns list (omega (arith, b)) h.allowed; bytes = omega (arith, loop_size Ns list, b) })
@@ -188,20 +180,11 @@ module _ (f : FunctionValue) (h : is_function f ≡ true) (l : Layout) (first la
   abbrev some : ℕ
   some = weigh cell_weight single + weigh cell_weight wide + weigh cell_weight aligned
 
-  single_few : IsShort f single
-  single_few = turn_short f h turns.good 1 (one_count f h) single turns.one
-
-  wide_few : IsShort f wide
-  wide_few = turn_short f h turns.good (lanes f) (lanes_count f h) wide turns.more
-
-  aligned_few : fills f ≡ true → IsShort f aligned
-  aligned_few e = aligned_short f h turns.good (lanes f) (lanes_count f h) aligned (turns.stored e)
-
   done : Done f turns.at single wide aligned each some
   done = record {
     is = h;
     arrays = record { few = few; small = slot_size f h; some = some_size f h };
-    stand = stand f h turns.at turns.good;
+    stand = stand_is f h turns.at turns.good;
     positive = (lanes_count f h).some;
     most = (lanes_count f h).most;
     one = turns.one.0;
@@ -211,17 +194,25 @@ module _ (f : FunctionValue) (h : is_function f ≡ true) (l : Layout) (first la
     able_more = able f h turns.at turns.good (lanes f) (lanes_count f h) turns.more.0 turns.more.1;
     wide_is = turns.more.2;
     stored = λ e. ((turns.stored e).0, stored f h turns.at turns.good (turns.stored e).0 (turns.stored e).1 e, (turns.stored e).2);
-    short_single = single_few.steps;
-    short_wide = wide_few.steps;
-    short_aligned = λ e. (aligned_few e).steps;
+    short_single = turn_few f h turns.at turns.good 1 (one_count f h) single turns.one;
+    short_wide = turn_few f h turns.at turns.good (lanes f) (lanes_count f h) wide turns.more;
+    short_aligned = λ e. aligned_few f h turns.at turns.good (lanes f) (lanes_count f h) aligned (turns.stored e);
     light_single = omega arith;
     light_wide = omega arith;
     light_aligned = λ e. omega arith;
   }
 
+  fits_turn : (count : ℕ) → IsCount f count → (list : List Ins) → IsTurn f turns.at count list → Fits 200000 list
+  fits_turn count c list x = record { allowed = all_allowed list (turn_fine f h turns.at turns.good count c list x); bytes = turn_size f h turns.at turns.good count c list x }
+
+  fits_stored : fills f ≡ true → Fits 200000 aligned
+  fits_stored e =
+      let x = turns.stored e in
+      record { allowed = all_allowed aligned (aligned_fine f h turns.at turns.good (lanes f) (lanes_count f h) aligned x); bytes = aligned_size f h turns.at turns.good (lanes f) (lanes_count f h) aligned x }
+
   fits : Fits 801000 (flat elements)
   fits = fits_elements (fills f) (shift_of (size_of_slot f.vars 0)) (lanes f) single wide aligned (shift_small (size_of_slot f.vars 0)) (let m = (lanes_count f h).most in omega (arith, m))
-      (fits_turn single single_few.fine single_few.bytes) (fits_turn wide wide_few.fine wide_few.bytes) (λ e. fits_turn aligned (aligned_few e).fine (aligned_few e).bytes)
+      (fits_turn 1 (one_count f h) single turns.one) (fits_turn (lanes f) (lanes_count f h) wide turns.more) fits_stored
 
   allowed : Each IsAllowed (with_return flow)
   allowed =
@@ -230,10 +221,9 @@ module _ (f : FunctionValue) (h : is_function f ≡ true) (l : Layout) (first la
 
   code_length : HasCodeLength (spell_all (with_return flow))
   code_length =
-      let both = size_both dests sources few.dests few.sources in
-      let all = both (first ++ (rows ++ last)) (Ret ∷ []) in
-      let front = both first (rows ++ last) in
-      let back = both rows last in
+      let all = size_both (first ++ (rows ++ last)) (Ret ∷ []) in
+      let front = size_both first (rows ++ last) in
+      let back = size_both rows last in
       let middle = rows_bytes dests sources few.dests few.sources elements f.two_d in
       let b = fits.bytes in
       (omega (arith, all, ret_bytes), omega (arith, all, ret_bytes, front, back, middle, b, x.first_bytes, x.first_short, x.last_bytes, x.last_short, fact.few_patterns, fact.few_sums))
