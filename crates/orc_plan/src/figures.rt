@@ -1,18 +1,76 @@
 //! Figures of a function: its lanes and its cost.
 
-ghost use Rattle.std.specs.Prelude.{◌≡◌, ◌*◌, ◌≤◌, length};
-ghost use Rattle.std.specs.List.{sum_by};
-ghost use Rattle.orc_program.specs.Need.{lanes, cost, source_cost, result_cost, insn_cost};
+ghost use Rattle.std.specs.Prelude.{◌≡◌, ◌*◌, ◌≤◌, length, map, max};
+ghost use Rattle.std.specs.List.{fold, sum_by};
+ghost use Rattle.orc_program.specs.Checks.{operand_sizes};
+ghost use Rattle.orc_program.specs.Need.{largest, declared_size, insn_size, lanes, cost, source_cost, result_cost, insn_cost};
 
-use orc_ops::info;
+use orc_ops::{Op, info};
 use orc_program::variables::kind_at;
-use orc_program::{Function, Insn, Operand, Var, VarKind};
+use orc_program::{Function, Insn, Operand, Var, VarKind, is_count, result_size, source_size};
 
-/// The elements that are done at once: one.
+/// The size of a variable, 0 of a parameter and of a constant.
+fn declared_size(var: &Var) -> u32
+    ensures { result ≡ declared_size var.now }
+{
+    match var.kind {
+        VarKind::Param | VarKind::Const => 0,
+        VarKind::Source | VarKind::Dest | VarKind::Accumulator | VarKind::Temp => {
+            u32::from(var.size)
+        }
+    }
+}
+
+/// The largest of the variables' sizes and of one more.
+fn largest_declared(vars: &[Var], size: u32) -> u32
+    ensures { result ≡ fold max size (map declared_size vars.now) }
+{
+    let [var, rest @ ..] = vars else {
+        return size;
+    };
+    largest_declared(rest, size.max(declared_size(var)))
+}
+
+/// The size of an opcode's largest operand, counts apart.
+fn operand_size(op: Op) -> u8
+    ensures { result ≡ largest (operand_sizes op) }
+{
+    let second_source = if is_count(op, 1) {
+        0
+    } else {
+        source_size(op, 1)
+    };
+    result_size(op, 0)
+        .max(result_size(op, 1))
+        .max(source_size(op, 0))
+        .max(second_source)
+}
+
+/// The size of an instruction's largest operand under its prefix, counts apart.
+fn insn_size(insn: &Insn) -> u32
+    ensures { result ≡ insn_size insn.now }
+{
+    u32::from(operand_size(insn.op)) * u32::from(insn.prefix)
+}
+
+/// The largest of the instructions' sizes and of one more.
+fn largest_operand(insns: &[Insn], size: u32) -> u32
+    ensures { result ≡ fold max size (map insn_size insns.now) }
+{
+    let [insn, rest @ ..] = insns else {
+        return size;
+    };
+    largest_operand(rest, size.max(insn_size(insn)))
+}
+
+/// The elements that are done at once: as many as fit into 16 bytes of the largest of the sizes that dests, sources, temps and
+/// accumulators are declared with and of the sizes times prefix of all operands, counts apart; 16 where there is no size.
 pub fn lanes(f: &Function) -> u8
     ensures { result ≡ lanes f.now }
 {
-    1
+    let declared = largest_declared(f.vars.as_slice(), 0);
+    let size = declared.max(largest_operand(f.insns.as_slice(), 0));
+    (16 / size.max(1)) as u8
 }
 
 /// The cost of a source: 2 of a dest or a source variable, else 1.

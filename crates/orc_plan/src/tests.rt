@@ -114,9 +114,29 @@ fn a_function_has_its_figures(rt: HostRuntime) -> Result<(), AllocError> {
     )?;
     add_passing(&rt, &mut f, Op::Convlw, 7, Place(0), &[Place(2)])?;
     assert_eq!(rt; cost(&f), 30);
-    assert_eq!(rt; lanes(&f), 1);
+    assert_eq!(rt; lanes(&f), 4);
     let core = lower(&f);
     assert_eq!(rt; widest_need(&core), 2);
     assert!(rt; place(&core).is_ok());
+    Ok(())
+}
+
+#[test]
+fn sixteen_bytes_are_done_at_once(rt: HostRuntime) -> Result<(), AllocError> {
+    let vars = [(VarKind::Dest, 1), (VarKind::Source, 1)];
+    let mut f = function_of(&rt, rt.alloc(), &vars)?;
+    assert_eq!(rt; lanes(&f), 16);
+    add_passing(&rt, &mut f, Op::Copyb, 3, Place(0), &[Place(1)])?;
+    assert_eq!(rt; lanes(&f), 16);
+    Ok(())
+}
+
+#[test]
+fn sixteen_elements_of_no_size_are_done_at_once(rt: HostRuntime) -> Result<(), AllocError> {
+    // the size of a parameter does not count
+    let f = function_of(&rt, rt.alloc(), &[(VarKind::Param, 8)])?;
+    assert_eq!(rt; lanes(&f), 16);
+    let f = function_of(&rt, rt.alloc(), &[])?;
+    assert_eq!(rt; lanes(&f), 16);
     Ok(())
 }

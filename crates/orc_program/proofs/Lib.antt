@@ -15,3 +15,4 @@ pub mod Cutting
 pub mod Places
 pub mod Nth
 pub mod KnownPatterns
+pub mod Lanes

@@ -54,6 +54,15 @@ room_kept vars earlier insn h =
     let prefix = check (is_bad_prefix insn.op insn.prefix) fault.BadPrefix in
     unmet (is_too_many vars earlier insn) fault.TooMany (later_none sources last (later_none results (or_else sources last) (later_none prefix (or_else results (or_else sources last)) h)))
 
+-- and has no bad prefix
+pub prefix_kept : (vars : List Var) (earlier : List Insn) (insn : Insn) → has_no_fault (insn_fault vars earlier insn) ≡ true → is_bad_prefix insn.op insn.prefix ≡ false
+unfolding insn_fault
+prefix_kept vars earlier insn h = go (is_bad_prefix insn.op insn.prefix) h
+  where
+    go : (b : Bool) → has_no_fault (or_else (check b fault.BadPrefix) (or_else (results_fault vars insn.op insn.prefix 0 insn.results.items) (or_else (sources_fault vars earlier insn.op insn.prefix 0 insn.sources.items) (or_else (check (is_too_many vars earlier insn) fault.TooMany) None)))) ≡ true → b ≡ false
+    go true h = absurd (true≢false (sym h))
+    go false h = refl
+
 or_false : (a b : Bool) → a || b ≡ false → (a ≡ false) × (b ≡ false)
 or_false true b h = absurd (true≢false h)
 or_false false b h = (refl, h)

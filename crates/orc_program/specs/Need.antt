@@ -85,13 +85,9 @@ insn_size insn = largest (operand_sizes insn.op) * insn.prefix
 abbrev pub largest_size : FunctionValue → ℕ
 largest_size f = max (largest (map declared_size f.vars)) (largest (map insn_size f.insns))
 
--- how many elements of the largest size fit into 16 bytes; 16 where there is no size
-abbrev pub full_lanes : FunctionValue → ℕ
-full_lanes f = 16 / max 1 (largest_size f)
-
--- L, the elements of a turn: one, as the code does single elements alone
+-- L, the elements that are done at once: how many of the largest size fit into 16 bytes; 16 where there is no size
 abbrev pub lanes : FunctionValue → ℕ
-lanes f = 1
+lanes f = 16 / max 1 (largest_size f)
 
 -- ---- cost
 

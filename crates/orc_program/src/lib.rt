@@ -4,6 +4,7 @@
 //! [`set_backup`] and [`add_insn`] make it grow. What these need can be asked by [`find_var`], [`count_of`] with [`most_of`],
 //! [`is_size_for`], [`is_shaped`] and [`check_insn`]; [`is_bad_prefix`], [`check_result`], [`check_source`] and [`is_too_many`] are the
 //! parts of [`check_insn`]. A [`Program`] is made by [`new_program`], [`set_init`] and [`add_function`].
+//! [`result_count`], [`source_count`], [`result_size`], [`source_size`] and [`is_count`] say what operands an opcode has.
 //! [`patterns`] lists the numbers that a function uses. [`variables`] has what stands at a place of a function's list, slots of arrays, and
 //! what operands stand for.
 //!
@@ -39,7 +40,7 @@ pub use lookup::{
     MOST_FUNCTIONS, count_of, find_var, has_function, insn_count, is_size_for, most_of,
 };
 pub use name::{Name, is_name};
-pub use operands::{is_shaped, result_count, source_count};
+pub use operands::{is_count, is_shaped, result_count, result_size, source_count, source_size};
 pub use program::{
     Function, Functions, Insn, Insns, Notes, Operand, Pattern, Program, Var, VarKind, Vars, Word,
     Words,

@@ -20,21 +20,21 @@ fn size_in(sizes: &[u8], position: usize) -> u8
 }
 
 /// The size of a result before the prefix, 0 for one that isn't there.
-pub(crate) fn result_size(op: Op, position: usize) -> u8
+pub fn result_size(op: Op, position: usize) -> u8
     ensures { result ≡ size_of_result op position }
 {
     size_in(&results(op), position)
 }
 
 /// The size of a source before the prefix, 0 for one that isn't there.
-pub(crate) fn source_size(op: Op, position: usize) -> u8
+pub fn source_size(op: Op, position: usize) -> u8
     ensures { result ≡ size_of_source op position }
 {
     size_in(&sources(op), position)
 }
 
 /// Whether the source at a position is the count of a shift.
-pub(crate) fn is_count(op: Op, position: usize) -> bool
+pub fn is_count(op: Op, position: usize) -> bool
     ensures { result ≡ is_count op position }
 {
     matches!(kind_of(op), Kind::Shift) && position == 1
