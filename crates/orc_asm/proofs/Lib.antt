@@ -38,6 +38,7 @@ pub mod RowElements
 pub mod RowPath
 pub mod RowRuns
 pub mod RowPushes
+pub mod ElementPushes
 pub mod Acts
 pub mod Fits
 pub mod Layouts

@@ -5,15 +5,15 @@ use Rattle.x86_ins.specs.declared.ins.Ins.{Ins}
 use Rattle.x86_ins.specs.declared.ins.Cond.TheVariants.{Ne, E}
 use Rattle.x86_ins.specs.declared.ins.Ins.TheVariants.{Load, Store, AluImm, Test, Jump, JumpIf, Ret}
 use Rattle.x86_ins.specs.Spelling.{has_spelling, spelling}
-use Rattle.x86_flow.specs.Flow.{flat, size, spell_all, loop_code}
+use Rattle.x86_flow.specs.Flow.{Plain, flat, size, spell_all, loop_code}
 use Rattle.x86_flow.proofs.Ways.{spell_append}
 use Rattle.x86_flow.proofs.Spelled.{all_spelled}
 use Rattle.x86_flow.specs.Moves.{away}
 use Rattle.orc_asm.specs.declared.rows.SlotCode.{SlotCode}
 use Rattle.orc_asm.specs.declared.rows.SlotCode.TheVariants as for_slot
 use Rattle.orc_frame.specs.Layout.{rows_slot}
-use Rattle.orc_asm.specs.Rows.{slot_code, slots_code, arrays_code, number_code, rows_code, row_entry_code, row_step_code, turns_flow, row_flow}
-use Rattle.orc_asm.proofs.RowCounts.{fine_rows, fine_row_entry, fine_row_step, row_bytes, loop_bytes}
+use Rattle.orc_asm.specs.Rows.{slot_code, slots_code, arrays_code, number_code, rows_code, row_entry_code, row_step_code, row_flow}
+use Rattle.orc_asm.proofs.RowCounts.{fine_rows, fine_row_entry, fine_row_step, row_bytes}
 
 pub slots_none : (base : List Ins) (what : SlotCode) (first : ℕ) → base ≡ base ++ slots_code (slot_code what) first 0
 slots_none base what first = sym (append-nil base)
@@ -56,14 +56,14 @@ looped t = spelling (JumpIf E (pos (length t + 5))) ++ (t ++ spelling (Jump (neg
 loop_spelled : (turn : List Ins) → spell_all (loop_code Ne turn) ≡ looped (spell_all turn)
 loop_spelled turn = ap (λ l. spelling (JumpIf E (pos (size turn + 5))) ++ l) (one_more turn (Jump (negsuc (size turn + 10))))
 
-pub row_assembled : (enter turn leave : List Ins) (t c0 c1 c2 c3 : List ℕ) → t ≡ spell_all turn → c0 ≡ [] → c1 ≡ c0 ++ spell_all enter → c2 ≡ c1 ++ looped t → c3 ≡ c2 ++ spell_all leave → c3 ≡ spell_all (enter ++ (loop_code Ne turn ++ leave))
-row_assembled enter turn leave t c0 c1 c2 c3 ht h0 h1 h2 h3 =
+pub row_assembled : (enter elements leave : List Ins) (c0 c1 c2 c3 : List ℕ) → c0 ≡ [] → c1 ≡ c0 ++ spell_all enter → c2 ≡ c1 ++ spell_all elements → c3 ≡ c2 ++ spell_all leave → c3 ≡ spell_all (enter ++ (elements ++ leave))
+row_assembled enter elements leave c0 c1 c2 c3 h0 h1 h2 h3 =
     let a = spell_all enter in
-    let b = spell_all (loop_code Ne turn) in
+    let b = spell_all elements in
     let c = spell_all leave in
     let first : c1 ≡ a = h1 ∙ ap (λ l. l ++ a) h0 in
-    let second : c2 ≡ a ++ b = h2 ∙ ap (λ l. l ++ looped t) first ∙ ap (λ l. a ++ l) (ap looped ht ∙ sym (loop_spelled turn)) in
-    h3 ∙ ap (λ l. l ++ c) second ∙ append_assoc a b c ∙ sym (spell_append enter (loop_code Ne turn ++ leave) ∙ ap (λ l. a ++ l) (spell_append (loop_code Ne turn) leave))
+    let second : c2 ≡ a ++ b = h2 ∙ ap (λ l. l ++ b) first in
+    h3 ∙ ap (λ l. l ++ c) second ∙ append_assoc a b c ∙ sym (spell_append enter (elements ++ leave) ∙ ap (λ l. a ++ l) (spell_append elements leave))
 
 pub whole_assembled : (first starts body last : List Ins) (t c0 c1 c2 c3 c4 c5 : List ℕ) → t ≡ spell_all body → c0 ≡ [] → c1 ≡ c0 ++ spell_all first → c2 ≡ c1 ++ spell_all starts → c3 ≡ c2 ++ looped t → c4 ≡ c3 ++ spell_all last → c5 ≡ c4 ++ spelling Ret
     → c5 ≡ spell_all ((first ++ ((starts ++ loop_code Ne body) ++ last)) ++ Ret ∷ [])
@@ -93,8 +93,5 @@ spelled_entry list dests sources h g e = subst AllSpelled (sym e) (all_spelled (
 pub spelled_step : (list : List Ins) (dests sources : ℕ) → dests ≤ 4 → sources ≤ 8 → list ≡ row_step_code dests sources → All (λ i. IsTrue (has_spelling i)) list
 spelled_step list dests sources h g e = subst AllSpelled (sym e) (all_spelled (row_step_code dests sources) (fine_row_step dests sources h g))
 
-pub turn_fits : (t : List ℕ) (turn : List Ins) → size turn ≤ 900000 → t ≡ spell_all turn → length t < 2000000000
-turn_fits t turn few e = omega (arith, ap length e, few)
-
-pub row_fits : (t : List ℕ) (turn : List Ins) (dests sources : ℕ) → dests ≤ 4 → sources ≤ 8 → size turn ≤ 900000 → t ≡ spell_all (flat (row_flow (turns_flow turn) dests sources)) → length t < 2000000000
-row_fits t turn dests sources h g few e = omega (arith, ap length e, row_bytes dests sources h g (turns_flow turn), loop_bytes dests sources h g turn, few)
+pub row_fits : (t : List ℕ) (elements : List Ins) (dests sources : ℕ) → dests ≤ 4 → sources ≤ 8 → size elements ≤ 900000 → t ≡ spell_all (flat (row_flow (Plain elements) dests sources)) → length t < 2000000000
+row_fits t elements dests sources h g few e = omega (arith, ap length e, row_bytes dests sources h g (Plain elements), few)

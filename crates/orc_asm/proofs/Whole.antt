@@ -16,7 +16,9 @@ use Rattle.x86_ins.specs.declared.ins.Ins.{Ins}
 use Rattle.x86_ins.specs.declared.ins.Ins.TheVariants.{Ret}
 use Rattle.x86_ins.specs.Spelling.{IsAllowed, spelling}
 use Rattle.x86_ins.specs.Way.{Each}
+use Rattle.x86_flow.specs.declared.tree.Flow.{Flow as Tree}
 use Rattle.x86_flow.specs.Flow.{Flow, Plain, Repeat, flat, size, spell_all, loop_code, with_return}
+use Rattle.x86_flow.specs.Tree.{flat_of}
 use Rattle.x86_flow.specs.Touching.{AreOwn}
 use Rattle.x86_flow.proofs.Plans.{weigh}
 use Rattle.x86_flow.proofs.Shapes.{size_both, loop_size, loop_fine}
@@ -30,7 +32,7 @@ use Rattle.orc_frame.proofs.Places.{length-places_of}
 use Rattle.orc_frame.specs.Function.{subject_of}
 use Rattle.orc_asm.specs.RunsAs.{quiet}
 use Rattle.orc_asm.specs.Function.{RunsQuietly}
-use Rattle.orc_asm.specs.Code.{Action, AreActions, Turns, IsTurn, is_filled, shift_of, elements_flow, elements_of}
+use Rattle.orc_asm.specs.Code.{Action, AreActions, Turns, IsElements, is_filled, shift_of, elements_flow, elements_of}
 use Rattle.orc_asm.specs.Rows.{rows_flow, whole_flow}
 use Rattle.orc_asm.proofs.Several.{IsCount, one_count, lanes_count}
 use Rattle.orc_asm.proofs.Layouts.{patterns_are, sizes_are}
@@ -38,16 +40,13 @@ use Rattle.orc_asm.proofs.Slots.{Limits, limits}
 use Rattle.orc_asm.proofs.Fits.{some_size, slot_size}
 use Rattle.orc_asm.proofs.Numbered.{nth_is}
 use Rattle.orc_asm.proofs.TurnLists.{stand_is, fit_actions, ins_blocks, ins_turn, ins_aligned, turn_fine, turn_size, turn_few, aligned_fine, aligned_size, aligned_few}
-use Rattle.orc_asm.proofs.RegionSizes.{Fits, fits_plain, fits_aligned}
+use Rattle.orc_asm.proofs.RegionSizes.{Fits}
+use Rattle.orc_asm.proofs.ElementPushes.{fits_elements}
 use Rattle.orc_asm.proofs.RowCounts.{rows_bytes, rows_allowed}
 use Rattle.orc_asm.proofs.RowPath.{cell_weight, own_free}
 use Rattle.orc_asm.proofs.RowRuns.{AreShort, runs}
 use Rattle.orc_asm.proofs.Inside.{lift, quiet_lifts}
 use Rattle.orc_asm.proofs.Parts.{Able, Stored, Done, fills, besides_of, parts}
-
-pub ok_map : {A E : Type 0} (r : Result A E) (P Q : A → Type 0) → ((x : A) → P x → Q x) → IfOk r P → IfOk r Q
-ok_map (Ok x) P Q f h = f x h
-ok_map (Err e) P Q f h = h
 
 -- ---- what is known of a function whose values have places
 
@@ -125,27 +124,7 @@ ret_bytes : size (Ret ∷ []) ≡ 1
 unfolding spelling
 ret_bytes = refl
 
--- ---- the loops over a row's elements: allowed, and of few bytes
-
-fits_turns : (list : List Ins) → Fits 200000 list → Fits 200011 (loop_code Ns list)
-fits_turns list h = (let b = h.bytes in record { allowed = loop_fine Ns list (omega (arith, b)) h.allowed; bytes = omega (arith, loop_size Ns list, b) })
-
-fits_elements : (b : Bool) (shift lanes : ℕ) (single wide aligned : List Ins) → shift ≤ 3 → lanes ≤ 64 → Fits 200000 single → Fits 200000 wide → (b ≡ true → Fits 200000 aligned) → Fits 801000 (flat (elements_flow b shift lanes single wide aligned))
-fits_elements true shift lanes single wide aligned small most one more stored =
-    let x = fits_aligned (Plain single) (Repeat Ns (Plain wide)) (Repeat Ns (Plain aligned)) lanes 200000 200011 200011 most (omega arith) (omega arith) (omega arith) one (fits_turns wide more) (fits_turns aligned (stored refl)) shift small in
-    record { allowed = x.allowed; bytes = (let y = x.bytes in omega (arith, y)) }
-fits_elements false shift lanes single wide aligned small most one more stored =
-    let x = fits_plain (Plain single) (Repeat Ns (Plain wide)) (Repeat Ns (Plain wide)) lanes 200000 200011 200011 most (omega arith) (omega arith) (omega arith) one (fits_turns wide more) (fits_turns wide more) in
-    record { allowed = x.allowed; bytes = (let y = x.bytes in omega (arith, y)) }
-
-shift_small : (size : ℕ) → shift_of size ≤ 3
-shift_small size = go (size == 8) (size == 4) (size == 2)
-  where
-    go : (a b c : Bool) → (if a then 3 else (if b then 2 else (if c then 1 else 0))) ≤ 3
-    go true b c = omega arith
-    go false true c = omega arith
-    go false false true = omega arith
-    go false false false = omega arith
+-- ---- the code of rows in turns
 
 besides_fit : (dests lanes size sources : ℕ) (b : Bool) → is_filled dests lanes size ≡ b → besides_of b ≤ 17 + 3 * (dests + sources)
 besides_fit dests lanes size sources true e = (let some = ltb-true 0 dests (both (nat_lt 0 dests) (lanes * size == 16) e).0 in omega (arith, some))
@@ -202,17 +181,8 @@ module _ (f : FunctionValue) (h : is_function f ≡ true) (l : Layout) (first la
     light_aligned = λ e. omega arith;
   }
 
-  fits_turn : (count : ℕ) → IsCount f count → (list : List Ins) → IsTurn f turns.at count list → Fits 200000 list
-  fits_turn count c list x = record { allowed = all_allowed list (turn_fine f h turns.at turns.good count c list x); bytes = turn_size f h turns.at turns.good count c list x }
-
-  fits_stored : fills f ≡ true → Fits 200000 aligned
-  fits_stored e =
-      let x = turns.stored e in
-      record { allowed = all_allowed aligned (aligned_fine f h turns.at turns.good (lanes f) (lanes_count f h) aligned x); bytes = aligned_size f h turns.at turns.good (lanes f) (lanes_count f h) aligned x }
-
-  fits : Fits 801000 (flat elements)
-  fits = fits_elements (fills f) (shift_of (size_of_slot f.vars 0)) (lanes f) single wide aligned (shift_small (size_of_slot f.vars 0)) (let m = (lanes_count f h).most in omega (arith, m))
-      (fits_turn 1 (one_count f h) single turns.one) (fits_turn (lanes f) (lanes_count f h) wide turns.more) fits_stored
+  fits : Fits 900000 (flat elements)
+  fits = fits_elements f h single wide aligned turns
 
   allowed : Each IsAllowed (with_return flow)
   allowed =
@@ -252,16 +222,14 @@ module _ (f : FunctionValue) (h : is_function f ≡ true) (l : Layout) (first la
       (λ code s args back good. parts f turns.at single wide aligned each some done code s args back good first last (subst (λ y. Prepares y first) x.layout x.prepares) (subst (λ y. Finishes y last) x.layout x.finishes))
       allowed)
 
-  pub whole_runs : (bytes : List ℕ) (two_d : Bool) (d s : ℕ) (tree : List Ins) → two_d ≡ f.two_d → d ≡ dests → s ≡ sources → tree ≡ flat elements → bytes ≡ spell_all (with_return (whole_flow first (Plain tree) last two_d d s)) → RunsQuietly f bytes × HasCodeLength bytes
-  whole_runs bytes two_d d s tree a b c t e =
-      let is : bytes ≡ spell_all (with_return flow) =
-      e ∙ ap (λ r. spell_all (with_return (whole_flow first (Plain tree) last r d s))) a ∙ ap₂ (λ d s. spell_all (with_return (whole_flow first (Plain tree) last f.two_d d s))) b c
-      ∙ ap (λ t. spell_all (with_return (whole_flow first (Plain t) last f.two_d dests sources))) t in
-      (subst (RunsQuietly f) (sym is) code_runs, subst HasCodeLength (sym is) code_length)
-
-  -- the bytes of the elements' loops
-  pub elements_few : (tree : List Ins) → tree ≡ flat elements → size tree ≤ 900000
-  elements_few tree e = (let b = fits.bytes in omega (arith, ap size e, b))
+-- as the bytes are built from the lists around the rows and the tree that does their elements
+pub whole_runs : (f : FunctionValue) → is_function f ≡ true → (l : Layout) (first last : List Ins) → Lists f l first last → (tree : Tree) → IsElements f tree → (bytes : List ℕ) (two_d : Bool) (d s : ℕ) → two_d ≡ f.two_d → d ≡ count_of kind.Dest f.vars → s ≡ count_of kind.Source f.vars
+    → bytes ≡ spell_all (with_return (whole_flow first (Plain (flat_of tree)) last two_d d s)) → RunsQuietly f bytes × HasCodeLength bytes
+whole_runs f h l first last x tree (single, wide, aligned, turns, t) bytes two_d d s a b c e =
+    let is : bytes ≡ spell_all (with_return (flow f h l first last x single wide aligned turns)) =
+    e ∙ ap (λ r. spell_all (with_return (whole_flow first (Plain (flat_of tree)) last r d s))) a ∙ ap₂ (λ d s. spell_all (with_return (whole_flow first (Plain (flat_of tree)) last f.two_d d s))) b c
+    ∙ ap (λ t. spell_all (with_return (whole_flow first (Plain t) last f.two_d (count_of kind.Dest f.vars) (count_of kind.Source f.vars)))) t in
+    (subst (RunsQuietly f) (sym is) (code_runs f h l first last x single wide aligned turns), subst HasCodeLength (sym is) (code_length f h l first last x single wide aligned turns))
 
 -- in whole slices
 pub list_slices : (f : FunctionValue) (l : Layout) (first last a c : List Ins) → a ≡ first → c ≡ last → Lists f l first last → Lists f l a c

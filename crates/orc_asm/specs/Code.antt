@@ -24,8 +24,10 @@ use Rattle.orc_plan.specs.Lowered.{steps_of}
 use Rattle.orc_asm.specs.declared.span.Span.{Span}
 use Rattle.orc_asm.specs.Regions.{aligned_row, plain_row}
 use Rattle.x86_ins.specs.declared.ins.Cond.TheVariants.{Ns}
-use Rattle.x86_flow.specs.Flow.{Flow, Plain, Repeat}
+use Rattle.x86_flow.specs.declared.tree.Flow.{Flow as Tree}
+use Rattle.x86_flow.specs.Flow.{Flow, Plain, Repeat, flat}
 use Rattle.x86_flow.specs.Moves.{IsWidth, away, load_far_code, store_either_code}
+use Rattle.x86_flow.specs.Tree.{flat_of}
 use Rattle.orc_frame.specs.declared.frame.Layout.{Layout}
 use Rattle.orc_frame.specs.Layout.{pattern_slot, sum_slot}
 use Rattle.sse_laws.specs.Meets.{Meets, is_sum}
@@ -287,6 +289,11 @@ IsTurn f at count list = (actions : List Action) × AreActions at count (steps_o
 abbrev pub IsAlignedTurn : FunctionValue → List ℕ → ℕ → List Ins → Type 0
 IsAlignedTurn f at count list = (actions : List Action) × AreActions at count (steps_of f) actions × (list ≡ blocks_turn_code (plan_with f actions) (aligned_first true) count 1)
 
+-- the one that is wanted
+abbrev pub IsTurnOf : FunctionValue → List ℕ → ℕ → Bool → List Ins → Type 0
+IsTurnOf f at count false = IsTurn f at count
+IsTurnOf f at count true = IsAlignedTurn f at count
+
 -- ---- the elements of a row
 
 -- the size of an element as a power of two
@@ -314,6 +321,11 @@ pub record Turns (f : FunctionValue) (single wide aligned : List Ins) : Type 0 w
 abbrev pub elements_of : FunctionValue → List Ins → List Ins → List Ins → Flow
 elements_of f single wide aligned =
     elements_flow (is_filled (count_of kind.Dest f.vars) (lanes f) (size_of_slot f.vars 0)) (shift_of (size_of_slot f.vars 0)) (lanes f) single wide aligned
+
+-- the tree does the elements of a row
+abbrev pub IsElements : FunctionValue → Tree → Type 0
+IsElements f tree =
+    (single : List Ins) × (wide : List Ins) × (aligned : List Ins) × Turns f single wide aligned × (flat_of tree ≡ flat (elements_of f single wide aligned))
 
 -- ---- steps whose code can be given for so many elements
 

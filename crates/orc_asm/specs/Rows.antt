@@ -69,10 +69,6 @@ slot_code for_slot.Base = base_code
 slot_code for_slot.Pointer = pointer_code
 slot_code for_slot.Stride = stride_code
 
--- a row does its elements by turns
-abbrev pub turns_flow : List Ins → Flow
-turns_flow turn = Repeat Ne (Plain turn)
-
 -- a row does its elements by this code
 abbrev pub row_flow : Flow → ℕ → ℕ → Flow
 row_flow elements dests sources = Chain (Plain (row_entry_code dests sources)) (Chain elements (Plain (row_step_code dests sources)))

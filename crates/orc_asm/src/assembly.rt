@@ -1,26 +1,19 @@
 //! From functions to code.
 
-ghost use Rattle.std.specs.Prelude.{◌≡◌, ◌≤◌, All, IfOk, OnOk, IfErr, None, length, slice_index, true};
-ghost use Rattle.orc_program.specs.declared.program.VarKind.TheVariants as kind;
-ghost use Rattle.orc_program.specs.Program.{count_of};
-ghost use Rattle.orc_program.specs.Kept.{is_function};
+ghost use Rattle.std.specs.Prelude.{◌≡◌, ◌≤◌, IfOk, OnOk, IfErr, None, length};
+ghost use Rattle.orc_program.specs.Need.{lanes};
 ghost use Rattle.orc_plan.specs.Lowered.{steps_of, sizes_of};
 ghost use Rattle.orc_plan.specs.Places.{GoodPlaces};
-ghost use Rattle.orc_frame.specs.Frame.{IsLayout};
 ghost use Rattle.orc_asm.specs.Function.{RunsAs, RunsQuietly, first_pressure, IsRefusal};
-ghost use Rattle.orc_asm.specs.Code.{IsReady, IsTurnBy};
 
-use crate::lists::{COUNTER, push_actions, push_advances};
 use crate::refusal::AsmError;
 use crate::rows::whole_code;
-use crate::span::Span;
+use crate::turns::{counts_of, elements};
 use orc_bits::Code;
-use orc_frame::{Layout, epilogue, layout, prologue};
+use orc_frame::{epilogue, layout, prologue};
 use orc_plan::{Core, lower, place};
-use orc_program::variables::count_of;
-use orc_program::{Function, VarKind};
+use orc_program::Function;
 use std::alloc::{AllocError, Global};
-use x86_ins::{AluOp, Ins, InsList};
 
 /// Code that does in every good call what the function means, in at most as many steps as are stated. It does so inside any larger memory
 /// too, and on the way changes no byte but those of dests' cells, of accumulators' words and of the frame. It has 1 to 1,048,576 bytes.
@@ -47,10 +40,11 @@ pub fn assemble(alloc: Global, f: &Function) -> Result<Code, AsmError>
     }
 }
 
-/// The code of a function whose values have places: rows of turns, and before and after them what the frame wants.
+/// The code of a function whose values have places: rows of elements, and before and after them what the frame wants.
 fn code_of(alloc: Global, f: &Function, core: &Core, places: &[u8]) -> Result<Code, AllocError>
     requires steps { core.now.steps ≡ steps_of f.now }
     requires sizes { core.now.sizes ≡ sizes_of f.now }
+    requires lanes { core.now.lanes ≡ lanes f.now }
     requires places { GoodPlaces core.now.steps places.now }
     ensures inside { IfOk result (λ code. RunsQuietly f.now code) }
     ensures bytes { IfOk result (λ code. (1 ≤ length code) × (length code ≤ 1048576)) }
@@ -58,75 +52,15 @@ fn code_of(alloc: Global, f: &Function, core: &Core, places: &[u8]) -> Result<Co
     let counts = counts_of(f);
     let layout = layout(f);
     let first = prologue(alloc, &layout)?;
-    let turn = turn_list(alloc, core, places, &layout, counts)?;
+    let elements = elements(alloc, f, core, places, &layout)?;
     let last = epilogue(alloc, &layout)?;
     whole_code(
         alloc,
         first.as_slice(),
-        turn.as_slice(),
+        &elements,
         last.as_slice(),
         f.two_d,
         counts.dests,
         counts.sources,
     )
-}
-
-/// Does one element, and moves the pointers and the counter on.
-fn turn_list(
-    alloc: Global,
-    core: &Core,
-    places: &[u8],
-    layout: &Layout,
-    counts: Counts,
-) -> Result<InsList, AllocError>
-    requires layout { IsLayout layout.now }
-    requires ready { All (IsReady layout.now places.now (slice_index core.now.sizes) 1) core.now.steps }
-    requires few { (counts.dests ≤ 4) × (counts.sources ≤ 8) }
-    ensures { IfOk result (IsTurnBy places.now core.now.sizes core.now.steps counts.dests counts.sources 1) }
-{
-    let sizes = &core.sizes;
-    let span = Span {
-        first: 0,
-        count: 1,
-        aligned: false,
-    };
-    let mut list = InsList::new(alloc);
-    push_actions(
-        &mut list,
-        places,
-        sizes,
-        layout,
-        core.steps.as_slice(),
-        span,
-    )?;
-    push_advances(&mut list, sizes, 1, 0, counts.dests)?;
-    push_advances(&mut list, sizes, 1, 4, counts.sources)?;
-    list.push(Ins::AluImm {
-        op: AluOp::Sub,
-        dst: COUNTER,
-        value: 1,
-    })?;
-    Ok(list)
-}
-
-/// How many arrays a function has.
-#[derive(Clone, Copy)]
-struct Counts {
-    dests: usize,
-    sources: usize,
-}
-
-/// Counts variables.
-#[tactic(auto, using(crate::proofs::Slots::limits))]
-fn counts_of(f: &Function) -> Counts
-    ensures dests { result.dests ≡ count_of kind.Dest f.now.vars }
-    ensures sources { result.sources ≡ count_of kind.Source f.now.vars }
-    ensures few { (result.dests ≤ 4) × (result.sources ≤ 8) }
-    ensures kept { is_function f.now ≡ true }
-{
-    let vars = f.vars.as_slice();
-    Counts {
-        dests: count_of(vars, VarKind::Dest),
-        sources: count_of(vars, VarKind::Source),
-    }
 }

@@ -9,6 +9,7 @@ mod refusal;
 mod rows;
 mod rules;
 mod span;
+mod turns;
 
 pub use assembly::assemble;
 pub use refusal::AsmError;

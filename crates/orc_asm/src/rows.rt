@@ -2,15 +2,17 @@
 
 ghost use Rattle.std.specs.Prelude.{◌≡◌, ◌<◌, ◌≤◌, ◌+◌, ◌++◌, All, IfOk, IsTrue, OnOk};
 ghost use Rattle.x86_ins.specs.Spelling.{has_spelling};
-ghost use Rattle.x86_flow.specs.Flow.{flat, size, spell_all, with_return};
+ghost use Rattle.x86_flow.specs.Flow.{Plain, flat, size, spell_all, with_return};
 ghost use Rattle.x86_flow.specs.Moves.{away};
+ghost use Rattle.x86_flow.specs.Tree.{flat_of};
 ghost use Rattle.orc_frame.specs.Layout.{row_slot};
-ghost use Rattle.orc_asm.specs.Rows.{slot_code, slots_code, arrays_code, base_code, stride_code, number_code, rows_code, row_entry_code, row_step_code, turns_flow, row_flow, whole_flow};
+ghost use Rattle.orc_asm.specs.Rows.{slot_code, slots_code, arrays_code, base_code, stride_code, number_code, rows_code, row_entry_code, row_step_code, row_flow, whole_flow};
 
 use crate::lists::{BLOCK, COUNTER, STACK, pointer};
 use orc_bits::Code;
 use sqlite_items::Items;
 use std::alloc::{AllocError, Global};
+use x86_flow::tree::{Flow, put_flow};
 use x86_flow::{SCRATCH, away, put, put_list, put_loop};
 use x86_ins::{Addr, AluOp, Cond, Ins, InsList};
 
@@ -206,50 +208,45 @@ pub fn row_step_list(alloc: Global, dests: usize, sources: usize) -> Result<InsL
     Ok(list)
 }
 
-/// The bytes of a row: its start, turns over its elements, and its end.
+/// The bytes of a row: its start, what does its elements, and its end.
 fn row_bytes(
     alloc: Global,
-    turn: &[Ins],
+    elements: &Flow,
     dests: usize,
     sources: usize,
 ) -> Result<Vec<u8>, AllocError>
-    requires spelled { All (λ i. IsTrue (has_spelling i)) turn.now }
-    requires few { size turn.now ≤ 900000 }
     requires dests { dests ≤ 4 }
     requires sources { sources ≤ 8 }
-    ensures { IfOk result (λ bytes. bytes.items ≡ spell_all (flat (row_flow (turns_flow turn.now) dests sources))) }
+    ensures { IfOk result (λ bytes. bytes.items ≡ spell_all (flat (row_flow (Plain (flat_of elements.now)) dests sources))) }
 {
     let enter = row_entry_list(alloc, dests, sources)?;
     let leave = row_step_list(alloc, dests, sources)?;
-    let mut body = Vec::new(alloc);
-    put_list(&mut body, turn)?;
     let mut row = Vec::new(alloc);
     put_list(&mut row, enter.as_slice())?;
-    put_loop(&mut row, Cond::Ne, &body)?;
+    put_flow(alloc, &mut row, elements)?;
     put_list(&mut row, leave.as_slice())?;
     Ok(row)
 }
 
-/// Code of rows between two lists, in which turns do the elements of a row.
+/// Code of rows between two lists, in which a tree does the elements of a row.
 pub fn whole_code(
     alloc: Global,
     first: &[Ins],
-    turn: &[Ins],
+    elements: &Flow,
     last: &[Ins],
     two_d: bool,
     dests: usize,
     sources: usize,
 ) -> Result<Code, AllocError>
     requires first_spelled { All (λ i. IsTrue (has_spelling i)) first.now }
-    requires turn_spelled { All (λ i. IsTrue (has_spelling i)) turn.now }
     requires last_spelled { All (λ i. IsTrue (has_spelling i)) last.now }
-    requires few { size turn.now ≤ 900000 }
+    requires few { size (flat_of elements.now) ≤ 900000 }
     requires dests { dests ≤ 4 }
     requires sources { sources ≤ 8 }
-    ensures { IfOk result (λ code. code ≡ spell_all (with_return (whole_flow first.now (turns_flow turn.now) last.now two_d dests sources))) }
+    ensures { IfOk result (λ code. code ≡ spell_all (with_return (whole_flow first.now (Plain (flat_of elements.now)) last.now two_d dests sources))) }
 {
     let starts = rows_list(alloc, two_d, dests, sources)?;
-    let row = row_bytes(alloc, turn, dests, sources)?;
+    let row = row_bytes(alloc, elements, dests, sources)?;
     let mut code = Vec::new(alloc);
     put_list(&mut code, first)?;
     put_list(&mut code, starts.as_slice())?;

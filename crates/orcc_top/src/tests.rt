@@ -71,7 +71,7 @@ fn each_command_answers(rt: HostRuntime) -> Result<(), AllocError> {
             &["check"],
             b".function volume\n.dest 2 d1 gint16\n.param 2 p1\n.temp 4 t1\nmulswl t1, d1, p1\nshrsl t1, t1, 11\nconvlw d1, t1\n",
             Status::Done,
-            b"volume need 2 lanes 1 cost 30\n",
+            b"volume need 2 lanes 4 cost 30\n",
         ),
         (
             &["fmt"],
@@ -265,6 +265,88 @@ fn code_does_what_its_text_means(rt: HostRuntime) -> Result<(), AllocError> {
         let result = ran.output.as_slice();
         assert!(rt; result.starts_with(b"end returned "), "{declared}");
         assert!(rt; result.ends_with(after.as_bytes()), "{declared}");
+    }
+    Ok(())
+}
+
+/// Functions that add a source's elements to a dest's, by the size of an element.
+const ADDERS: [(usize, &str); 4] = [
+    (1, ".function f\n.dest 1 d1\n.source 1 s1\naddb d1, d1, s1\n"),
+    (2, ".function f\n.dest 2 d1\n.source 2 s1\naddw d1, d1, s1\n"),
+    (4, ".function f\n.dest 4 d1\n.source 4 s1\naddl d1, d1, s1\n"),
+    (8, ".function f\n.dest 8 d1\n.source 8 s1\naddq d1, d1, s1\n"),
+];
+
+/// Counts of elements, less and more than do a row's head, several turns and a tail.
+const COUNTS: [(usize, &str); 6] = [
+    (0, "0"),
+    (1, "1"),
+    (15, "15"),
+    (16, "16"),
+    (17, "17"),
+    (37, "37"),
+];
+
+/// Sixteen addresses in a row, from a multiple of 16 on.
+const BASES: [&str; 16] = [
+    "4096", "4097", "4098", "4099", "4100", "4101", "4102", "4103", "4104", "4105", "4106", "4107",
+    "4108", "4109", "4110", "4111",
+];
+
+/// Appends so many bytes in hexadecimal.
+fn push_bytes(job: &mut Vec<u8>, count: usize) -> Result<(), AllocError> {
+    let digits = b"0123456789abcdef";
+    for i in 0..count {
+        job.push(digits[i % 16])?;
+        job.push(digits[i / 3 % 16])?;
+    }
+    Ok(())
+}
+
+/// A job of elements of a dest from a base on and of a source, where the arrays' bytes alone are mapped.
+fn adding(alloc: Global, size: usize, count: (usize, &str), base: &str) -> Result<Vec<u8>, AllocError> {
+    let mut job = Vec::from_slice(alloc, b"{\"function\":\"f\",\"n\":")?;
+    job.extend_from_slice(count.1.as_bytes())?;
+    job.extend_from_slice(b",\"m\":1,\"arrays\":[{\"base\":")?;
+    job.extend_from_slice(base.as_bytes())?;
+    job.extend_from_slice(b",\"stride\":0},{\"base\":8195,\"stride\":0}],\"params\":[],\"memory\":[{\"at\":")?;
+    job.extend_from_slice(base.as_bytes())?;
+    job.extend_from_slice(b",\"bytes\":\"")?;
+    push_bytes(&mut job, count.0 * size)?;
+    job.extend_from_slice(b"\"},{\"at\":8195,\"bytes\":\"")?;
+    push_bytes(&mut job, count.0 * size)?;
+    job.extend_from_slice(b"\"}],\"budget\":100000}")?;
+    Ok(job)
+}
+
+/// What follows a result's first line.
+fn behind_end(result: &[u8]) -> &[u8] {
+    let mut at = 0;
+    while at < result.len() && result[at] != b'\n' {
+        at += 1;
+    }
+    &result[at..]
+}
+
+#[test]
+fn rows_are_done_from_every_base(rt: HostRuntime) -> Result<(), AllocError> {
+    let alloc = rt.alloc();
+    for (size, text) in ADDERS {
+        let image = run(alloc, &["asm"], text.as_bytes())?;
+        for count in COUNTS {
+            for base in BASES {
+                let job = adding(alloc, size, count, base)?;
+                let mut input = Vec::from_slice(alloc, image.output.as_slice())?;
+                input.extend_from_slice(job.as_slice())?;
+                let ran = run(alloc, &["run"], input.as_slice())?;
+                let mut input = Vec::from_slice(alloc, text.as_bytes())?;
+                input.extend_from_slice(b"%%\n")?;
+                input.extend_from_slice(job.as_slice())?;
+                let meant = run(alloc, &["emulate"], input.as_slice())?;
+                assert!(rt; ran.output.as_slice().starts_with(b"end returned "), "{size} {base}");
+                assert!(rt; behind_end(ran.output.as_slice()) == behind_end(meant.output.as_slice()), "{size} {base}");
+            }
+        }
     }
     Ok(())
 }
