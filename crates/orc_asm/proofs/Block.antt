@@ -3,7 +3,7 @@ use Rattle.std.proofs.Common.{◌≡◌, ◌≢◌, ℕ, suc, ◌+◌, ◌*◌, 
 use Rattle.std.proofs.lemmas.Bool.{cases_eq}
 use Rattle.std.proofs.Math.Nat.{le-max_left, le-max_right, mul-le-mul_left, mul-le-mul_right, mod-eq_of_lt, mod-mod}
 use Rattle.orc_bits.specs.Numbers.{cut}
-use Rattle.orc_bits.specs.Lanes.{lane, from_lanes, AreBytes, change}
+use Rattle.orc_bits.specs.Lanes.{lane, AreBytes, change}
 use Rattle.orc_bits.specs.Memory.{Memory, IsMapped}
 use Rattle.orc_bits.proofs.LaneLaws.{lane_of_digits, lane_one, lane-from_lanes, change_other, change_same}
 use Rattle.orc_bits.proofs.Memories.{or_else}
@@ -12,11 +12,11 @@ use Rattle.orc_ops.specs.Table.{row, wide, to, size_of_result, size_of_source}
 use Rattle.orc_ops.specs.Stems.{apply}
 use Rattle.orc_ops.specs.Formula.{formula, source_of}
 use Rattle.x86_ins.specs.declared.ins.Ins.{Ins}
-use Rattle.x86_ins.specs.declared.ins.Ins.TheVariants.{Vec, VecLoad, VecStore}
+use Rattle.x86_ins.specs.declared.ins.Ins.TheVariants.{VecLoad, VecStore}
 use Rattle.x86_ins.specs.declared.ins.MoveOp.TheVariants.{Movdqu}
 use Rattle.x86_ins.specs.declared.ins.VecOp.TheVariants.{Movdqa}
 use Rattle.x86_ins.specs.Renaming.{renamed}
-use Rattle.x86_ins.specs.Vectors.{after, all_simd, shape, result_of}
+use Rattle.x86_ins.specs.Vectors.{after, shape, result_of}
 use Rattle.x86_ins.specs.Machine.{Core, Bounded, with_lanes}
 use Rattle.x86_ins.specs.Spelling.{IsIns}
 use Rattle.x86_ins.specs.Way.{Each}
@@ -39,7 +39,7 @@ use Rattle.orc_asm.proofs.Registers.{not_0}
 use Rattle.orc_asm.proofs.Digits.{digit, digit_small, byte_split, byte_within, byte_further}
 use Rattle.orc_asm.proofs.SubLanes.{lane_sub_lane, packed_bytes}
 use Rattle.orc_asm.proofs.Sized.{one_shift, shift_two}
-use Rattle.orc_asm.proofs.Cells.{Numbers, OfDests, Local, given_by, given, adds_to, results_add, live_target, live_targets, live_act, Lanes, Others, AtElements, IsOf, IsTo, IsFrom, IsBeside, AreFrom, IsMade, IsAdded, AreMade, AreTo, IsKept, IsKnown, AllKnown, Separate, Low, set_local, set_target, set_results, value_of, local_act, local, adds, store_lanes, store_others}
+use Rattle.orc_asm.proofs.Cells.{Numbers, OfDests, Local, given_by, given, adds_to, results_add, live_target, live_targets, live_act, Lanes, Others, AtElements, IsOf, IsTo, IsFrom, IsBeside, AreFrom, IsMade, AreMade, AreTo, IsKept, IsKnown, AllKnown, Separate, Low, set_local, set_target, set_results, value_of, local_act, local, adds, store_lanes, store_others}
 use Rattle.orc_asm.proofs.Keeping.{line_bounded, each_front, each_back}
 use Rattle.orc_asm.proofs.Frames.{IsFrame, Framed, framed_same, framed_totals, framed_grown, load_slot, store_slot, pattern_lane, same_sum, no_sum, adds_all, sum_both}
 

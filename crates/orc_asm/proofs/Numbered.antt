@@ -12,10 +12,9 @@ use Rattle.orc_program.specs.declared.program.Operand.{Operand}
 use Rattle.orc_program.specs.declared.program.Operand.TheVariants as operand
 use Rattle.orc_program.specs.declared.call.Call.{Call}
 use Rattle.orc_program.specs.Program.{FunctionValue, var_at, is_of, count_of, count_before, places_of}
-use Rattle.orc_program.specs.Checks.{patterns_of}
 use Rattle.orc_program.specs.Slots.{call_of}
 use Rattle.orc_program.specs.Meaning.{param_at}
-use Rattle.orc_frame.specs.Layout.{layout_of, acc_sizes_of, index_in}
+use Rattle.orc_frame.specs.Layout.{acc_sizes_of, index_in}
 use Rattle.orc_frame.specs.Frame.{number_of}
 use Rattle.orc_frame.proofs.Fills.{IsKnown}
 use Rattle.orc_frame.proofs.Meant.{index_in-places_of}

@@ -1,5 +1,5 @@
 -- A function's code in a good call: the lists around its rows, and the turns over the elements of a row.
-use Rattle.std.proofs.Common.{◌≡◌, ℕ, Bool, ◌+◌, ◌-◌, ◌*◌, ◌/◌, ◌%◌, ◌^◌, ◌<◌, ◌≤◌, true, false, true≢false, List, [], length, get_or, slice_index, Some, is_some, Ok, refl, lit<, sym, ap, ap₂, ◌∙◌, subst, arith, inl, inr, ⊎_elim}
+use Rattle.std.proofs.Common.{◌≡◌, ℕ, Bool, ◌+◌, ◌-◌, ◌*◌, ◌/◌, ◌%◌, ◌^◌, ◌<◌, ◌≤◌, true, false, true≢false, List, [], length, get_or, slice_index, Some, is_some, refl, lit<, sym, ap, ap₂, ◌∙◌, subst, arith, inl, inr, ⊎_elim}
 use Rattle.std.proofs.Math.Nat.{zero-mod, zero-div}
 use Rattle.orc_bits.specs.Memory.{Memory, word, IsMapped}
 use Rattle.orc_bits.specs.Numbers.{cut}
@@ -10,7 +10,7 @@ use Rattle.orc_program.specs.Kept.{is_function}
 use Rattle.orc_program.specs.Program.{FunctionValue, var_at, same_kind, count_of, places_of}
 use Rattle.orc_program.specs.Checks.{patterns_of}
 use Rattle.orc_program.specs.Slots.{slot_of, size_of_slot}
-use Rattle.orc_program.specs.Meaning.{State, cell, row_of, start}
+use Rattle.orc_program.specs.Meaning.{State, cell, start}
 use Rattle.x86_ins.specs.declared.ins.Ins.{Ins}
 use Rattle.x86_ins.specs.Machine.{Core, Point}
 use Rattle.x86_ins.specs.Spelling.{IsIns}
@@ -39,7 +39,7 @@ use Rattle.orc_program.specs.Need.{lanes, turns}
 use Rattle.x86_ins.specs.declared.ins.Cond.TheVariants.{Ns}
 use Rattle.x86_flow.specs.Flow.{Flow, Plain, Repeat}
 use Rattle.orc_asm.specs.Code.{Action, Plan, AreActions, plan_with, turn_code, action_far_code, block_far, blocks_turn_code, aligned_first, shift_of, is_filled, elements_flow, elements_of}
-use Rattle.orc_asm.specs.Regions.{left_word, plain_row, aligned_row}
+use Rattle.orc_asm.specs.Regions.{plain_row, aligned_row}
 use Rattle.orc_asm.proofs.Cells.{Numbers, IsOf}
 use Rattle.orc_asm.proofs.Frames.{IsFrame, Framed, framed_below, no_sum}
 use Rattle.orc_asm.proofs.Emulated.{IsCells, state}

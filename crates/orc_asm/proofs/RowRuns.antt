@@ -1,6 +1,5 @@
 -- Code with rows runs as its function means.
-use Rattle.std.proofs.Common.{◌≡◌, ◌≢◌, ℕ, zero, suc, ◌+◌, ◌-◌, ◌*◌, ◌^◌, ◌<◌, ◌≤◌, ◌⊎◌, min, pos, Bool, true, false, true≢false, if◌then◌else◌, List, length, is_some, Some, None, refl, sym, ap, ◌∙◌, subst, arith, mul-le-mul_left, inl, inr, ⊎_elim, div-one, le_refl}
-use Rattle.std.proofs.Math.Nat.{min-eq_left}
+use Rattle.std.proofs.Common.{◌≡◌, ◌≢◌, ℕ, zero, suc, ◌+◌, ◌*◌, ◌^◌, ◌<◌, ◌≤◌, ◌⊎◌, pos, Bool, true, false, true≢false, if◌then◌else◌, List, length, is_some, Some, None, refl, sym, ap, ◌∙◌, subst, arith, inl, inr, ⊎_elim}
 use Rattle.orc_bits.specs.Memory.{Memory, word, IsMapped}
 use Rattle.orc_bits.proofs.LaneLaws.{change_other}
 use Rattle.orc_program.specs.declared.program.VarKind.TheVariants as kind

@@ -1,16 +1,16 @@
 -- The registers in which an action's rule works: its results are made where they go.
-use Rattle.std.proofs.Common.{◌≡◌, ◌≢◌, ℕ, ◌+◌, ◌<◌, ◌≤◌, ◌==◌, Bool, true, false, if◌then◌else◌, List, [], ◌∷◌, map, refl, sym, ap, ◌∙◌, subst, arith, ◌⊎◌, inl, inr, ⊎_elim}
+use Rattle.std.proofs.Common.{◌≡◌, ◌≢◌, ℕ, ◌<◌, ◌≤◌, ◌==◌, if◌then◌else◌, List, [], ◌∷◌, map, refl, sym, ap, ◌∙◌, arith, ◌⊎◌, inl, inr, ⊎_elim}
 use Rattle.std.proofs.lemmas.Bool.{cases_eq}
 use Rattle.orc_bits.proofs.LaneLaws.{eq_true, eq_false}
 use Rattle.orc_ops.specs.declared.opcode.Op.{Op}
 use Rattle.orc_ops.specs.Table.{size_of_result, to}
 use Rattle.orc_bits.specs.Numbers.{cut}
 use Rattle.x86_ins.specs.declared.ins.Ins.{Ins}
-use Rattle.x86_ins.specs.Vectors.{Registers, after}
+use Rattle.x86_ins.specs.Vectors.{after}
 use Rattle.x86_ins.specs.Renaming.{renamed}
 use Rattle.x86_ins.proofs.Renamed.{after_same, after_renamed, simd_renamed}
-use Rattle.sse_acc.specs.Sums.{AddsUp, sum_of, sum_below, number_of}
-use Rattle.orc_asm.specs.Code.{Target, ToArray, ToSum, ToPlace, place_register, made_in, first_register, second_register, exchange, rule_register}
+use Rattle.sse_acc.specs.Sums.{AddsUp, sum_of}
+use Rattle.orc_asm.specs.Code.{Target, ToArray, ToSum, ToPlace, place_register, first_register, second_register, exchange, rule_register}
 
 -- ---- two registers change places
 

@@ -1,11 +1,11 @@
 -- Code by sizes that are the same for the slots that it moves is the same.
-use Rattle.std.proofs.Common.{◌≡◌, ℕ, zero, suc, ◌+◌, ◌*◌, ◌<◌, ◌≤◌, Bool, pos, List, [], ◌∷◌, ◌++◌, refl, sym, ap, ap₂, ◌∙◌, arith}
+use Rattle.std.proofs.Common.{◌≡◌, ℕ, zero, suc, ◌+◌, ◌*◌, ◌<◌, ◌≤◌, Bool, pos, List, [], ◌∷◌, ◌++◌, refl, ap₂, arith}
 use Rattle.x86_ins.specs.declared.ins.AluOp.TheVariants.{Add}
 use Rattle.x86_ins.specs.declared.ins.Ins.{Ins}
 use Rattle.x86_ins.specs.declared.ins.Ins.TheVariants.{AluImm}
 use Rattle.x86_ins.specs.Way.{Each}
 use Rattle.x86_flow.specs.Moves.{load_far_code, store_either_code}
-use Rattle.orc_asm.specs.Code.{Action, Source, FromArray, FromPattern, FromPlace, Target, ToArray, ToSum, ToPlace, pointer, first_register, second_register, rule_code, source_far_code, sources_far_code, sum_code, result_far_code, results_far_code, action_far_code, actions_far_code, advance_code}
+use Rattle.orc_asm.specs.Code.{Action, Source, FromArray, FromPattern, FromPlace, Target, ToArray, ToSum, ToPlace, pointer, first_register, second_register, rule_code, source_far_code, sources_far_code, sum_code, result_far_code, results_far_code, actions_far_code, advance_code}
 
 module _ (size other : ℕ → ℕ) where
   abbrev pub SameFrom : Source → Type 0

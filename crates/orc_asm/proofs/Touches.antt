@@ -9,9 +9,6 @@ use Rattle.x86_flow.specs.Moves.{IsWidth, store_either_code}
 use Rattle.x86_flow.specs.Touching.{touch_weight}
 use Rattle.x86_flow.proofs.Plans.{weigh, weigh_append}
 use Rattle.x86_flow.proofs.Moves.{load_weight, store_weight, aligned_store_weight}
-use Rattle.orc_ops.specs.declared.opcode.Op.{Op}
-use Rattle.orc_ops.specs.Table.{row}
-use Rattle.sse_laws.specs.Meets.{is_sum}
 use Rattle.orc_asm.specs.Code.{Action, IsRule, Source, FromArray, FromPattern, FromPlace, Target, ToArray, ToSum, ToPlace, Plan, pointer, at_pointer, unaligned, first_register, second_register, rule_register, rule_code, source_far_code, sources_far_code, sum_code, result_far_code, results_far_code, action_far_code, actions_far_code, advance_code, block_far, blocks_code, turn_code, blocks_turn_code}
 use Rattle.x86_ins.proofs.Renamed.{simd_renamed}
 use Rattle.orc_asm.proofs.Sizes.{vectors_of}

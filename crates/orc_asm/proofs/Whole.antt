@@ -1,5 +1,5 @@
 -- The code of a function: it is allowed, its bytes are few, and it runs as the function means.
-use Rattle.std.proofs.Common.{◌≡◌, Bool, ℕ, ◌+◌, ◌*◌, ◌/◌, ◌^◌, ◌==◌, ◌&&◌, nat_lt, ◌≤◌, true, if◌then◌else◌, List, [], ◌∷◌, ◌++◌, length, pos, slice_index, false, ◌<◌, Result, Ok, Err, IfOk, refl, sym, ap, ap₂, ◌∙◌, subst, arith, All, IsTrue, inl, inr}
+use Rattle.std.proofs.Common.{◌≡◌, Bool, ℕ, ◌+◌, ◌*◌, ◌/◌, ◌^◌, ◌==◌, nat_lt, ◌≤◌, true, List, [], ◌∷◌, ◌++◌, length, slice_index, false, ◌<◌, refl, sym, ap, ap₂, ◌∙◌, subst, arith, inl, inr}
 use Rattle.std.proofs.lemmas.Bool.{eqb-true, ltb-true}
 use Rattle.orc_program.specs.declared.program.VarKind.TheVariants as kind
 use Rattle.orc_program.specs.Program.{FunctionValue, count_of, places_of}
@@ -11,18 +11,17 @@ use Rattle.orc_program.proofs.Apart.{IsSize}
 use Rattle.orc_program.proofs.Sizes.{both, size_kept}
 use Rattle.orc_plan.specs.Lowered.{steps_of}
 use Rattle.orc_plan.specs.Places.{GoodPlaces}
-use Rattle.x86_ins.specs.declared.ins.Cond.TheVariants.{Ns}
 use Rattle.x86_ins.specs.declared.ins.Ins.{Ins}
 use Rattle.x86_ins.specs.declared.ins.Ins.TheVariants.{Ret}
 use Rattle.x86_ins.specs.Spelling.{IsAllowed, spelling}
 use Rattle.x86_ins.specs.Way.{Each}
 use Rattle.x86_flow.specs.declared.tree.Flow.{Flow as Tree}
-use Rattle.x86_flow.specs.Flow.{Flow, Plain, Repeat, flat, size, spell_all, loop_code, with_return}
+use Rattle.x86_flow.specs.Flow.{Flow, Plain, flat, size, spell_all, with_return}
 use Rattle.x86_flow.specs.Tree.{flat_of}
 use Rattle.x86_flow.specs.Touching.{AreOwn}
 use Rattle.x86_flow.proofs.Plans.{weigh}
-use Rattle.x86_flow.proofs.Shapes.{size_both, loop_size, loop_fine}
-use Rattle.x86_flow.proofs.Spelled.{IsFine, all_allowed, each_both}
+use Rattle.x86_flow.proofs.Shapes.{size_both}
+use Rattle.x86_flow.proofs.Spelled.{each_both}
 use Rattle.orc_frame.specs.declared.frame.Layout.{Layout}
 use Rattle.orc_frame.specs.Layout.{layout_of}
 use Rattle.orc_frame.specs.Frame.{Prepares, Finishes}
@@ -32,14 +31,14 @@ use Rattle.orc_frame.proofs.Places.{length-places_of}
 use Rattle.orc_frame.specs.Function.{subject_of}
 use Rattle.orc_asm.specs.RunsAs.{quiet}
 use Rattle.orc_asm.specs.Function.{RunsQuietly}
-use Rattle.orc_asm.specs.Code.{Action, AreActions, Turns, IsElements, is_filled, shift_of, elements_flow, elements_of}
+use Rattle.orc_asm.specs.Code.{Action, AreActions, Turns, IsElements, is_filled, shift_of, elements_of}
 use Rattle.orc_asm.specs.Rows.{rows_flow, whole_flow}
 use Rattle.orc_asm.proofs.Several.{IsCount, one_count, lanes_count}
 use Rattle.orc_asm.proofs.Layouts.{patterns_are, sizes_are}
 use Rattle.orc_asm.proofs.Slots.{Limits, limits}
 use Rattle.orc_asm.proofs.Fits.{some_size, slot_size}
 use Rattle.orc_asm.proofs.Numbered.{nth_is}
-use Rattle.orc_asm.proofs.TurnLists.{stand_is, fit_actions, ins_blocks, ins_turn, ins_aligned, turn_fine, turn_size, turn_few, aligned_fine, aligned_size, aligned_few}
+use Rattle.orc_asm.proofs.TurnLists.{stand_is, fit_actions, ins_blocks, ins_turn, ins_aligned, turn_few, aligned_few}
 use Rattle.orc_asm.proofs.RegionSizes.{Fits}
 use Rattle.orc_asm.proofs.ElementPushes.{fits_elements}
 use Rattle.orc_asm.proofs.RowCounts.{rows_bytes, rows_allowed}

@@ -1,12 +1,12 @@
 -- What a function's layout says of patterns and running sums.
-use Rattle.std.proofs.Common.{◌≡◌, ℕ, ◌+◌, ◌*◌, ◌<◌, List, length, map, get_or, slice_index_or, pos, ℤ, ◌^◌, refl, sym, ap, ◌∙◌, subst, arith}
+use Rattle.std.proofs.Common.{◌≡◌, ℕ, ◌*◌, ◌<◌, List, length, get_or, slice_index_or, pos, ℤ, ◌^◌, sym, ap, ◌∙◌, subst, arith}
 use Rattle.std.specs.List.{range_with_len}
 use Rattle.std.proofs.lemmas.List.FromFn.{length-range_with_len, get_or-map-range_with_len}
 use Rattle.std.proofs.lemmas.List.{length-map}
 use Rattle.orc_frame.specs.declared.frame.Layout.{Layout}
 use Rattle.orc_frame.specs.Layout.{displacements, pattern_slot, sum_slot, layout_of}
 use Rattle.orc_frame.specs.Frame.{IsLayout}
-use Rattle.orc_frame.proofs.Facts.{Facts, facts}
+use Rattle.orc_frame.proofs.Facts.{facts}
 use Rattle.std.proofs.Math.Facts.{to_z_pos, Fits-of_lt}
 use Rattle.std.proofs.Common.{to_z, of_z, w32, w64, Fits}
 

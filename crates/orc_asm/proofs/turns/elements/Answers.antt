@@ -1,4 +1,4 @@
-use Rattle.std.proofs.Common.{◌∙◌, ap, slice_index, refl, inl, inr}
+use Rattle.std.proofs.Common.{◌∙◌, ap, slice_index, inl, inr}
 use Rattle.orc_plan.specs.Core.{CoreValue}
 use Rattle.orc_asm.proofs.ElementPushes.{lanes_few, plain_elements, aligned_elements}
 use Rattle.orc_asm.proofs.turns.elements.Goals as goal
