@@ -3,7 +3,7 @@ use Rattle.std.proofs.Common.{◌≡◌, ℕ, ◌+◌, ◌==◌, ltb, true, List
 use Rattle.std.specs.List.{slice_index, slice_index_or}
 use Rattle.std.proofs.lemmas.Bool.{lt-ltb}
 use Rattle.orcc_top.specs.declared.command.Command.{Command}
-use Rattle.orcc_top.specs.declared.command.Command.TheVariants.{Asm, Check, Fmt, Run, Dis, Emulate}
+use Rattle.orcc_top.specs.declared.command.Command.TheVariants.{Asm, Check, Fmt, Run, Dis, Emulate, Obj}
 use Rattle.orcc_top.specs.declared.refusal.Refusal.{Refusal}
 use Rattle.orcc_top.specs.declared.refusal.Refusal.TheVariants.{TooLong}
 use Rattle.orcc_top.specs.Commands.{Word, words_of}
@@ -15,7 +15,7 @@ abbrev first_byte : List Word → ℕ
 first_byte words = slice_index (slice_index_or words 0 []) 0
 
 abbrev command_at : ℕ → Command
-command_at b = if b == 97 then Asm else (if b == 99 then Check else (if b == 102 then Fmt else (if b == 100 then Dis else (if b == 114 then Run else Emulate))))
+command_at b = if b == 97 then Asm else (if b == 99 then Check else (if b == 102 then Fmt else (if b == 100 then Dis else (if b == 114 then Run else (if b == 111 then Obj else Emulate)))))
 
 told_by : (c : Command) → command_at (first_byte (words_of c)) ≡ c
 told_by Asm = refl
@@ -24,6 +24,7 @@ told_by Fmt = refl
 told_by Run = refl
 told_by Dis = refl
 told_by Emulate = refl
+told_by Obj = refl
 
 one_command : (a b : Command) → words_of a ≡ words_of b → a ≡ b
 one_command a b e = sym (told_by a) ∙ ap (λ w. command_at (first_byte w)) e ∙ told_by b

@@ -12,6 +12,7 @@ use crate::emulation::emulate_job;
 use crate::execution::run_job;
 use crate::formatting::format_text;
 use crate::listing::disassemble;
+use crate::objects::assemble_object;
 use crate::refusal::{Refusal, line_of};
 use crate::reply::Reply;
 use orc_io::{Source, TakeFault, read_all};
@@ -48,6 +49,7 @@ fn reply_within(alloc: Global, command: Command, input: &[u8]) -> Result<Reply, 
         Command::Run => run_job(alloc, input),
         Command::Dis => disassemble(alloc, input),
         Command::Emulate => emulate_job(alloc, input),
+        Command::Obj => assemble_object(alloc, input),
     }
 }
 

@@ -13,10 +13,12 @@ pub enum Command {
     Fmt,
     /// `run`: reads an image and a job, and writes the result of running the code on the job.
     Run,
-    /// `dis`: reads an image and writes its listing.
+    /// `dis`: reads an image or an object and writes its listing.
     Dis,
     /// `emulate`: reads a text and a job, and writes the result of the job's emulation.
     Emulate,
+    /// `obj`: reads a text and writes an object.
+    Obj,
 }
 
 fn is_asm(word: &str) -> bool
@@ -55,6 +57,12 @@ fn is_emulate(word: &str) -> bool
     word == "emulate"
 }
 
+fn is_obj(word: &str) -> bool
+    ensures { IsTrue result ↔ (word.now ≡ codes "obj") }
+{
+    word == "obj"
+}
+
 /// The command that the words ask for, if they are one of the listed forms.
 pub fn command_of(words: &[String]) -> Option<Command>
     ensures asked { IfSome result (λ command. spelled words.now ≡ words_of command) }
@@ -67,6 +75,7 @@ pub fn command_of(words: &[String]) -> Option<Command>
         [word] if is_run(word.as_str()) => Some(Command::Run),
         [word] if is_dis(word.as_str()) => Some(Command::Dis),
         [word] if is_emulate(word.as_str()) => Some(Command::Emulate),
+        [word] if is_obj(word.as_str()) => Some(Command::Obj),
         _ => None,
     }
 }
@@ -80,7 +89,7 @@ impl Command {
         ensures readable { result ≤ 67108864 }
     {
         match self {
-            Command::Asm | Command::Check | Command::Fmt => 1_048_576,
+            Command::Asm | Command::Check | Command::Fmt | Command::Obj => 1_048_576,
             Command::Run | Command::Dis | Command::Emulate => 67_108_864,
         }
     }

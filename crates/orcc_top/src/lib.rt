@@ -11,6 +11,7 @@ mod emulation;
 mod execution;
 mod formatting;
 mod listing;
+mod objects;
 mod placing;
 mod refusal;
 mod reply;
