@@ -3,7 +3,7 @@ use Rattle.std.specs.Prelude.{◌≡◌, ◌⊎◌, ℕ, nat_lt, List, Option, S
 use Rattle.std.specs.Option.{option_or}
 use Rattle.orc_elf.specs.Fields.{first_bad_field}
 use Rattle.orcc_top.specs.declared.command.Command.{Command}
-use Rattle.orcc_top.specs.declared.command.Command.TheVariants.{Asm, Check, Fmt, Run, Dis, Emulate, Obj}
+use Rattle.orcc_top.specs.declared.command.Command.TheVariants.{Asm, C, Check, Fmt, Run, Dis, Emulate, Obj}
 use Rattle.orcc_top.specs.declared.refusal.Refusal.{Refusal}
 use Rattle.orcc_top.specs.declared.refusal.Refusal.TheVariants.{TooLong, Image, Object}
 use Rattle.orcc_top.specs.Assembly.{IsAssembled, pressure_refusal}
@@ -11,6 +11,7 @@ use Rattle.orcc_top.specs.Emulation.{IsEmulated, emulate_refusal}
 use Rattle.orcc_top.specs.Execution.{IsRun, run_refusal}
 use Rattle.orcc_top.specs.Figures.{IsChecked}
 use Rattle.orcc_top.specs.Texts.{IsFormatted, fault_refusal}
+use Rattle.orcc_top.specs.Translation.{IsTranslated}
 use Rattle.orcc_top.specs.Commands.{Word, words_of}
 use Rattle.orcc_top.specs.Images.{image_refusal, ListsImage}
 use Rattle.orcc_top.specs.Objects.{IsObject, ListsObject, begins_elf}
@@ -19,6 +20,7 @@ use Rattle.orcc_top.specs.Refusals.{line_of}
 -- the most bytes that a command's input has
 abbrev pub limit_of : Command → ℕ
 limit_of Asm = 1048576
+limit_of C = 1048576
 limit_of Check = 1048576
 limit_of Fmt = 1048576
 limit_of Run = 67108864
@@ -33,6 +35,7 @@ dis_refusal input = if begins_elf input then option_map (λ e. Object e) (first_
 -- why a command refuses an input within its limit, if it does
 abbrev pub refusal_within : Command → List ℕ → Option Refusal
 refusal_within Asm input = option_or (fault_refusal input) (pressure_refusal input)
+refusal_within C input = fault_refusal input
 refusal_within Check input = fault_refusal input
 refusal_within Fmt input = fault_refusal input
 refusal_within Run input = run_refusal input
@@ -47,6 +50,7 @@ refusal_of command input = if nat_lt (limit_of command) (length input) then Some
 -- the bytes are a command's output for an input that it accepts
 abbrev pub IsOutput : Command → List ℕ → List ℕ → Type 0
 IsOutput Asm input bytes = IsAssembled input bytes
+IsOutput C input bytes = IsTranslated input bytes
 IsOutput Check input bytes = IsChecked input bytes
 IsOutput Fmt input bytes = IsFormatted input bytes
 IsOutput Run input bytes = IsRun input bytes

@@ -2,7 +2,7 @@
 use Rattle.std.specs.Prelude.{◌≢◌, ℕ, List, [], ◌∷◌, ◌++◌, map, codes, String, string_bytes}
 use Rattle.std.specs.declared.alloc.Global.{Global}
 use Rattle.orcc_top.specs.declared.command.Command.{Command}
-use Rattle.orcc_top.specs.declared.command.Command.TheVariants.{Asm, Check, Fmt, Run, Dis, Emulate, Obj}
+use Rattle.orcc_top.specs.declared.command.Command.TheVariants.{Asm, C, Check, Fmt, Run, Dis, Emulate, Obj}
 
 abbrev pub Word : Type 0
 Word = List ℕ
@@ -14,6 +14,7 @@ spelled words = map (λ word. string_bytes word) words
 -- the words that ask for a command
 abbrev pub words_of : Command → List Word
 words_of Asm = codes "asm" ∷ []
+words_of C = codes "c" ∷ []
 words_of Check = codes "check" ∷ []
 words_of Fmt = codes "fmt" ∷ []
 words_of Run = codes "run" ∷ []

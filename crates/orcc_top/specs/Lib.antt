@@ -15,3 +15,4 @@ pub mod Refusals
 pub mod Replies
 pub mod Runs
 pub mod Texts
+pub mod Translation

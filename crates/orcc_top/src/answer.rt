@@ -15,6 +15,7 @@ use crate::listing::disassemble;
 use crate::objects::assemble_object;
 use crate::refusal::{Refusal, line_of};
 use crate::reply::Reply;
+use crate::translating::translate_text;
 use orc_io::{Source, TakeFault, read_all};
 use std::alloc::{AllocError, Global};
 
@@ -44,6 +45,7 @@ fn reply_within(alloc: Global, command: Command, input: &[u8]) -> Result<Reply, 
 {
     match command {
         Command::Asm => assemble_text(alloc, input),
+        Command::C => translate_text(alloc, input),
         Command::Check => check_text(alloc, input),
         Command::Fmt => format_text(alloc, input),
         Command::Run => run_job(alloc, input),

@@ -7,6 +7,8 @@ ghost use Rattle.orcc_top.specs.Commands.{spelled, words_of, IsWrongUsage};
 pub enum Command {
     /// `asm`: reads a text and writes an image.
     Asm,
+    /// `c`: reads a text and writes C of the same meaning.
+    C,
     /// `check`: reads a text and writes the figures of its functions.
     Check,
     /// `fmt`: reads a text and writes its canonical text.
@@ -25,6 +27,12 @@ fn is_asm(word: &str) -> bool
     ensures { IsTrue result ↔ (word.now ≡ codes "asm") }
 {
     word == "asm"
+}
+
+fn is_c(word: &str) -> bool
+    ensures { IsTrue result ↔ (word.now ≡ codes "c") }
+{
+    word == "c"
 }
 
 fn is_check(word: &str) -> bool
@@ -70,6 +78,7 @@ pub fn command_of(words: &[String]) -> Option<Command>
 {
     match words {
         [word] if is_asm(word.as_str()) => Some(Command::Asm),
+        [word] if is_c(word.as_str()) => Some(Command::C),
         [word] if is_check(word.as_str()) => Some(Command::Check),
         [word] if is_fmt(word.as_str()) => Some(Command::Fmt),
         [word] if is_run(word.as_str()) => Some(Command::Run),
@@ -89,7 +98,7 @@ impl Command {
         ensures readable { result ≤ 67108864 }
     {
         match self {
-            Command::Asm | Command::Check | Command::Fmt | Command::Obj => 1_048_576,
+            Command::Asm | Command::C | Command::Check | Command::Fmt | Command::Obj => 1_048_576,
             Command::Run | Command::Dis | Command::Emulate => 67_108_864,
         }
     }

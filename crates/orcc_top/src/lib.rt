@@ -18,6 +18,7 @@ mod reply;
 mod separating;
 mod status;
 mod top;
+mod translating;
 mod writing;
 
 pub use orc_parts::play_parts;

@@ -1,4 +1,5 @@
 use crate::{Status, orcc};
+use c_read::read_c;
 use orc_elf::{ElfCode, ElfEntry, write_elf};
 use orc_io::{Buffer, Piece};
 use orc_program::Name;
@@ -51,7 +52,7 @@ fn run_with(
         calls: 0,
         faults: 0,
     };
-    let mut output = Buffer::with_room(alloc, 8000, 7, failing(alloc, put)?)?;
+    let mut output = Buffer::with_room(alloc, 60_000, 7, failing(alloc, put)?)?;
     let mut notes = Buffer::with_room(alloc, 100, 7, Vec::new(alloc))?;
     let status = orcc(alloc, given.as_slice(), &mut input, &mut output, &mut notes);
     Ok(Outcome {
@@ -69,8 +70,9 @@ fn run(alloc: Global, words: &[&str], bytes: &[u8]) -> Result<Outcome, AllocErro
 #[test]
 fn each_command_answers(rt: HostRuntime) -> Result<(), AllocError> {
     // The words, the input, and the status with what is written.
-    let rows: [(&[&str], &[u8], Status, &[u8]); 8] = [
+    let rows: [(&[&str], &[u8], Status, &[u8]); 9] = [
         (&["asm"], b"# nothing", Status::Done, b"ORCI\x01\x00"),
+        (&["c"], b"# nothing", Status::Done, b"#include <stdint.h>\n"),
         (
             &["check"],
             b".function volume\n.dest 2 d1 gint16\n.param 2 p1\n.temp 4 t1\nmulswl t1, d1, p1\nshrsl t1, t1, 11\nconvlw d1, t1\n",
@@ -229,6 +231,10 @@ fn ten_values_have_places(rt: HostRuntime) -> Result<(), AllocError> {
         let ran = run(alloc, &["asm"], text.as_slice())?;
         assert_eq!(rt; ran.status, status);
         assert!(rt; ran.notes.as_slice() == notes.as_bytes());
+        // C has no places.
+        let translated = run(alloc, &["c"], text.as_slice())?;
+        assert_eq!(rt; translated.status, Status::Done);
+        assert!(rt; read_c(alloc, translated.output.as_slice()).is_ok());
     }
     Ok(())
 }

@@ -2,7 +2,6 @@ use Rattle.std.proofs.Common.{◌≡◌, ◌≤◌, ◌∙◌, ◌++◌, ◌∷�
 use Rattle.std.proofs.lemmas.Grind.{common_steps}
 use Rattle.std.proofs.lemmas.List.{take_all}
 use Rattle.orc_elf.specs.Entries.{EntryValue, ElfValue, names}
-use Rattle.orc_image.specs.Spelling.{FunctionValue}
 use Rattle.orc_program.specs.Kept.{all_distinct}
 use Rattle.orcc_top.specs.Objects.{uncounted}
 use Rattle.orcc_top.proofs.Each.{each_further, next_room, next_new, each_is_map}
