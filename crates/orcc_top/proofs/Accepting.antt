@@ -3,30 +3,32 @@ use Rattle.std.proofs.Common.{◌≡◌, ℕ, ◌+◌, ◌==◌, ltb, true, List
 use Rattle.std.specs.List.{slice_index, slice_index_or}
 use Rattle.std.proofs.lemmas.Bool.{lt-ltb}
 use Rattle.orcc_top.specs.declared.command.Command.{Command}
-use Rattle.orcc_top.specs.declared.command.Command.TheVariants.{Asm, Check, Fmt, Run, Dis, Emulate}
+use Rattle.orcc_top.specs.declared.command.Command.TheVariants.{Asm, C, Check, Fmt, Run, Dis, Emulate, Obj}
 use Rattle.orcc_top.specs.declared.refusal.Refusal.{Refusal}
 use Rattle.orcc_top.specs.declared.refusal.Refusal.TheVariants.{TooLong}
 use Rattle.orcc_top.specs.Commands.{Word, words_of}
 use Rattle.orcc_top.specs.Answer.{limit_of, refusal_of, Refuses}
 use Rattle.orcc_top.specs.Runs.{Takes, IsAccepted}
 
--- the first byte tells the command
-abbrev first_byte : List Word → ℕ
-first_byte words = slice_index (slice_index_or words 0 []) 0
+-- the first two bytes tell the command
+abbrev byte_at : ℕ → List Word → ℕ
+byte_at i words = slice_index (slice_index_or words 0 []) i
 
-abbrev command_at : ℕ → Command
-command_at b = if b == 97 then Asm else (if b == 99 then Check else (if b == 102 then Fmt else (if b == 100 then Dis else (if b == 114 then Run else Emulate))))
+abbrev command_at : ℕ → ℕ → Command
+command_at b next = if b == 97 then Asm else (if b == 99 then (if next == 104 then Check else C) else (if b == 102 then Fmt else (if b == 100 then Dis else (if b == 114 then Run else (if b == 111 then Obj else Emulate)))))
 
-told_by : (c : Command) → command_at (first_byte (words_of c)) ≡ c
+told_by : (c : Command) → command_at (byte_at 0 (words_of c)) (byte_at 1 (words_of c)) ≡ c
 told_by Asm = refl
+told_by C = refl
 told_by Check = refl
 told_by Fmt = refl
 told_by Run = refl
 told_by Dis = refl
 told_by Emulate = refl
+told_by Obj = refl
 
 one_command : (a b : Command) → words_of a ≡ words_of b → a ≡ b
-one_command a b e = sym (told_by a) ∙ ap (λ w. command_at (first_byte w)) e ∙ told_by b
+one_command a b e = sym (told_by a) ∙ ap (λ w. command_at (byte_at 0 w) (byte_at 1 w)) e ∙ told_by b
 
 long_refused : (c : Command) (taken rest : List ℕ) → length taken ≡ limit_of c + 1 → refusal_of c (taken ++ rest) ≡ Some TooLong
 long_refused c taken rest long =

@@ -1,5 +1,7 @@
 pub mod Images
+pub mod Elf
 pub mod Limits
+pub mod Each
 pub mod Entries
 pub mod Reading
 pub mod Overlapping

@@ -9,6 +9,7 @@ use Rattle.orc_asm.specs.declared.refusal.AsmError.{AsmError}
 use Rattle.orc_asm.specs.declared.refusal.AsmError.TheVariants as asm
 use Rattle.orc_asm.specs.Function.{RunsAs, RunsQuietly, first_pressure}
 use Rattle.orc_image.specs.Spelling as spelling
+use Rattle.orcc_top.specs.Each.{OneForEach}
 use Rattle.orcc_top.specs.declared.refusal.Refusal.{Refusal}
 use Rattle.orcc_top.specs.declared.refusal.Refusal.TheVariants as refusal
 
@@ -27,10 +28,7 @@ pub record EntryOf (f : FunctionValue) (entry : spelling.FunctionValue) : Type 0
 
 -- one for each function, in order
 abbrev pub EntriesOf : List FunctionValue → List spelling.FunctionValue → Type 0
-EntriesOf [] [] = Unit {0}
-EntriesOf [] (entry ∷ entries) = ⊥
-EntriesOf (f ∷ fs) [] = ⊥
-EntriesOf (f ∷ fs) (entry ∷ entries) = EntryOf f entry × EntriesOf fs entries
+EntriesOf fs entries = OneForEach EntryOf fs entries
 
 -- the bytes are an image of the program that the text reads as
 pub record IsAssembled (text bytes : List ℕ) : Type 0 where

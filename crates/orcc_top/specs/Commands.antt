@@ -2,7 +2,7 @@
 use Rattle.std.specs.Prelude.{◌≢◌, ℕ, List, [], ◌∷◌, ◌++◌, map, codes, String, string_bytes}
 use Rattle.std.specs.declared.alloc.Global.{Global}
 use Rattle.orcc_top.specs.declared.command.Command.{Command}
-use Rattle.orcc_top.specs.declared.command.Command.TheVariants.{Asm, Check, Fmt, Run, Dis, Emulate}
+use Rattle.orcc_top.specs.declared.command.Command.TheVariants.{Asm, C, Check, Fmt, Run, Dis, Emulate, Obj}
 
 abbrev pub Word : Type 0
 Word = List ℕ
@@ -14,11 +14,13 @@ spelled words = map (λ word. string_bytes word) words
 -- the words that ask for a command
 abbrev pub words_of : Command → List Word
 words_of Asm = codes "asm" ∷ []
+words_of C = codes "c" ∷ []
 words_of Check = codes "check" ∷ []
 words_of Fmt = codes "fmt" ∷ []
 words_of Run = codes "run" ∷ []
 words_of Dis = codes "dis" ∷ []
 words_of Emulate = codes "emulate" ∷ []
+words_of Obj = codes "obj" ∷ []
 
 -- the words ask for no command
 abbrev pub IsWrongUsage : List Word → Type 0
@@ -26,4 +28,4 @@ IsWrongUsage words = (command : Command) → words ≢ words_of command
 
 -- the line that names the listed forms
 abbrev pub usage_line : List ℕ
-usage_line = codes "usage: orcc asm | c | check | fmt | run | emulate | dis | gen S" ++ 10 ∷ []
+usage_line = codes "usage: orcc asm | c | check | fmt | run | emulate | dis | gen S | obj" ++ 10 ∷ []

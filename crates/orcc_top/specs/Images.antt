@@ -1,9 +1,14 @@
--- Why bytes are not one image.
+-- The listing of an image, and why bytes are not one image.
 use Rattle.std.specs.Prelude.{List, ℕ, length, nat_lt, Ok, Err, Option, Some, None, if◌then◌else◌}
 use Rattle.orc_image.specs.declared.error.ImageError.{ImageError}
 use Rattle.orc_image.specs.declared.error.ImageError.TheVariants.{BadField}
-use Rattle.orc_image.specs.Spelling.{FunctionValue, image_bytes}
+use Rattle.orc_image.specs.Spelling.{FunctionValue, ImageValue, ImageOf, image_bytes}
 use Rattle.orc_image.specs.Fields.{Field, image_at}
+use Rattle.orc_image.specs.Listing.{IsListing}
+
+-- the text is the listing of the image that the bytes are
+abbrev pub ListsImage : List ℕ → List ℕ → Type 0
+ListsImage bytes text = (image : ImageValue) × ImageOf bytes image × IsListing image text
 
 -- bytes behind an image of this length are a field that is not allowed
 abbrev pub trailing : ℕ → List ℕ → Option ImageError

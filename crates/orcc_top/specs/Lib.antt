@@ -1,6 +1,7 @@
 pub mod Answer
 pub mod Assembly
 pub mod Commands
+pub mod Each
 pub mod Emulation
 pub mod Execution
 pub mod Figures
@@ -8,8 +9,10 @@ pub mod Images
 pub mod Inputs
 pub mod Jobs
 pub mod Mapped
+pub mod Objects
 pub mod Placement
 pub mod Refusals
 pub mod Replies
 pub mod Runs
 pub mod Texts
+pub mod Translation

@@ -2,13 +2,15 @@
 use Rattle.std.specs.Prelude.{ℕ, List, [], ◌∷◌, ◌++◌, codes, decimal}
 use Rattle.orc_program.specs.declared.fault.Fault.{Fault}
 use Rattle.orc_program.specs.declared.fault.Fault.TheVariants as fault
+use Rattle.orc_elf.specs.declared.error.ElfError.{ElfError}
+use Rattle.orc_elf.specs.declared.error.ElfError.TheVariants as elf
 use Rattle.orc_image.specs.declared.error.ImageError.{ImageError}
 use Rattle.orc_image.specs.declared.error.ImageError.TheVariants.{BadMagic, BadVersion, Short, BadField, Memory}
 use Rattle.orc_job.specs.declared.error.JobError.{JobError}
 use Rattle.orc_job.specs.declared.error.JobError.TheVariants as job
 use Rattle.orc_job.specs.Fields.{name_of}
 use Rattle.orcc_top.specs.declared.refusal.Refusal.{Refusal}
-use Rattle.orcc_top.specs.declared.refusal.Refusal.TheVariants.{TooLong, Text, Pressure, Image, Job}
+use Rattle.orcc_top.specs.declared.refusal.Refusal.TheVariants.{TooLong, Text, Pressure, Image, Object, Job}
 
 -- a fault's name
 abbrev pub fault_text : Fault → List ℕ
@@ -41,6 +43,12 @@ image_text (Short need) = codes "Short " ++ decimal need
 image_text (BadField at) = codes "BadField " ++ decimal at
 image_text Memory = codes "Memory"
 
+-- what an object is refused for; want of memory is no such cause
+abbrev pub object_text : ElfError → List ℕ
+object_text (elf.Short need) = codes "Short " ++ decimal need
+object_text (elf.BadField at) = codes "BadField " ++ decimal at
+object_text elf.Memory = codes "Memory"
+
 -- what a job is refused for; want of memory is no such cause
 abbrev pub job_text : JobError → List ℕ
 job_text job.NotJson = codes "NotJson"
@@ -55,6 +63,7 @@ text_of TooLong = codes "TooLong"
 text_of (Text line f) = codes "line " ++ decimal line ++ codes ": " ++ fault_text f
 text_of (Pressure line need) = codes "line " ++ (decimal line ++ (codes ": Pressure " ++ decimal need))
 text_of (Image e) = codes "image: " ++ image_text e
+text_of (Object e) = codes "elf: " ++ object_text e
 text_of (Job e) = codes "job: " ++ job_text e
 
 -- the line, with its end

@@ -12,8 +12,10 @@ use crate::emulation::emulate_job;
 use crate::execution::run_job;
 use crate::formatting::format_text;
 use crate::listing::disassemble;
+use crate::objects::assemble_object;
 use crate::refusal::{Refusal, line_of};
 use crate::reply::Reply;
+use crate::translating::translate_text;
 use orc_io::{Source, TakeFault, read_all};
 use std::alloc::{AllocError, Global};
 
@@ -43,11 +45,13 @@ fn reply_within(alloc: Global, command: Command, input: &[u8]) -> Result<Reply, 
 {
     match command {
         Command::Asm => assemble_text(alloc, input),
+        Command::C => translate_text(alloc, input),
         Command::Check => check_text(alloc, input),
         Command::Fmt => format_text(alloc, input),
         Command::Run => run_job(alloc, input),
         Command::Dis => disassemble(alloc, input),
         Command::Emulate => emulate_job(alloc, input),
+        Command::Obj => assemble_object(alloc, input),
     }
 }
 

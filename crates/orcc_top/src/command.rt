@@ -7,22 +7,32 @@ ghost use Rattle.orcc_top.specs.Commands.{spelled, words_of, IsWrongUsage};
 pub enum Command {
     /// `asm`: reads a text and writes an image.
     Asm,
+    /// `c`: reads a text and writes C of the same meaning.
+    C,
     /// `check`: reads a text and writes the figures of its functions.
     Check,
     /// `fmt`: reads a text and writes its canonical text.
     Fmt,
     /// `run`: reads an image and a job, and writes the result of running the code on the job.
     Run,
-    /// `dis`: reads an image and writes its listing.
+    /// `dis`: reads an image or an object and writes its listing.
     Dis,
     /// `emulate`: reads a text and a job, and writes the result of the job's emulation.
     Emulate,
+    /// `obj`: reads a text and writes an object.
+    Obj,
 }
 
 fn is_asm(word: &str) -> bool
     ensures { IsTrue result ↔ (word.now ≡ codes "asm") }
 {
     word == "asm"
+}
+
+fn is_c(word: &str) -> bool
+    ensures { IsTrue result ↔ (word.now ≡ codes "c") }
+{
+    word == "c"
 }
 
 fn is_check(word: &str) -> bool
@@ -55,6 +65,12 @@ fn is_emulate(word: &str) -> bool
     word == "emulate"
 }
 
+fn is_obj(word: &str) -> bool
+    ensures { IsTrue result ↔ (word.now ≡ codes "obj") }
+{
+    word == "obj"
+}
+
 /// The command that the words ask for, if they are one of the listed forms.
 pub fn command_of(words: &[String]) -> Option<Command>
     ensures asked { IfSome result (λ command. spelled words.now ≡ words_of command) }
@@ -62,11 +78,13 @@ pub fn command_of(words: &[String]) -> Option<Command>
 {
     match words {
         [word] if is_asm(word.as_str()) => Some(Command::Asm),
+        [word] if is_c(word.as_str()) => Some(Command::C),
         [word] if is_check(word.as_str()) => Some(Command::Check),
         [word] if is_fmt(word.as_str()) => Some(Command::Fmt),
         [word] if is_run(word.as_str()) => Some(Command::Run),
         [word] if is_dis(word.as_str()) => Some(Command::Dis),
         [word] if is_emulate(word.as_str()) => Some(Command::Emulate),
+        [word] if is_obj(word.as_str()) => Some(Command::Obj),
         _ => None,
     }
 }
@@ -80,7 +98,7 @@ impl Command {
         ensures readable { result ≤ 67108864 }
     {
         match self {
-            Command::Asm | Command::Check | Command::Fmt => 1_048_576,
+            Command::Asm | Command::C | Command::Check | Command::Fmt | Command::Obj => 1_048_576,
             Command::Run | Command::Dis | Command::Emulate => 67_108_864,
         }
     }

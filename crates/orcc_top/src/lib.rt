@@ -11,12 +11,14 @@ mod emulation;
 mod execution;
 mod formatting;
 mod listing;
+mod objects;
 mod placing;
 mod refusal;
 mod reply;
 mod separating;
 mod status;
 mod top;
+mod translating;
 mod writing;
 
 pub use orc_parts::play_parts;

@@ -2,6 +2,7 @@
 ghost use Rattle.std.specs.Prelude.{◌≡◌, IfOk, Some, string_bytes};
 ghost use Rattle.orcc_top.specs.Refusals.{fault_text, text_of, line_of};
 
+use orc_elf::ElfError;
 use orc_image::ImageError;
 use orc_job::JobError;
 use orc_program::Fault;
@@ -19,6 +20,8 @@ pub enum Refusal {
     Pressure { line: u32, need: u32 },
     /// The input is not one image: its first field that is not all there or not allowed.
     Image(ImageError),
+    /// The input begins as an object and is none: its first field that is not all there or not allowed.
+    Object(ElfError),
     /// The job is refused, or the function that it calls isn't there or has other counts.
     Job(JobError),
 }
@@ -64,6 +67,9 @@ impl fmt::Display for Refusal {
             Refusal::Image(ImageError::Short { need }) => write!(f, "image: Short {need}"),
             Refusal::Image(ImageError::BadField { at }) => write!(f, "image: BadField {at}"),
             Refusal::Image(ImageError::Memory) => write!(f, "image: Memory"),
+            Refusal::Object(ElfError::Short { need }) => write!(f, "elf: Short {need}"),
+            Refusal::Object(ElfError::BadField { at }) => write!(f, "elf: BadField {at}"),
+            Refusal::Object(ElfError::Memory) => write!(f, "elf: Memory"),
             Refusal::Job(JobError::NotJson) => write!(f, "job: NotJson"),
             Refusal::Job(JobError::Missing { field }) => write!(f, "job: Missing {}", field.name()),
             Refusal::Job(JobError::BadField { field }) => {

@@ -1,6 +1,11 @@
 use crate::{Status, orcc};
+use c_read::read_c;
+use orc_elf::{ElfCode, ElfEntry, write_elf};
 use orc_io::{Buffer, Piece};
+use orc_program::Name;
+use sqlite_items::Items;
 use std::alloc::{AllocError, Global};
+use std::process::Abort;
 
 /// The image of a function `f` without arrays, whose code is `ret`, and a job behind it.
 const RETURNS: &[u8] =
@@ -47,7 +52,7 @@ fn run_with(
         calls: 0,
         faults: 0,
     };
-    let mut output = Buffer::with_room(alloc, 3000, 7, failing(alloc, put)?)?;
+    let mut output = Buffer::with_room(alloc, 60_000, 7, failing(alloc, put)?)?;
     let mut notes = Buffer::with_room(alloc, 100, 7, Vec::new(alloc))?;
     let status = orcc(alloc, given.as_slice(), &mut input, &mut output, &mut notes);
     Ok(Outcome {
@@ -65,8 +70,9 @@ fn run(alloc: Global, words: &[&str], bytes: &[u8]) -> Result<Outcome, AllocErro
 #[test]
 fn each_command_answers(rt: HostRuntime) -> Result<(), AllocError> {
     // The words, the input, and the status with what is written.
-    let rows: [(&[&str], &[u8], Status, &[u8]); 8] = [
+    let rows: [(&[&str], &[u8], Status, &[u8]); 9] = [
         (&["asm"], b"# nothing", Status::Done, b"ORCI\x01\x00"),
+        (&["c"], b"# nothing", Status::Done, b"#include <stdint.h>\n"),
         (
             &["check"],
             b".function volume\n.dest 2 d1 gint16\n.param 2 p1\n.temp 4 t1\nmulswl t1, d1, p1\nshrsl t1, t1, 11\nconvlw d1, t1\n",
@@ -102,7 +108,7 @@ fn each_command_answers(rt: HostRuntime) -> Result<(), AllocError> {
             &[],
             b"",
             Status::Usage,
-            b"usage: orcc asm | c | check | fmt | run | emulate | dis | gen S\n",
+            b"usage: orcc asm | c | check | fmt | run | emulate | dis | gen S | obj\n",
         ),
     ];
     for (words, input, status, said) in rows {
@@ -114,6 +120,62 @@ fn each_command_answers(rt: HostRuntime) -> Result<(), AllocError> {
             assert!(rt; ran.notes.as_slice() == said, "{said:?}");
         }
     }
+    Ok(())
+}
+
+/// The object of a function `f` whose code is `ret`.
+fn returning(rt: &impl Abort, alloc: Global) -> Result<Vec<u8>, AllocError> {
+    let mut object = ElfCode::new(alloc);
+    let name = Name::new(b"f").expect(rt, "a name");
+    let code = Items::from_slice(alloc, &[0xc3])?;
+    object.push(ElfEntry { name, code })?;
+    write_elf(alloc, &object)
+}
+
+#[test]
+fn an_object_is_listed_or_refused(rt: HostRuntime) -> Result<(), AllocError> {
+    let alloc = rt.alloc();
+    // How many bytes are given, the byte at 18, and the status with what is written.
+    let rows: [(usize, u8, Status, &str); 3] = [
+        (480, 62, Status::Done, "function f\n00000000 c3 ret\n"),
+        (479, 62, Status::Refused, "elf: Short 480\n"),
+        (480, 3, Status::Refused, "elf: BadField 18\n"),
+    ];
+    for (length, machine, status, said) in rows {
+        let mut object = returning(&rt, alloc)?;
+        assert!(rt; 18 < object.len() && length <= object.len());
+        object[18] = machine;
+        let ran = run(alloc, &["dis"], &object[..length])?;
+        assert_eq!(rt; ran.status, status, "{said}");
+        if status == Status::Done {
+            assert!(rt; ran.output.as_slice() == said.as_bytes(), "{said}");
+        } else {
+            assert!(rt; ran.notes.as_slice() == said.as_bytes(), "{said}");
+        }
+    }
+    Ok(())
+}
+
+#[test]
+fn an_object_has_the_code_of_the_image(rt: HostRuntime) -> Result<(), AllocError> {
+    let alloc = rt.alloc();
+    let text = b".function f\n.dest 1 d1\naddb d1, d1, 1\n";
+    let image = run(alloc, &["asm"], text)?;
+    let object = run(alloc, &["obj"], text)?;
+    assert_eq!(rt; object.status, Status::Done);
+    assert!(rt; object.output.as_slice().starts_with(b"\x7fELF\x02\x01\x01"));
+    // An image of `f` has 17 bytes before its code. An object has the header, the code up to a multiple of 8, two symbols, the names
+    // in 36 bytes, zeros up to a multiple of 8, and five section headers.
+    let size = image.output.len();
+    assert!(rt; 17 < size && size < 3000);
+    assert_eq!(rt;
+        object.output.len(),
+        64 + (size - 17).next_multiple_of(8) + 48 + 40 + 320
+    );
+    let lines = run(alloc, &["dis"], image.output.as_slice())?;
+    let same = run(alloc, &["dis"], object.output.as_slice())?;
+    assert_eq!(rt; same.status, Status::Done);
+    assert!(rt; lines.output.as_slice() == same.output.as_slice());
     Ok(())
 }
 
@@ -168,6 +230,10 @@ fn ten_values_have_places(rt: HostRuntime) -> Result<(), AllocError> {
         let ran = run(alloc, &["asm"], text.as_slice())?;
         assert_eq!(rt; ran.status, status);
         assert!(rt; ran.notes.as_slice() == notes.as_bytes());
+        // C has no places.
+        let translated = run(alloc, &["c"], text.as_slice())?;
+        assert_eq!(rt; translated.status, Status::Done);
+        assert!(rt; read_c(alloc, translated.output.as_slice()).is_ok());
     }
     Ok(())
 }

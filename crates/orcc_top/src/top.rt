@@ -13,36 +13,40 @@ use crate::writing::write;
 use orc_io::{Sink, Source};
 use std::alloc::Global;
 
-const USAGE: &str = "usage: orcc asm | c | check | fmt | run | emulate | dis | gen S\n";
+const USAGE: &str = "usage: orcc asm | c | check | fmt | run | emulate | dis | gen S | obj\n";
 
 /// Does what the words after the program's name ask for, and says how it ended.
 ///
 /// `asm` reads a text of at most 1,048,576 bytes and writes an image. It has an entry for each
-/// function of the text, in order, with the function's name and counts and with code of its own:
-/// in every good call that code returns within the stated steps, and leaves memory and sums as the
+/// function of the text, in order, with the function's name and counts and with code of its own: in
+/// every good call that code returns within the stated steps, and leaves memory and sums as the
 /// function means. There are ten places for values of temps: a text without a fault is refused
-/// exactly where one of its instructions needs more values at once. `check` reads such a text and
-/// writes for each function, in order, a line `NAME need N lanes L cost E`, with the largest number
-/// of values of temps that an instruction needs at once. `fmt` reads such a text and writes its
-/// canonical text. `dis` reads an image of at most 67,108,864 bytes and writes its listing. `run`
-/// reads at most as many bytes, which are an image and a job behind it, places the code of the
-/// job's function and the job at fixed addresses, and writes the result of the run, which may say
-/// trap or budget. `emulate` reads at most 67,108,864 bytes, which are a text, a line that is
-/// exactly `%%`, and a job, and writes the result of the job's emulation, which may say unmapped.
-/// Without such a line all is the text, and the job is empty. All output is built before the first
-/// byte is put.
+/// exactly where one of its instructions needs more values at once. `obj` is as `asm`, and writes
+/// an ELF64 object, which has each function's name and code. `c` reads such a text and writes C:
+/// for each function, in order, a function with its name and counts and with its meaning, however
+/// many values it needs. `check` reads such a text and writes for each function, in order, a line
+/// `NAME need N lanes L cost E`, with the largest number of values of temps that an instruction
+/// needs at once. `fmt` reads such a text and writes its canonical text. `dis` reads an image or an
+/// object of at most 67,108,864 bytes and writes its listing; an input that begins as an ELF file
+/// is an object. `run` reads at most as many bytes, which are an image and a job behind it, places
+/// the code of the job's function and the job at fixed addresses, and writes the result of the run,
+/// which may say trap or budget. `emulate` reads at most 67,108,864 bytes, which are a text, a line
+/// that is exactly `%%`, and a job, and writes the result of the job's emulation, which may say
+/// unmapped. Without such a line all is the text, and the job is empty. All output is built before
+/// the first byte is put.
 ///
 /// # Errors
 ///
 /// [`Status`] has each way to end. Refused comes with one line on the notes: `TooLong` where one
 /// byte more than the limit was taken; for a text `line N: ` and its first fault, or else, with
-/// `asm`, `line N: Pressure K` for the first instruction that needs more values of temps at once
-/// than there are places, in the first function that has one, where K is how many it needs; for an
-/// image `image: ` and its first field that is not all there or not allowed, which bytes behind the
-/// image are too; for a job `job: ` and its first fault, of which the last are a function that
-/// isn't there and counts of arrays or parameters that are not the function's. A text's fault
-/// stands before those of the job behind it. Usage comes exactly where the words are no listed
-/// form; nothing is read then. Where such a line cannot be written in whole the end is WriteFault.
+/// `asm` or `obj`, `line N: Pressure K` for the first instruction that needs more values of temps
+/// at once than there are places, in the first function that has one, where K is how many it needs;
+/// for an image `image: ` and its first field that is not all there or not allowed, which bytes
+/// behind the image are too; for an object `elf: ` and its first such field; for a job `job: ` and
+/// its first fault, of which the last are a function that isn't there and counts of arrays or
+/// parameters that are not the function's. A text's fault stands before those of the job behind it.
+/// Usage comes exactly where the words are no listed form; nothing is read then. Where such a line
+/// cannot be written in whole the end is WriteFault.
 pub fn orcc<S: Source, K: Sink, N: Sink>(
     alloc: Global,
     words: &[String],
@@ -96,8 +100,8 @@ pub fn orcc<S: Source, K: Sink, N: Sink>(
 
     // Where the words ask for a command and no count rose, the run ends as its input asks, or for
     // want of memory: Refused never comes for an input that is accepted, nor Done for another.
-    // `asm` accepts each text within the limit that has no fault and whose instructions need no
-    // more values at once than there are places.
+    // `asm` and `obj` accept each text within the limit that has no fault and whose instructions
+    // need no more values at once than there are places; `c` accepts each that has no fault.
     ensures complete { IsAsked (spelled words.now)
         → (¬ Rose (S.faults input.old) (S.faults input.new))
         → (¬ Rose (K.faults output.old) (K.faults output.new))

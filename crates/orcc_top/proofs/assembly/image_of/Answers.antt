@@ -1,7 +1,9 @@
 use Rattle.std.proofs.Common.{◌≡◌, ◌++◌, ◌∷◌, [], arith}
 use Rattle.std.proofs.lemmas.Grind.{common_steps}
 use Rattle.std.proofs.lemmas.Result.{err_from_is_err_and}
-use Rattle.orcc_top.proofs.Entries.{entry_new, entry_room, entered_more, tells_next}
+use Rattle.orcc_top.specs.Assembly.{EntryOf}
+use Rattle.orcc_top.proofs.Each.{each_further, next_room, next_new}
+use Rattle.orcc_top.proofs.Entries.{entry_named, placed_further, tells_next}
 use Rattle.orcc_top.proofs.assembly.image_of.Goals as goal
 
 pub returns-in_err-entry-clause-pressure : goal.returns-in_err-entry-clause-pressure
@@ -10,13 +12,15 @@ returns-in_err-entry-clause-pressure c =
     rw (p.1, p.2) (tells_next c.args.functions.now c.loop-f.f-index c.f-item.result c.in_err-entry.field-0.0 c.loop-f-test.true c.f-item.is c.loop-f.invariant.placed c.in_err-entry.ensures.refusal)
 
 pub push-requires-clause-room : goal.push-requires-clause-room
-push-requires-clause-room c = entry_room c.args.functions.now _ c.loop-f.f-index c.loop-f-test.true c.requires.few c.loop-f.invariant.entries
+push-requires-clause-room c = next_room EntryOf c.args.functions.now _ c.loop-f.f-index c.loop-f-test.true c.requires.few c.loop-f.invariant.entries
 
 pub push-requires-clause-new : goal.push-requires-clause-new
-push-requires-clause-new c = entry_new c.args.functions.now _ c.loop-f.f-index c.f-item.result c.in_ok-entry.entry c.loop-f-test.true c.f-item.is c.requires.distinct c.loop-f.invariant.entries c.in_ok-entry.ensures.entry
+push-requires-clause-new c = next_new EntryOf _ _ entry_named c.args.functions.now _ c.loop-f.f-index c.f-item.result c.in_ok-entry.entry c.loop-f-test.true c.f-item.is c.requires.distinct c.loop-f.invariant.entries c.in_ok-entry.ensures.entry
 
 pub loop-f-preserved : goal.loop-f-preserved
 loop-f-preserved c =
     let grown : c.push.new.self.functions ≡ c.loop-f.image.functions ++ c.in_ok-entry.entry ∷ [] = grind (arith, common_steps) in
-    let more = entered_more c.args.functions.now c.loop-f.f-index _ _ c.f-item.result c.in_ok-entry.entry c.loop-f-test.true c.f-item.is grown c.loop-f.invariant.entries c.loop-f.invariant.placed c.in_ok-entry.ensures.entry c.in_ok-entry.ensures.placed in
-    record { entries = more.entries; placed = more.placed }
+    record {
+      entries = each_further EntryOf c.args.functions.now c.loop-f.f-index _ _ c.f-item.result c.in_ok-entry.entry c.loop-f-test.true c.f-item.is grown c.loop-f.invariant.entries c.in_ok-entry.ensures.entry;
+      placed = placed_further c.args.functions.now c.loop-f.f-index c.f-item.result c.loop-f-test.true c.f-item.is c.loop-f.invariant.placed c.in_ok-entry.ensures.placed;
+    }

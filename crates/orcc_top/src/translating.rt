@@ -1,0 +1,51 @@
+//! The C of a text.
+ghost use Rattle.std.specs.Prelude.{◌≤◌, length, IfOk};
+ghost use Rattle.orcc_top.specs.Each.{OneForEach};
+ghost use Rattle.orcc_top.specs.Replies.{Replies};
+ghost use Rattle.orcc_top.specs.Translation.{MeansAs};
+
+use crate::command::Command;
+use crate::refusal::{Refusal, line_of};
+use crate::reply::Reply;
+use c_emit::{emit, print};
+use c_run::{CFunction, CFunctions, CTree};
+use orc_program::Function;
+use orc_text::{TextError, read};
+use std::alloc::{AllocError, Global};
+
+/// A function's function of C.
+fn function_of(alloc: Global, f: &Function) -> Result<CFunction, AllocError>
+    ensures { IfOk result (λ c. MeansAs f.now c) }
+{
+    emit(alloc, f)
+}
+
+/// The functions of C of a program's functions.
+fn functions_of(alloc: Global, functions: &[Function]) -> Result<CFunctions, AllocError>
+    ensures { IfOk result (λ found. OneForEach MeansAs functions.now found) }
+{
+    let mut found = CFunctions::new(alloc);
+    for f in functions {
+        let c = function_of(alloc, f)?;
+        found.push(c)?;
+    }
+    Ok(found)
+}
+
+/// What `c` answers to a text.
+pub fn translate_text(alloc: Global, text: &[u8]) -> Result<Reply, AllocError>
+    requires { length text.now ≤ 1048576 }
+    ensures { IfOk result (λ reply. Replies Command.C text.now reply) }
+{
+    match read(alloc, text) {
+        Ok(program) => {
+            let functions = functions_of(alloc, program.functions.as_slice())?;
+            Ok(Reply::Output(print(alloc, &CTree { functions })?))
+        }
+        Err(TextError::Fault { line, fault }) => {
+            let refusal = Refusal::Text { line, fault };
+            Ok(Reply::Refusal(line_of(alloc, refusal)?))
+        }
+        Err(TextError::Memory) => Err(AllocError),
+    }
+}
