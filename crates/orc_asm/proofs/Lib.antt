@@ -27,7 +27,6 @@ pub mod Vectored
 pub mod Several
 pub mod Sizes
 pub mod Pushes
-pub mod Loop
 pub mod Agree
 pub mod RowLines
 pub mod RowsEmulated

@@ -66,7 +66,7 @@ fn objects_read_back(rt: HostRuntime) -> Result<(), Fail> {
     assert_eq!(rt; e.len(), functions.len());
     for (found, (name, size)) in e.entries.as_slice().iter().zip(functions) {
         assert_eq!(rt; found.name_bytes(), name.as_bytes());
-        assert_eq!(rt; found.code_bytes().len(), *size);
+        assert_eq!(rt; found.code_bytes().len(), size);
     }
     Ok(())
 }

@@ -337,10 +337,22 @@ fn code_does_what_its_text_means(rt: HostRuntime) -> Result<(), AllocError> {
 
 /// Functions that add a source's elements to a dest's, by the size of an element.
 const ADDERS: [(usize, &str); 4] = [
-    (1, ".function f\n.dest 1 d1\n.source 1 s1\naddb d1, d1, s1\n"),
-    (2, ".function f\n.dest 2 d1\n.source 2 s1\naddw d1, d1, s1\n"),
-    (4, ".function f\n.dest 4 d1\n.source 4 s1\naddl d1, d1, s1\n"),
-    (8, ".function f\n.dest 8 d1\n.source 8 s1\naddq d1, d1, s1\n"),
+    (
+        1,
+        ".function f\n.dest 1 d1\n.source 1 s1\naddb d1, d1, s1\n",
+    ),
+    (
+        2,
+        ".function f\n.dest 2 d1\n.source 2 s1\naddw d1, d1, s1\n",
+    ),
+    (
+        4,
+        ".function f\n.dest 4 d1\n.source 4 s1\naddl d1, d1, s1\n",
+    ),
+    (
+        8,
+        ".function f\n.dest 8 d1\n.source 8 s1\naddq d1, d1, s1\n",
+    ),
 ];
 
 /// Counts of elements, less and more than do a row's head, several turns and a tail.
@@ -359,39 +371,65 @@ const BASES: [&str; 16] = [
     "4108", "4109", "4110", "4111",
 ];
 
-/// Appends so many bytes in hexadecimal.
-fn push_bytes(job: &mut Vec<u8>, count: usize) -> Result<(), AllocError> {
-    let digits = b"0123456789abcdef";
-    for i in 0..count {
-        job.push(digits[i % 16])?;
-        job.push(digits[i / 3 % 16])?;
+/// The bytes of an array: those of a dest before a run, those of a source, and their sums.
+#[derive(Clone, Copy)]
+enum Row {
+    Dest,
+    Source,
+    Sums,
+}
+
+/// Appends the bytes of so many elements of a size in hexadecimal.
+fn push_row(text: &mut Vec<u8>, row: Row, count: usize, size: usize) -> Result<(), AllocError> {
+    let mut number = 0u8;
+    for _ in 0..count {
+        for _ in 0..size {
+            let low = match row {
+                Row::Dest => number % 8,
+                Row::Source => number / 8 % 8,
+                Row::Sums => number % 8 + number / 8 % 8,
+            };
+            text.push(b'0')?;
+            text.push(b"0123456789abcdef"[low as usize])?;
+            number = number.wrapping_add(1);
+        }
     }
     Ok(())
 }
 
-/// A job of elements of a dest from a base on and of a source, where the arrays' bytes alone are mapped.
-fn adding(alloc: Global, size: usize, count: (usize, &str), base: &str) -> Result<Vec<u8>, AllocError> {
-    let mut job = Vec::from_slice(alloc, b"{\"function\":\"f\",\"n\":")?;
-    job.extend_from_slice(count.1.as_bytes())?;
-    job.extend_from_slice(b",\"m\":1,\"arrays\":[{\"base\":")?;
-    job.extend_from_slice(base.as_bytes())?;
-    job.extend_from_slice(b",\"stride\":0},{\"base\":8195,\"stride\":0}],\"params\":[],\"memory\":[{\"at\":")?;
-    job.extend_from_slice(base.as_bytes())?;
-    job.extend_from_slice(b",\"bytes\":\"")?;
-    push_bytes(&mut job, count.0 * size)?;
-    job.extend_from_slice(b"\"},{\"at\":8195,\"bytes\":\"")?;
-    push_bytes(&mut job, count.0 * size)?;
-    job.extend_from_slice(b"\"}],\"budget\":100000}")?;
-    Ok(job)
+/// Appends a job of elements of a dest from a base on and of a source, where the arrays' bytes alone are mapped.
+fn push_job(
+    text: &mut Vec<u8>,
+    size: usize,
+    count: (usize, &str),
+    base: &str,
+) -> Result<(), AllocError> {
+    text.extend_from_slice(b"{\"function\":\"f\",\"n\":")?;
+    text.extend_from_slice(count.1.as_bytes())?;
+    text.extend_from_slice(b",\"m\":1,\"arrays\":[{\"base\":")?;
+    text.extend_from_slice(base.as_bytes())?;
+    text.extend_from_slice(
+        b",\"stride\":0},{\"base\":8195,\"stride\":0}],\"params\":[],\"memory\":[{\"at\":",
+    )?;
+    text.extend_from_slice(base.as_bytes())?;
+    text.extend_from_slice(b",\"bytes\":\"")?;
+    push_row(text, Row::Dest, count.0, size)?;
+    text.extend_from_slice(b"\"},{\"at\":8195,\"bytes\":\"")?;
+    push_row(text, Row::Source, count.0, size)?;
+    text.extend_from_slice(b"\"}],\"budget\":100000}")?;
+    Ok(())
 }
 
-/// What follows a result's first line.
-fn behind_end(result: &[u8]) -> &[u8] {
-    let mut at = 0;
-    while at < result.len() && result[at] != b'\n' {
-        at += 1;
-    }
-    &result[at..]
+/// Appends what a result of such a job says of memory.
+fn push_sums(text: &mut Vec<u8>, size: usize, count: usize, base: &str) -> Result<(), AllocError> {
+    text.extend_from_slice(b"\nmem ")?;
+    text.extend_from_slice(base.as_bytes())?;
+    text.push(b' ')?;
+    push_row(text, Row::Sums, count, size)?;
+    text.extend_from_slice(b"\nmem 8195 ")?;
+    push_row(text, Row::Source, count, size)?;
+    text.push(b'\n')?;
+    Ok(())
 }
 
 #[test]
@@ -401,16 +439,19 @@ fn rows_are_done_from_every_base(rt: HostRuntime) -> Result<(), AllocError> {
         let image = run(alloc, &["asm"], text.as_bytes())?;
         for count in COUNTS {
             for base in BASES {
-                let job = adding(alloc, size, count, base)?;
                 let mut input = Vec::from_slice(alloc, image.output.as_slice())?;
-                input.extend_from_slice(job.as_slice())?;
+                push_job(&mut input, size, count, base)?;
                 let ran = run(alloc, &["run"], input.as_slice())?;
-                let mut input = Vec::from_slice(alloc, text.as_bytes())?;
-                input.extend_from_slice(b"%%\n")?;
-                input.extend_from_slice(job.as_slice())?;
-                let meant = run(alloc, &["emulate"], input.as_slice())?;
-                assert!(rt; ran.output.as_slice().starts_with(b"end returned "), "{size} {base}");
-                assert!(rt; behind_end(ran.output.as_slice()) == behind_end(meant.output.as_slice()), "{size} {base}");
+                let mut sums = Vec::new(alloc);
+                push_sums(&mut sums, size, count.0, base)?;
+                assert!(rt;
+                    ran.output.as_slice().starts_with(b"end returned "),
+                    "{size} {base}"
+                );
+                assert!(rt;
+                    ran.output.as_slice().ends_with(sums.as_slice()),
+                    "{size} {base}"
+                );
             }
         }
     }
