@@ -65,20 +65,11 @@ not_le m n h = grind (arith, nat_tests, h)
 
 -- ---- names
 
-pub function_name : (said : Said) (ws : List Word) → directive_fault said ws (Some directive.Function) ≡ None → is_name (word ws 1) ≡ true
-function_name said ws h = not_false (is_name (word ws 1)) (check_none (not (is_name (word ws 1))) fault.BadName (passed said directive.Function ws h).by_word)
-
 pub function_new : (said : Said) (ws : List Word) → directive_fault said ws (Some directive.Function) ≡ None → list_any (bytes_eq (word ws 1)) (map (λ (f : FunctionValue). f.name) (functions_of said)) ≡ false
 function_new said ws h = (passed said directive.Function ws h).new
 
 pub function_room : (said : Said) (ws : List Word) → directive_fault said ws (Some directive.Function) ≡ None → length (functions_of said) < most_functions
 function_room said ws h = not_le most_functions (length (functions_of said)) (passed said directive.Function ws h).room
-
-pub init_name : (said : Said) (ws : List Word) → directive_fault said ws (Some directive.Init) ≡ None → is_name (word ws 1) ≡ true
-init_name said ws h = not_false (is_name (word ws 1)) (check_none (not (is_name (word ws 1))) fault.BadName (passed said directive.Init ws h).by_word)
-
-pub backup_name : (said : Said) (ws : List Word) → directive_fault said ws (Some directive.Backup) ≡ None → is_name (word ws 1) ≡ true
-backup_name said ws h = not_false (is_name (word ws 1)) (check_none (not (is_name (word ws 1))) fault.BadName (passed said directive.Backup ws h).by_word)
 
 -- ---- counts
 
@@ -187,9 +178,6 @@ var_fine said kind.Dest ws h fine =
 var_fine said kind.Accumulator ws h fine = let v = fine_variable said kind.Accumulator ws h in rw (v.size, v.name, drop_fine 3 ws fine) refl
 var_fine said kind.Param ws h fine = let v = fine_variable said kind.Param ws h in rw (v.size, v.name, drop_fine 3 ws fine) refl
 var_fine said kind.Temp ws h fine = let v = fine_variable said kind.Temp ws h in rw (v.size, v.name, drop_fine 3 ws fine) refl
-
-pub var_name : (said : Said) (k : VarKind) (ws : List Word) → directive_fault said ws (Some (directive.Variable k)) ≡ None → is_name (word ws 2) ≡ true
-var_name said k ws h = (fine_variable said k ws h).name
 
 pub var_new : (said : Said) (k : VarKind) (ws : List Word) → directive_fault said ws (Some (directive.Variable k)) ≡ None → place_of (word ws 2) (vars_in said.current) ≡ None
 var_new said k ws h = not_some (place_of (word ws 2) (vars_in said.current)) (passed said (directive.Variable k) ws h).new

@@ -1,23 +1,22 @@
 -- What an instruction line without a fault has.
-use Rattle.std.proofs.Common.{◌≡◌, ◌⊎◌, ℕ, zero, suc, ◌+◌, ◌<◌, ◌≤◌, ◌^◌, ◌==◌, Bool, true, false, not, ◌&&◌, List, [], ◌∷◌, Option, Some, None, is_some, length, take, drop, codes, nat_lt, refl, sym, ap, ◌∙◌, subst, inl, inr, arith, true≢false}
+use Rattle.std.proofs.Common.{◌≡◌, ◌⊎◌, ℕ, zero, suc, ◌+◌, ◌<◌, ◌≤◌, ◌^◌, ◌==◌, Bool, true, false, not, ◌&&◌, List, [], ◌∷◌, Option, Some, None, is_some, length, take, drop, codes, nat_lt, refl, sym, ap, ◌∙◌, inl, inr, arith, true≢false}
 use Rattle.std.specs.List.{list_all}
 use Rattle.std.specs.Str.{bytes_eq}
 use Rattle.std.proofs.lemmas.Bool.{cases_Bool, lt-ltb}
 use Rattle.std.proofs.lemmas.Bool.Decides.{nat_tests}
 use Rattle.std.proofs.lemmas.List.{length-drop}
 use Rattle.orc_ops.specs.declared.opcode.Op.{Op}
-use Rattle.orc_ops.specs.declared.lookup.Found.TheVariants as found
 use Rattle.orc_ops.specs.Names.{find_op}
 use Rattle.orc_program.specs.declared.program.Var.{Var}
 use Rattle.orc_program.specs.declared.program.Insn.{Insn}
 use Rattle.orc_program.specs.declared.fault.Fault.TheVariants as fault
 use Rattle.orc_program.specs.Words.{Word, is_name}
-use Rattle.orc_program.specs.Program.{FunctionValue, place_from, place_of}
+use Rattle.orc_program.specs.Program.{place_from, place_of}
 use Rattle.orc_program.specs.Checks.{check, or_else, is_bad_prefix, is_too_many, result_fault, source_fault, insn_fault}
 use Rattle.orc_program.specs.Kept.{result_count, source_count, is_in_range, is_shaped, has_none}
 use Rattle.orc_program.proofs.Declared.{both_hold}
 use Rattle.orc_words.specs.Text.{word, looks_like_number, prefix_of}
-use Rattle.orc_text.specs.Said.{Said, operand_of, operands_of, var_operand, result_words, source_words, insn_of, behind_prefix, split_prefix, vars_in, insns_in}
+use Rattle.orc_text.specs.Said.{Said, operand_of, operands_of, var_operand, result_words, source_words, insn_of, behind_prefix, split_prefix}
 use Rattle.orc_text.specs.Faults.{operand_word_fault, result_words_fault, source_words_fault, opcode_fault, found_fault, insn_line_fault}
 use Rattle.orc_text.specs.Held.{is_prefix}
 use Rattle.orc_text.proofs.Typed.{AreFine, insn_typed}
@@ -100,9 +99,6 @@ fine_opcode vars earlier line op prefix ws h =
       sources = sources_fine vars earlier op prefix 0 (source_words op ws) d.0;
     }
 
-pub opcode_count : (vars : List Var) (earlier : List Insn) (line : ℕ) (op : Op) (prefix : ℕ) (ws : List Word) → opcode_fault vars earlier line op prefix ws ≡ None → (length ws == result_count op + source_count op) ≡ true
-opcode_count vars earlier line op prefix ws h = (fine_opcode vars earlier line op prefix ws h).count
-
 pub opcode_passes : (vars : List Var) (earlier : List Insn) (line : ℕ) (op : Op) (prefix : ℕ) (ws : List Word) → opcode_fault vars earlier line op prefix ws ≡ None → insn_fault vars earlier (insn_of vars line op prefix ws) ≡ None
 opcode_passes vars earlier line op prefix ws h =
     let fine = fine_opcode vars earlier line op prefix ws h in
@@ -156,12 +152,12 @@ prefixes w =
 pub prefix_fits : (ws : List Word) → is_prefix (split_prefix ws).0 ≡ true
 prefix_fits ws = behind_fits ws (prefix_of (word ws 0)) (prefixes (word ws 0))
 
-record FineLine (said : Said) (x : ℕ × List Word) : Type 0 where
-  there : is_some said.current ≡ true
-  some : has_none x.1 ≡ false
-  found : found_fault said x.0 (drop 1 x.1) (find_op (word x.1 0)) ≡ None
+pub record FineLine (said : Said) (x : ℕ × List Word) : Type 0 where
+  pub there : is_some said.current ≡ true
+  pub some : has_none x.1 ≡ false
+  pub found : found_fault said x.0 (drop 1 x.1) (find_op (word x.1 0)) ≡ None
 
-fine_line : (said : Said) (x : ℕ × List Word) → insn_line_fault said x ≡ None → FineLine said x
+pub fine_line : (said : Said) (x : ℕ × List Word) → insn_line_fault said x ≡ None → FineLine said x
 fine_line said x h =
     let last = or_else (found_fault said x.0 (drop 1 x.1) (find_op (word x.1 0))) None in
     let a = or_none (check (not (is_some said.current)) fault.NoFunction) (or_else (check (has_none x.1) fault.WrongWords) last) h in
@@ -172,14 +168,3 @@ fine_line said x h =
       some = check_none (has_none x.1) fault.WrongWords b.0;
       found = c.0;
     }
-
--- no prefix stands alone
-pub some_behind : (said : Said) (x : ℕ × List Word) → insn_line_fault said x ≡ None → x.1 ≡ [] → ⊥
-some_behind said x h e = true≢false (ap has_none (sym e) ∙ (fine_line said x h).some)
-
--- what is found passes
-pub found_passes : (said : Said) (f : FunctionValue) (op : Op) (prefix : ℕ) (name : Word) (ws rest : List Word) → insn_line_fault said (prefix, ws) ≡ None → ws ≡ name ∷ rest → said.current ≡ Some f → find_op name ≡ found.Yes op → opcode_fault f.vars f.insns (said.lines + 1) op prefix rest ≡ None
-found_passes said f op prefix name ws rest h cut here is =
-    let all : found_fault said prefix (drop 1 (name ∷ rest)) (find_op name) ≡ None = subst (λ (vs : List Word). found_fault said prefix (drop 1 vs) (find_op (word vs 0)) ≡ None) cut (fine_line said (prefix, ws) h).found in
-    let mine : opcode_fault (vars_in said.current) (insns_in said.current) (said.lines + 1) op prefix rest ≡ None = subst (λ x. found_fault said prefix rest x ≡ None) is all in
-    subst (λ (c : Option FunctionValue). opcode_fault (vars_in c) (insns_in c) (said.lines + 1) op prefix rest ≡ None) here mine

@@ -5,6 +5,7 @@ pub mod Operands
 pub mod Faultless
 pub mod Fitting
 pub mod Rest
+pub mod LineSaid
 pub mod Printed
 pub mod Named
 pub mod Spaced

@@ -1,16 +1,17 @@
 -- Operand words, one by one.
-use Rattle.std.proofs.Common.{◌≡◌, ℕ, zero, suc, ◌+◌, ◌-◌, ◌<◌, ◌≤◌, ◌==◌, true, List, ◌∷◌, Option, Some, None, length, take, drop, refl, arith, inl, inr}
+use Rattle.std.proofs.Common.{◌≡◌, ℕ, zero, suc, ◌+◌, ◌-◌, ◌<◌, ◌≤◌, ◌==◌, ◌++◌, true, List, [], ◌∷◌, Option, Some, None, length, take, drop, refl, sym, ap, ◌∙◌, arith, inl, inr}
 use Rattle.std.proofs.lemmas.Bool.{cases_Bool}
 use Rattle.std.proofs.lemmas.Bool.Decides.{nat_tests}
-use Rattle.std.proofs.lemmas.List.{take_all, length-drop}
+use Rattle.std.proofs.lemmas.List.{length-drop, append_assoc}
 use Rattle.orc_ops.specs.declared.opcode.Op.{Op}
 use Rattle.orc_program.specs.declared.program.Var.{Var}
 use Rattle.orc_program.specs.declared.program.Insn.{Insn}
+use Rattle.orc_program.specs.declared.program.Operand.{Operand}
 use Rattle.orc_program.specs.declared.fault.Fault.{Fault}
 use Rattle.orc_program.specs.Words.{Word}
 use Rattle.orc_program.specs.Checks.{or_else, result_fault, source_fault}
 use Rattle.orc_program.specs.Kept.{count_sizes}
-use Rattle.orc_text.specs.Said.{operand_of}
+use Rattle.orc_text.specs.Said.{operand_of, operands_of}
 use Rattle.orc_text.specs.Faults.{operand_word_fault, result_words_fault, source_words_fault}
 
 -- one more of the first words
@@ -33,10 +34,6 @@ count_few a b =
 pub same_number : (a b : ℕ) → (a == b) ≡ true → a ≡ b
 same_number a b h = grind (arith, nat_tests, h)
 
--- the words behind the results' are the sources'
-pub source_part : (ws : List Word) (results sources : ℕ) → (length ws == results + sources) ≡ true → take sources (drop results ws) ≡ drop results ws
-source_part ws results sources h = take_all sources (drop results ws) (omega (arith, length-drop results ws, same_number (length ws) (results + sources) h))
-
 pub few_sources : (ws : List Word) (results sources : ℕ) → (length ws == results + sources) ≡ true → sources ≤ 2 → length (drop results ws) ≤ 2
 few_sources ws results sources h few = omega (arith, length-drop results ws, same_number (length ws) (results + sources) h)
 
@@ -54,3 +51,11 @@ results_more vars op prefix position w ws = or_nothing (operand_word_fault vars 
 pub sources_more : (vars : List Var) (earlier : List Insn) (op : Op) (prefix position : ℕ) (w : Word) (ws : List Word) → source_words_fault vars earlier op prefix position (w ∷ ws)
     ≡ or_else (or_else (operand_word_fault vars w) (source_fault vars earlier op prefix position (operand_of vars w))) (source_words_fault vars earlier op prefix (position + 1) ws)
 sources_more vars earlier op prefix position w ws = or_nothing (operand_word_fault vars w) (source_fault vars earlier op prefix position (operand_of vars w)) (source_words_fault vars earlier op prefix (position + 1) ws)
+
+-- what one word stands for, and then the others
+pub put_more : (vars : List Var) (old pushed new : List Operand) (w : Word) (ws : List Word) (k : ℕ) → 0 < k → pushed ≡ old ++ operand_of vars w ∷ [] → new ≡ pushed ++ operands_of vars (take (k - 1) ws) → new ≡ old ++ operands_of vars (take k (w ∷ ws))
+put_more vars old pushed new w ws k some p n =
+    n
+    ∙ ap (λ os. os ++ operands_of vars (take (k - 1) ws)) p
+    ∙ append_assoc old (operand_of vars w ∷ []) (operands_of vars (take (k - 1) ws))
+    ∙ ap (λ vs. old ++ operands_of vars vs) (sym (take_next w ws k some))

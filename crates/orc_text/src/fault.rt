@@ -1,4 +1,4 @@
-//! The faults of directive lines.
+//! The conditions under which a directive line has a fault.
 
 ghost use Rattle.std.specs.Prelude.{◌≡◌, ◌&&◌, map, length, drop, is_some, nat_le};
 ghost use Rattle.std.specs.List.{list_any};
@@ -11,15 +11,14 @@ ghost use Rattle.orc_program.specs.Kept.{most_functions};
 ghost use Rattle.orc_text.specs.declared.directive.Directive.{Directive};
 ghost use Rattle.orc_words.specs.Text.{words};
 ghost use Rattle.orc_text.specs.Said.{functions_of, vars_in};
-ghost use Rattle.orc_text.specs.Faults.{stands_anywhere, is_wrong_variable, is_wrong_count, has_wrong_words, is_size_word, has_bad_number, word_by_word, has_n, has_m, has_backup, is_duplicate, is_full, known_fault, directive_fault};
+ghost use Rattle.orc_text.specs.Faults.{stands_anywhere, is_wrong_variable, is_wrong_count, has_wrong_words, has_n, has_m, has_backup, is_duplicate, is_full};
 ghost use Rattle.orc_text.specs.Held.{said_of, function_in, Holds};
 
 use crate::directive::Directive;
 use crate::state::{Current, State};
-use orc_program::{Fault, MOST_FUNCTIONS, VarKind, count_of, is_name, is_size_for, most_of};
+use orc_program::{Fault, MOST_FUNCTIONS, VarKind, count_of, most_of};
 use orc_words::{
-    after, ends_in_align, ends_in_count_word, has_bad_align, has_bad_count, has_exactly, has_fewer,
-    has_strange, is_number, is_same, size_of, word,
+    after, ends_in_align, ends_in_count_word, has_exactly, has_fewer, has_strange, is_same, word,
 };
 
 /// The fault, where the condition holds.
@@ -30,7 +29,7 @@ pub(crate) fn check(condition: bool, fault: Fault) -> Result<(), Fault>
 }
 
 /// Whether a directive needs no function before it.
-fn stands_anywhere(directive: Directive) -> bool
+pub(crate) fn stands_anywhere(directive: Directive) -> bool
     ensures { result ≡ stands_anywhere directive }
 {
     match directive {
@@ -81,7 +80,7 @@ fn is_wrong_count(line: &[u8]) -> bool
 }
 
 /// Whether a line has wrong words.
-fn has_wrong_words(directive: Directive, line: &[u8]) -> bool
+pub(crate) fn has_wrong_words(directive: Directive, line: &[u8]) -> bool
     ensures { result ≡ has_wrong_words directive (words line.now) }
 {
     match directive {
@@ -90,52 +89,6 @@ fn has_wrong_words(directive: Directive, line: &[u8]) -> bool
         Directive::CountN | Directive::CountM => is_wrong_count(line),
         Directive::Variable(kind) => is_wrong_variable(kind, line),
         Directive::Float => false,
-    }
-}
-
-/// Whether a word is a size of a variable of this kind.
-fn is_size_word(kind: VarKind, size: Option<u8>) -> bool
-    ensures { result ≡ is_size_word kind size }
-{
-    match size {
-        Some(size) => is_size_for(kind, size),
-        None => false,
-    }
-}
-
-/// Whether a number after a variable's name is none, or out of its range.
-fn has_bad_number(kind: VarKind, line: &[u8]) -> bool
-    ensures { result ≡ has_bad_number kind (words line.now) }
-{
-    match kind {
-        VarKind::Const => !is_number(word(line, 3)),
-        VarKind::Source | VarKind::Dest => has_bad_align(after(line, 3)),
-        VarKind::Accumulator | VarKind::Param | VarKind::Temp => false,
-    }
-}
-
-/// The first fault of a variable's words, from the left.
-fn check_variable(kind: VarKind, line: &[u8]) -> Result<(), Fault>
-    ensures { result_err result ≡ word_by_word (Directive.Variable kind) (words line.now) }
-{
-    check(!is_size_word(kind, size_of(word(line, 1))), Fault::BadSize)?;
-    check(!is_name(word(line, 2)), Fault::BadName)?;
-    check(has_bad_number(kind, line), Fault::BadNumber)
-}
-
-/// The first fault of a line's words, from the left.
-fn check_words(directive: Directive, line: &[u8]) -> Result<(), Fault>
-    ensures { result_err result ≡ word_by_word directive (words line.now) }
-{
-    match directive {
-        Directive::Function | Directive::Init | Directive::Backup => {
-            check(!is_name(word(line, 1)), Fault::BadName)
-        }
-        Directive::CountN | Directive::CountM => {
-            check(has_bad_count(after(line, 1)), Fault::BadNumber)
-        }
-        Directive::Variable(kind) => check_variable(kind, line),
-        Directive::Flags | Directive::Float => Ok(()),
     }
 }
 
@@ -200,7 +153,7 @@ fn has_variable(current: &Option<Current>, name: &[u8]) -> bool
 }
 
 /// Whether a line says what an earlier one did.
-fn is_duplicate(state: &State, directive: Directive, line: &[u8]) -> bool
+pub(crate) fn is_duplicate(state: &State, directive: Directive, line: &[u8]) -> bool
     requires { Holds state.now }
     ensures { result ≡ is_duplicate (said_of state.now) directive (words line.now) }
 {
@@ -226,7 +179,7 @@ fn count_in(current: &Option<Current>, kind: VarKind) -> usize
 }
 
 /// Whether a limit would be passed.
-fn is_full(state: &State, directive: Directive) -> bool
+pub(crate) fn is_full(state: &State, directive: Directive) -> bool
     ensures { result ≡ is_full (said_of state.now) directive }
 {
     match directive {
@@ -238,36 +191,5 @@ fn is_full(state: &State, directive: Directive) -> bool
         | Directive::CountM
         | Directive::Backup
         | Directive::Float => false,
-    }
-}
-
-/// The first fault of a line whose directive is known.
-pub(crate) fn check_known(state: &State, directive: Directive, line: &[u8]) -> Result<(), Fault>
-    requires { Holds state.now }
-    ensures { result_err result ≡ known_fault (said_of state.now) directive (words line.now) }
-{
-    check(
-        !stands_anywhere(directive) && state.current.is_none(),
-        Fault::NoFunction,
-    )?;
-    check(has_wrong_words(directive, line), Fault::WrongWords)?;
-    check_words(directive, line)?;
-    check(is_duplicate(state, directive, line), Fault::Duplicate)?;
-    check(is_full(state, directive), Fault::TooMany)
-}
-
-/// The first fault of a directive line.
-pub(crate) fn check_directive(
-    state: &State,
-    directive: Option<Directive>,
-    line: &[u8],
-) -> Result<(), Fault>
-    requires { Holds state.now }
-    ensures { result_err result ≡ directive_fault (said_of state.now) (words line.now) directive }
-{
-    match directive {
-        None => Err(Fault::UnknownDirective),
-        Some(Directive::Float) => Err(Fault::Unsupported),
-        Some(directive) => check_known(state, directive, line),
     }
 }

@@ -1,11 +1,13 @@
 //! Texts: what their lines say, and the first fault.
 #![tactic(auto)]
 
+mod adding;
 mod directive;
+mod directive_line;
 mod fault;
 mod instruction;
+mod line;
 mod reading;
-mod saying;
 mod showing;
 mod state;
 

@@ -9,15 +9,18 @@ ghost use Rattle.orc_text.specs.Faults.{line_fault};
 ghost use Rattle.orc_text.specs.Reads.{Reads, found_or, text_fault};
 ghost use Rattle.orc_text.specs.Refused.{Tells};
 ghost use Rattle.orc_text.specs.Held.{said_of, Holds};
+ghost use Rattle.orc_text.specs.Line.{line_of};
 
+use crate::adding::{add, close};
 use crate::directive::directive_of;
-use crate::fault::{check, check_directive};
-use crate::instruction::check_instruction;
-use crate::saying::{close, say_directive, say_instruction};
+use crate::directive_line::directive_line;
+use crate::fault::check;
+use crate::instruction::instruction;
+use crate::line::Line;
 use crate::state::State;
 use orc_program::{Fault, Program, new_program};
 use orc_words::{Names, content, has_bad_byte, next_line, next_word, starts_with_dot};
-use std::alloc::{AllocError, Global};
+use std::alloc::Global;
 
 /// Why a text is no program.
 #[derive(Debug, Drop)]
@@ -33,51 +36,26 @@ pub enum TextError {
     Memory,
 }
 
-impl From<AllocError> for TextError {
-    fn from(_e: AllocError) -> TextError {
-        TextError::Memory
-    }
-}
-
-/// The first fault of a line, whose content is given.
+/// What a line says, whose content is given, or its first fault.
 #[tactic(auto, unfolding(crate::specs::Faults::line_fault))]
-fn check_line(state: &State, line: &[u8]) -> Result<(), Fault>
+fn line_of(state: &State, line: &[u8]) -> Result<Line, Fault>
     requires few { state.now.lines + 1 < 2 ^ 32 }
     requires held { Holds state.now }
-    ensures { result_err result ≡ line_fault (said_of state.now) line.now }
+    ensures fault { result_err result ≡ line_fault (said_of state.now) line.now }
+    ensures says { IfOk result (λ said. said ≡ line_of (said_of state.now) (words line.now)) }
 {
     let Some((first, _)) = next_word(line) else {
-        return Ok(());
+        return Ok(Line::Blank);
     };
     check(has_bad_byte(line), Fault::BadByte)?;
     if starts_with_dot(first) {
-        return check_directive(state, directive_of(first), line);
+        return directive_line(state, directive_of(first), line);
     }
-    check_instruction(state, line)
-}
-
-/// What a line without a fault says.
-fn say_words(alloc: Global, state: &mut State, line: &[u8]) -> Result<(), AllocError>
-    requires few { state.old.lines + 1 < 2 ^ 32 }
-    requires clean { list_any is_hash line.now ≡ false }
-    requires faultless { line_fault (said_of state.old) line.now ≡ None }
-    requires held { Holds state.old }
-    ensures says { OnOk result (said_of state.new ≡ say_words (said_of state.old) (words line.now)) }
-    ensures held { OnOk result (Holds state.new) }
-{
-    let Some((first, _)) = next_word(line) else {
-        return Ok(());
-    };
-    if starts_with_dot(first) {
-        return match directive_of(first) {
-            Some(directive) => say_directive(alloc, state, directive, line),
-            None => Ok(()),
-        };
-    }
-    say_instruction(state, line)
+    instruction(state, line)
 }
 
 /// One more line, whose content is given.
+#[tactic(auto, using(crate::proofs::LineSaid::line_fits, crate::proofs::LineSaid::line_said))]
 fn read_line(alloc: Global, state: &mut State, line: &[u8]) -> Result<(), TextError>
     requires few { state.old.lines + 1 < 2 ^ 32 }
     requires clean { list_any is_hash line.now ≡ false }
@@ -88,13 +66,16 @@ fn read_line(alloc: Global, state: &mut State, line: &[u8]) -> Result<(), TextEr
     ensures tells { IfErr result (λ e. Tells (found_or (state.old.lines + 1) (line_fault (said_of state.old) line.now) None) e) }
 {
     let number = state.lines + 1;
-    if let Err(fault) = check_line(state, line) {
-        return Err(TextError::Fault {
-            line: number,
-            fault,
-        });
-    }
-    if say_words(alloc, state, line).is_err() {
+    let said = match line_of(state, line) {
+        Ok(said) => said,
+        Err(fault) => {
+            return Err(TextError::Fault {
+                line: number,
+                fault,
+            });
+        }
+    };
+    if add(alloc, state, said, line).is_err() {
         return Err(TextError::Memory);
     }
     state.lines = number;
