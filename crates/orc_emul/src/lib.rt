@@ -12,7 +12,7 @@ mod store;
 pub use places::{array_number, count, count_before, variable};
 pub use run::{Accs, emulate};
 pub use state::Unmapped;
-pub use store::{Store, are_low, overlaps};
+pub use store::{Store, are_low};
 
 #[cfg(test)]
 mod tests;

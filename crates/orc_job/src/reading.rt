@@ -16,10 +16,10 @@ use crate::forms::{Unformed, count_in, name_in, whole_in};
 use crate::job::Job;
 use crate::lists::{params_in, places_in, segments_in};
 use orc_bits::{Part, Parts};
-use orc_emul::overlaps;
+use orc_memory::overlaps;
 use orc_program::{Call, Name, Params, Places};
 use serde_json::Value;
-use std::alloc::Global;
+use std::alloc::{AllocError, Global};
 
 /// The value of a JSON text.
 pub fn parse(alloc: Global, bytes: &[u8]) -> Result<Value, JobError>
@@ -219,13 +219,14 @@ fn read_value(alloc: Global, value: &Value) -> Result<Job, JobError>
 }
 
 /// A job of which no two segments share a byte.
-fn without_overlap(job: Job) -> Result<Job, JobError>
-    ensures { IsAnswer (Ok job) result }
+fn without_overlap(alloc: Global, job: Job) -> Result<Job, JobError>
+    ensures { UnlessMemory result (IsAnswer (Ok job) result) }
 {
-    if overlaps(job.memory.as_slice()) {
-        return Err(JobError::Overlap);
+    match overlaps(alloc, job.memory.as_slice()) {
+        Ok(true) => Err(JobError::Overlap),
+        Ok(false) => Ok(job),
+        Err(AllocError) => Err(JobError::Memory),
     }
-    Ok(job)
 }
 
 /// The job that a JSON text says.
@@ -245,7 +246,7 @@ pub fn read_job(alloc: Global, bytes: &[u8]) -> Result<Job, JobError>
 {
     let value = parse(alloc, bytes)?;
     let job = read_value(alloc, &value)?;
-    without_overlap(job)
+    without_overlap(alloc, job)
 }
 
 /// The law of one answer: bytes say one job at most, and those that say a job are not refused, and bytes are refused for one reason.

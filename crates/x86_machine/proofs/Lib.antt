@@ -1,4 +1,2 @@
-pub mod Counts
-pub mod Places
 pub mod Runs
 pub mod OneEnd
