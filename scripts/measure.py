@@ -1,0 +1,112 @@
+#!/usr/bin/env python3
+"""Measures the functions of kernels/ beside the ORC library's SSE2 code, and prints a table for docs/PERFORMANCE.md.
+
+Usage: python3 scripts/measure.py [ORCC] [FILE.orc ..]
+ORCC is the program, crates/orcc/out/orcc unless given. Without files all of kernels/ are measured. It needs an x86-64
+Linux with a C compiler, pkg-config and the library's headers (Debian: liborc-0.4-dev).
+
+A turn is the innermost loop that does most elements: its instructions are counted in the listing of `orcc dis`.
+"""
+
+import math
+import pathlib
+import subprocess
+import sys
+import tempfile
+
+TOP = pathlib.Path(__file__).resolve().parent.parent
+COUNTS = (40, 320, 1920, 16384)
+
+
+def listings(orcc, image):
+    """For each function of an image its instructions: offset, bytes, mnemonic."""
+    functions = {}
+    ran = subprocess.run([orcc, "dis"], input=image, capture_output=True, check=True)
+    for line in ran.stdout.decode().splitlines():
+        if line.startswith("function "):
+            lines = functions[line.split()[1]] = []
+        else:
+            offset, code, mnemonic = line.split()
+            lines.append((int(offset, 16), bytes.fromhex(code), mnemonic))
+    return functions
+
+
+def turn(lines):
+    """How many elements the turn does that does most, and how many instructions it has."""
+    places = {offset: k for k, (offset, _, _) in enumerate(lines)}
+    loops = []
+    for k, (offset, code, mnemonic) in enumerate(lines):
+        if mnemonic == "jmp" or mnemonic.startswith("j"):
+            to = offset + len(code) + int.from_bytes(code[-4:], "little", signed=True)
+            if to <= offset and to in places:
+                loops.append((places[to], k))
+    best = (0, 0)
+    for first, last in loops:
+        inner = any((a, b) != (first, last) and first <= a and b <= last for a, b in loops)
+        if inner:
+            continue
+        for _, code, _ in lines[first:last + 1]:
+            # The count of the elements that are left stands in RCX: sub rcx, so many
+            if code[:3] == b"\x48\x83\xe9":
+                elements = code[3]
+                if elements > best[0] or elements == best[0] and last + 1 - first < best[1]:
+                    best = (elements, last + 1 - first)
+    return best
+
+
+def words_of(*command):
+    return subprocess.run(command, capture_output=True, text=True, check=True).stdout.split()
+
+
+def measured(room, text, name):
+    """Lines of numbers: elements, cycles of the kernel, cycles of the library; and whether both left the same."""
+    program = room / "measure"
+    subprocess.run(["cc", "-O2", f"-DKERNEL={name}", f"-I{TOP / 'include'}", TOP / "scripts/measure.c", room / "kernel.o",
+                    "-o", program, "-Wl,-z,noexecstack", *words_of("pkg-config", "--cflags", "--libs", "orc-0.4")],
+                   check=True)
+    rows = []
+    for line in subprocess.run([program, text], capture_output=True, text=True, check=True).stdout.splitlines():
+        n, ours, theirs, word = line.split()
+        rows.append((int(n), int(ours), int(theirs), word == "same"))
+    return rows
+
+
+def main():
+    words = sys.argv[1:]
+    orcc = TOP / "crates/orcc/out/orcc"
+    if words and not words[0].endswith(".orc"):
+        orcc = pathlib.Path(words.pop(0)).resolve()
+    files = [pathlib.Path(w).resolve() for w in words] or sorted((TOP / "kernels").glob("*.orc"))
+    version = words_of("pkg-config", "--modversion", "orc-0.4")[0]
+    print(f"ORC library {version}")
+    print("| function | elements a turn | instructions a turn | " + " | ".join(f"n = {n} | ORC" for n in COUNTS) +
+          " | cycles an element | ORC |")
+    print("|---" * (5 + 2 * len(COUNTS)) + "|")
+    ratios = {n: [] for n in COUNTS}
+    with tempfile.TemporaryDirectory() as folder:
+        room = pathlib.Path(folder)
+        for path in files:
+            text = path.read_bytes()
+            image = subprocess.run([orcc, "asm"], input=text, capture_output=True, check=True).stdout
+            (room / "kernel.o").write_bytes(subprocess.run([orcc, "obj"], input=text, capture_output=True, check=True).stdout)
+            for name, lines in listings(orcc, image).items():
+                rows = measured(room, path, name)
+                elements, instructions = turn(lines)
+                cells = []
+                for n, ours, theirs, _ in rows:
+                    cells += [f"{ours:,}", f"{theirs:,}" if theirs else "none"]
+                    if ours and theirs:
+                        ratios[n].append(ours / theirs)
+                n, ours, theirs, _ = rows[-1]
+                cells += [f"{ours / n:.2f}", f"{theirs / n:.2f}" if theirs else "none"]
+                print(f"| `{name}` | {elements} | {instructions} | " + " | ".join(cells) + " |", flush=True)
+                if not all(same for *_, same in rows):
+                    sys.exit(f"{name}: the two leave other bytes")
+    for n, all_of in ratios.items():
+        if all_of:
+            mean = math.exp(sum(map(math.log, all_of)) / len(all_of))
+            print(f"geometric mean of the ratios at n = {n}: {mean:.2f} over {len(all_of)} functions")
+
+
+if __name__ == "__main__":
+    main()
