@@ -8,7 +8,7 @@ ghost use Rattle.orcc_top.specs.Code.{HoldsCode, command_for};
 ghost use Rattle.orcc_top.specs.Replies.{Replies};
 
 use crate::objects::object_bytes;
-use crate::reading::read_text;
+use crate::parsing::read_text;
 use crate::refusal::{Refusal, line_of};
 use crate::reply::Reply;
 use orc_asm::{AsmError, assemble};

@@ -5,7 +5,7 @@ ghost use Rattle.orcc_top.specs.Figures.{figures_line, figures_text};
 ghost use Rattle.orcc_top.specs.Replies.{Replies};
 
 use crate::command::Command;
-use crate::reading::read_text;
+use crate::parsing::read_text;
 use crate::reply::Reply;
 use orc_plan::{cost, lanes, lower, widest_need};
 use orc_program::Function;

@@ -11,7 +11,7 @@ ghost use Rattle.orcc_top.specs.Replies.{Replies};
 
 use crate::calling::{function_called, job_of};
 use crate::command::Command;
-use crate::reading::read_text;
+use crate::parsing::read_text;
 use crate::refusal::{Refusal, line_of};
 use crate::reply::Reply;
 use crate::separating::separate;

@@ -3,7 +3,7 @@ ghost use Rattle.std.specs.Prelude.{◌≤◌, length, IfOk};
 ghost use Rattle.orcc_top.specs.Replies.{Replies};
 
 use crate::command::Command;
-use crate::reading::read_text;
+use crate::parsing::read_text;
 use crate::reply::Reply;
 use orc_text::show;
 use std::alloc::{AllocError, Global};

@@ -13,7 +13,7 @@ mod formatting;
 mod listing;
 mod objects;
 mod placing;
-mod reading;
+mod parsing;
 mod refusal;
 mod reply;
 mod separating;

@@ -14,6 +14,17 @@ use std::process::Abort;
 const RETURNS: &[u8] =
     b"ORCI\x01\x01\x01f\x00\x00\x00\x00\x00\x01\x00\x00\x00\xc3{\"function\":\"f\",\"n\":0,\"m\":0,\"arrays\":[],\"params\":[],\"memory\":[],\"budget\":10}";
 
+/// A text that adds rows of bytes.
+const ADD8: &str = ".function add8\n.dest 1 d1\n.source 1 s1\n.source 1 s2\naddb d1, s1, s2\n";
+
+/// A text that scales samples, through a temp.
+const VOLUME: &str =
+    ".function volume\n.dest 2 d1 gint16\n.param 2 p1\n.temp 4 t1\nmulswl t1, d1, p1\nshrsl t1, t1, 11\nconvlw d1, t1\n";
+
+/// A text that isn't its own canonical text.
+const DEMO: &str =
+    "# demo\n.function f\n.flags 2d\n.dest 2 d1 gint16\naddw d1,d1,0x10L\n.param 4 p1\n";
+
 /// A text of one function that adds bytes in place, and a job.
 const ADDS: &[u8] =
     b".function f\n.dest 1 d1\naddb d1, d1, 1\n%%\n{\"function\":\"f\",\"n\":2,\"m\":1,\"arrays\":[{\"base\":4096,\"stride\":0}],\"params\":[],\"memory\":[{\"at\":4096,\"bytes\":\"01ff\"}],\"budget\":1}";
@@ -96,13 +107,13 @@ fn each_command_answers(rt: HostRuntime) -> Result<(), AllocError> {
         (&["c"], b"# nothing", Status::Done, b"#include <stdint.h>\n"),
         (
             &["check"],
-            b".function volume\n.dest 2 d1 gint16\n.param 2 p1\n.temp 4 t1\nmulswl t1, d1, p1\nshrsl t1, t1, 11\nconvlw d1, t1\n",
+            VOLUME.as_bytes(),
             Status::Done,
             b"volume need 2 lanes 4 cost 30\n",
         ),
         (
             &["fmt"],
-            b"# demo\n.function f\n.flags 2d\n.dest 2 d1 gint16\naddw d1,d1,0x10L\n.param 4 p1\n",
+            DEMO.as_bytes(),
             Status::Done,
             b".function f\n.flags 2d\n.dest 2 d1 gint16\n.param 4 p1\naddw d1, d1, 16\n",
         ),

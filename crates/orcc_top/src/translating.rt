@@ -5,7 +5,7 @@ ghost use Rattle.orcc_top.specs.Replies.{Replies};
 ghost use Rattle.orcc_top.specs.Translation.{MeansAs};
 
 use crate::command::Command;
-use crate::reading::read_text;
+use crate::parsing::read_text;
 use crate::reply::Reply;
 use c_emit::{emit, print};
 use c_run::{CFunction, CFunctions, CTree};

@@ -1,12 +1,10 @@
 //! What a run leaves where its streams fail.
-use super::{Outcome, Stream, run, run_with};
+use super::{ADD8, DEMO, Outcome, Stream, VOLUME, run, run_with};
 use crate::Status;
 use std::alloc::{AllocError, Global};
 use std::process::Abort;
 
-const ADD8: &str = ".function add8\n.dest 1 d1\n.source 1 s1\n.source 1 s2\naddb d1, s1, s2\n";
-
-/// A job for the text.
+/// A job for the text that adds rows of bytes.
 const JOB: &str =
     r#"{"function":"add8","n":3,"m":1,"arrays":[{"base":4096,"stride":0},{"base":8192,"stride":0},{"base":12288,"stride":0}],"params":[],"memory":[{"at":4096,"bytes":"000000"},{"at":8192,"bytes":"01ff80"},{"at":12288,"bytes":"010180"}],"budget":1000}"#;
 
@@ -15,14 +13,8 @@ const COMMANDS: [(&str, &str); 5] = [
     ("asm", ADD8),
     ("obj", ADD8),
     ("c", ADD8),
-    (
-        "check",
-        ".function volume\n.dest 2 d1 gint16\n.param 2 p1\n.temp 4 t1\nmulswl t1, d1, p1\nshrsl t1, t1, 11\nconvlw d1, t1\n",
-    ),
-    (
-        "fmt",
-        "# demo\n.function f\n.flags 2d\n.dest 2 d1 gint16\naddw d1,d1,0x10L\n.param 4 p1\n",
-    ),
+    ("check", VOLUME),
+    ("fmt", DEMO),
 ];
 
 /// Runs with one failing take after the other, until none fails.

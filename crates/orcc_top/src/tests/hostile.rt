@@ -1,5 +1,5 @@
 //! Input that is cut, drawn at random or at the ends of what is allowed.
-use super::run;
+use super::{ADD8, run};
 use crate::Status;
 use std::alloc::{AllocError, Global};
 
@@ -78,8 +78,7 @@ fn the_ends_of_what_is_allowed(rt: HostRuntime) -> Result<(), AllocError> {
 #[test]
 fn a_cut_image_says_what_is_wanting(rt: HostRuntime) -> Result<(), AllocError> {
     let alloc = rt.alloc();
-    let text = b".function add8\n.dest 1 d1\n.source 1 s1\n.source 1 s2\naddb d1, s1, s2\n";
-    let image = run(alloc, &["asm"], text)?.output;
+    let image = run(alloc, &["asm"], ADD8.as_bytes())?.output;
     // The ends of the fields: magic, version, functions, length of the name, name, flags, dests, sources, parameters, accumulators, length
     // of the code, code.
     let ends = [4, 5, 6, 7, 11, 12, 13, 14, 15, 16, 20, image.len()];
