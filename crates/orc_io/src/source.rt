@@ -54,7 +54,7 @@ const CHUNK: usize = 4096;
 
 /// Reads an input to its end, where it has at most `limit` bytes.
 ///
-/// Each take that goes on takes a byte, so there are at most `limit + 2` takes.
+/// Each take that goes on takes a byte, so there are at most `limit + 1` takes.
 ///
 /// # Errors
 ///
@@ -66,7 +66,7 @@ pub fn read_all<S: Source>(alloc: Global, input: &mut S, limit: usize) -> Result
     ensures bytes { MatchResult result (λ v. ReadsAll limit (S.left input.old) (S.left input.new) v.items) (StopsReading limit (S.left input.old) (S.left input.new)) }
     ensures cause { IfErr result (λ e. e ≡ TakeFault.Read → Rose (S.faults input.old) (S.faults input.new)) }
     ensures later { S.faults input.old ≤ S.faults input.new }
-    ensures asked { S.takes input.new ≤ S.takes input.old + limit + 2 }
+    ensures asked { S.takes input.new ≤ S.takes input.old + limit + 1 }
 {
     let mut bytes = Vec::new(alloc);
     let mut chunk = [0u8; CHUNK];

@@ -2,6 +2,8 @@ ghost use Rattle.std.specs.Prelude.{◌≡◌, ◌<◌, IfOk};
 
 use crate::*;
 use std::alloc::{AllocError, Global};
+use std::io;
+use std::io::Write;
 
 const DIGITS: &[u8] = b"0123456789abcdef";
 
@@ -57,16 +59,17 @@ fn a_still_source_gives_its_bytes_in_pieces(rt: HostRuntime) -> Result<(), Alloc
 #[test]
 fn puts_a_front_where_the_sink_fails(rt: HostRuntime) -> Result<(), AllocError> {
     let alloc = rt.alloc();
-    // The room, the puts that fail, the answer; then the bytes held.
-    let rows: [(usize, &[u64], Result<(), PutFault>, usize); 2] = [
-        (16, &[], Ok(()), 16),
-        (100, &[2], Err(PutFault), 10),
+    // The room, the puts that fail, the answer; then the bytes held and the puts.
+    let rows: [(usize, &[u64], Result<(), PutFault>, usize, u64); 2] = [
+        (16, &[], Ok(()), 16, 2),
+        (100, &[2], Err(PutFault), 10, 2),
     ];
-    for (room, fail, answer, held) in rows {
+    for (room, fail, answer, held, calls) in rows {
         let mut sink = Buffer::with_room(alloc, room, 10, Vec::from_slice(alloc, fail)?)?;
         assert_eq!(rt; write_all(&mut sink, DIGITS), answer, "room {room}");
         assert!(rt; DIGITS.starts_with(sink.held.as_slice()));
         assert_eq!(rt; sink.held.len(), held, "room {room}");
+        assert_eq!(rt; sink.calls, calls, "room {room}");
     }
     Ok(())
 }
@@ -89,4 +92,28 @@ fn edges_pass_bytes_on(rt: HostRuntime) {
     assert_eq!(rt; write_all(&mut writer, DIGITS), Ok(()));
     assert!(rt; writer.inner.as_slice() == DIGITS);
     assert_eq!(rt; writer.faults, 0);
+}
+
+/// A writer that takes all bytes and fails in each flush.
+#[derive(Drop)]
+struct Unflushed;
+
+impl Write for Unflushed {
+    fn write(&mut self, buf: &[u8]) -> io::Result<usize> {
+        Ok(buf.len())
+    }
+
+    fn flush(&mut self) -> io::Result<()> {
+        Err(io::Error::from(io::ErrorKind::BrokenPipe))
+    }
+}
+
+#[test]
+fn a_failed_flush_is_a_fault(rt: HostRuntime) {
+    let mut writer = WriteEdge {
+        inner: Unflushed,
+        faults: 0,
+    };
+    assert_eq!(rt; write_all(&mut writer, DIGITS), Err(PutFault));
+    assert_eq!(rt; writer.faults, 1);
 }

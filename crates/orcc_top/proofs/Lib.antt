@@ -13,4 +13,5 @@ pub mod Calls
 pub mod Padding
 pub mod Leaving
 pub mod Behind
+pub mod Refused
 pub mod Widest

@@ -1,5 +1,6 @@
 pub mod Answer
 pub mod Assembly
+pub mod Code
 pub mod Commands
 pub mod Each
 pub mod Emulation

@@ -2,7 +2,7 @@
 use Rattle.std.specs.Prelude.{◌≡◌, ℕ, ◌+◌, ◌≤◌, ◌⊎◌, List, Option, Some, None, length}
 use Rattle.std.specs.Io.KnownBytes.{Consumes, IsAtEnd}
 use Rattle.orc_io.specs.Causes.{Rose}
-use Rattle.orc_io.specs.Streams.{AppendsSome}
+use Rattle.orc_io.specs.Streams.{TakesAtMost, AppendsSome}
 use Rattle.orcc_top.specs.declared.command.Command.{Command}
 use Rattle.orcc_top.specs.declared.refusal.Refusal.{Refusal}
 use Rattle.orcc_top.specs.Commands.{Word, words_of, usage_line, IsWrongUsage}
@@ -27,6 +27,12 @@ IsRefused words input = (command : Command) × (refusal : Refusal) × (words ≡
 -- all of an input, to its end, or exactly one byte more than the limit
 abbrev pub Takes : ℕ → Option (List ℕ) → Option (List ℕ) → List ℕ → Type 0
 Takes limit old new taken = Consumes old new taken × ((IsAtEnd new × (length taken ≤ limit)) ⊎ (length taken ≡ limit + 1))
+
+-- no more bytes were taken than the command's input may have
+pub record StopsWithin (words : List Word) (old new : Option (List ℕ)) : Type 0 where
+  pub command : Command
+  pub asked : words ≡ words_of command
+  pub taken : TakesAtMost (limit_of command) old new
 
 -- ---- what is written
 

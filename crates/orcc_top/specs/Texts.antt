@@ -1,14 +1,21 @@
 -- The canonical text of a text, and the refusal of a text for its first fault.
-use Rattle.std.specs.Prelude.{◌≡◌, ℕ, List, Option, None, option_map}
+use Rattle.std.specs.Prelude.{◌≡◌, ℕ, List, Option, Some, None, option_map}
 use Rattle.orc_program.specs.Program.{ProgramValue}
 use Rattle.orc_text.specs.Reads.{Reads, text_fault, text_program}
 use Rattle.orc_text.specs.Shown.{program_text}
 use Rattle.orcc_top.specs.declared.refusal.Refusal.{Refusal}
 use Rattle.orcc_top.specs.declared.refusal.Refusal.TheVariants.{Text}
+use Rattle.orcc_top.specs.Refusals.{line_of}
 
 -- why a text is refused, if a line of it has a fault
 abbrev pub fault_refusal : List ℕ → Option Refusal
 fault_refusal text = option_map (λ x. Text x.0 x.1) (text_fault text)
+
+-- the line refuses the text for its first fault
+pub record TellsFault (text line : List ℕ) : Type 0 where
+  pub refusal : Refusal
+  pub first : fault_refusal text ≡ Some refusal
+  pub says : line ≡ line_of refusal
 
 -- the bytes are the canonical text of the program that the text reads as
 pub record IsFormatted (text bytes : List ℕ) : Type 0 where

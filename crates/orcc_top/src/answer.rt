@@ -1,18 +1,18 @@
 //! What a command answers to its input.
 ghost use Rattle.std.specs.Prelude.{◌≡◌, ◌≤◌, ℕ, List, length, IfOk, IfErr};
 ghost use Rattle.orc_io.specs.Causes.{Rose};
+ghost use Rattle.orc_io.specs.Streams.{TakesAtMost};
 ghost use Rattle.orcc_top.specs.Answer.{limit_of};
 ghost use Rattle.orcc_top.specs.Runs.{Takes};
 ghost use Rattle.orcc_top.specs.Replies.{Replies};
 
-use crate::assembly::assemble_text;
+use crate::assembly::{Form, assemble_text};
 use crate::checking::check_text;
 use crate::command::Command;
 use crate::emulation::emulate_job;
 use crate::execution::run_job;
 use crate::formatting::format_text;
 use crate::listing::disassemble;
-use crate::objects::assemble_object;
 use crate::refusal::{Refusal, line_of};
 use crate::reply::Reply;
 use crate::translating::translate_text;
@@ -44,14 +44,14 @@ fn reply_within(alloc: Global, command: Command, input: &[u8]) -> Result<Reply, 
     ensures { IfOk result (λ reply. Replies command input.now reply) }
 {
     match command {
-        Command::Asm => assemble_text(alloc, input),
+        Command::Asm => assemble_text(alloc, Form::Image, input),
         Command::C => translate_text(alloc, input),
         Command::Check => check_text(alloc, input),
         Command::Fmt => format_text(alloc, input),
         Command::Run => run_job(alloc, input),
         Command::Dis => disassemble(alloc, input),
         Command::Emulate => emulate_job(alloc, input),
-        Command::Obj => assemble_object(alloc, input),
+        Command::Obj => assemble_text(alloc, Form::Object, input),
     }
 }
 
@@ -59,6 +59,7 @@ fn reply_within(alloc: Global, command: Command, input: &[u8]) -> Result<Reply, 
 pub fn reply_to<S: Source>(alloc: Global, command: Command, input: &mut S) -> Result<Reply, Stop>
     ensures reply { IfOk result (λ reply. (taken : List ℕ) × Takes (limit_of command) (S.left input.old) (S.left input.new) taken × Replies command taken reply) }
     ensures read { IfErr result (λ stop. stop ≡ Stop.Read → Rose (S.faults input.old) (S.faults input.new)) }
+    ensures taken { IfErr result (λ stop. stop ≡ Stop.Read → TakesAtMost (limit_of command) (S.left input.old) (S.left input.new)) }
 {
     match read_all(alloc, input, command.limit()) {
         Ok(bytes) => Ok(reply_within(alloc, command, bytes.as_slice())?),

@@ -4,16 +4,26 @@ ghost use Rattle.orc_program.specs.Program.{count_of};
 ghost use Rattle.orc_program.specs.Kept.{is_function, all_distinct, most_of};
 ghost use Rattle.orc_asm.specs.Function.{first_pressure, IsRefusal};
 ghost use Rattle.orcc_top.specs.Assembly.{EntryOf, EntriesOf, first_pressure_in, TellsPressure};
+ghost use Rattle.orcc_top.specs.Code.{HoldsCode, command_for};
 ghost use Rattle.orcc_top.specs.Replies.{Replies};
 
-use crate::command::Command;
+use crate::objects::object_bytes;
+use crate::parsing::read_text;
 use crate::refusal::{Refusal, line_of};
 use crate::reply::Reply;
 use orc_asm::{AsmError, assemble};
 use orc_image::{Image, ImageFunction, write_image};
 use orc_program::{Function, Name, VarKind, count_of};
-use orc_text::{TextError, read};
 use std::alloc::{AllocError, Global};
+
+/// What a text's code is written as.
+#[derive(Clone, Copy, Debug, PartialEq, Eq)]
+pub enum Form {
+    /// An image.
+    Image,
+    /// An ELF64 object.
+    Object,
+}
 
 /// How many variables of a kind a function has.
 #[tactic(auto, using(crate::proofs::Entries::few, crate::proofs::Entries::most_fits))]
@@ -64,21 +74,46 @@ fn image_of(alloc: Global, functions: &[Function]) -> Result<Image, AsmError>
     Ok(image)
 }
 
-/// What `asm` answers to a text.
-pub fn assemble_text(alloc: Global, text: &[u8]) -> Result<Reply, AllocError>
-    requires { length text.now ≤ 1048576 }
-    ensures { IfOk result (λ reply. Replies Command.Asm text.now reply) }
+/// The bytes of the image of a program's functions.
+fn image_bytes(alloc: Global, functions: &[Function]) -> Result<Vec<u8>, AsmError>
+    requires few { length functions.now ≤ 64 }
+    requires distinct { all_distinct (map (λ f. f.name) functions.now) ≡ true }
+    ensures holds { IfOk result (λ bytes. HoldsCode Form.Image functions.now bytes.items) }
+    ensures placed { OnOk result (first_pressure_in functions.now ≡ None) }
+    ensures pressure { IfErr result (λ e. TellsPressure (first_pressure_in functions.now) e) }
 {
-    let program = match read(alloc, text) {
+    let image = image_of(alloc, functions)?;
+    match write_image(alloc, &image) {
+        Ok(bytes) => Ok(bytes),
+        Err(AllocError) => Err(AsmError::Memory),
+    }
+}
+
+/// The bytes of an image or of an object of a program's functions.
+fn bytes_of(alloc: Global, form: Form, functions: &[Function]) -> Result<Vec<u8>, AsmError>
+    requires few { length functions.now ≤ 64 }
+    requires distinct { all_distinct (map (λ f. f.name) functions.now) ≡ true }
+    ensures holds { IfOk result (λ bytes. HoldsCode form functions.now bytes.items) }
+    ensures placed { OnOk result (first_pressure_in functions.now ≡ None) }
+    ensures pressure { IfErr result (λ e. TellsPressure (first_pressure_in functions.now) e) }
+{
+    match form {
+        Form::Image => image_bytes(alloc, functions),
+        Form::Object => object_bytes(alloc, functions),
+    }
+}
+
+/// What `asm` and `obj` answer to a text, as the form asks.
+pub fn assemble_text(alloc: Global, form: Form, text: &[u8]) -> Result<Reply, AllocError>
+    requires { length text.now ≤ 1048576 }
+    ensures { IfOk result (λ reply. Replies (command_for form) text.now reply) }
+{
+    let program = match read_text(alloc, text)? {
         Ok(program) => program,
-        Err(TextError::Fault { line, fault }) => {
-            let refusal = Refusal::Text { line, fault };
-            return Ok(Reply::Refusal(line_of(alloc, refusal)?));
-        }
-        Err(TextError::Memory) => return Err(AllocError),
+        Err(line) => return Ok(Reply::Refusal(line)),
     };
-    match image_of(alloc, program.functions.as_slice()) {
-        Ok(image) => Ok(Reply::Output(write_image(alloc, &image)?)),
+    match bytes_of(alloc, form, program.functions.as_slice()) {
+        Ok(bytes) => Ok(Reply::Output(bytes)),
         Err(AsmError::Pressure { line, need }) => {
             let refusal = Refusal::Pressure { line, need };
             Ok(Reply::Refusal(line_of(alloc, refusal)?))

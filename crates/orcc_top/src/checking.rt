@@ -5,11 +5,10 @@ ghost use Rattle.orcc_top.specs.Figures.{figures_line, figures_text};
 ghost use Rattle.orcc_top.specs.Replies.{Replies};
 
 use crate::command::Command;
-use crate::refusal::{Refusal, line_of};
+use crate::parsing::read_text;
 use crate::reply::Reply;
 use orc_plan::{cost, lanes, lower, widest_need};
 use orc_program::Function;
-use orc_text::{TextError, read};
 use std::alloc::{AllocError, Global};
 
 /// The largest number of values that an instruction of the function needs at once.
@@ -49,16 +48,12 @@ pub fn check_text(alloc: Global, text: &[u8]) -> Result<Reply, AllocError>
     requires { length text.now ≤ 1048576 }
     ensures { IfOk result (λ reply. Replies Command.Check text.now reply) }
 {
-    match read(alloc, text) {
+    match read_text(alloc, text)? {
         Ok(program) => {
             let mut out = Vec::new(alloc);
             put_all(alloc, &mut out, program.functions.as_slice())?;
             Ok(Reply::Output(out))
         }
-        Err(TextError::Fault { line, fault }) => {
-            let refusal = Refusal::Text { line, fault };
-            Ok(Reply::Refusal(line_of(alloc, refusal)?))
-        }
-        Err(TextError::Memory) => Err(AllocError),
+        Err(line) => Ok(Reply::Refusal(line)),
     }
 }

@@ -11,13 +11,13 @@ ghost use Rattle.orcc_top.specs.Replies.{Replies};
 
 use crate::calling::{function_called, job_of};
 use crate::command::Command;
+use crate::parsing::read_text;
 use crate::refusal::{Refusal, line_of};
 use crate::reply::Reply;
 use crate::separating::separate;
 use orc_emul::{Accs, Store, Unmapped, emulate};
 use orc_job::{EndLine, Job, JobError, Outcome, print_result};
 use orc_program::{Function, Program};
-use orc_text::{TextError, read};
 use std::alloc::{AllocError, Global};
 
 /// What a job's emulation on a function ends with.
@@ -63,13 +63,9 @@ pub fn emulate_job(alloc: Global, input: &[u8]) -> Result<Reply, AllocError>
     ensures { IfOk result (λ reply. Replies Command.Emulate input.now reply) }
 {
     let (text, rest) = separate(input);
-    let program = match read(alloc, text) {
+    let program = match read_text(alloc, text)? {
         Ok(program) => program,
-        Err(TextError::Fault { line, fault }) => {
-            let refusal = Refusal::Text { line, fault };
-            return Ok(Reply::Refusal(line_of(alloc, refusal)?));
-        }
-        Err(TextError::Memory) => return Err(AllocError),
+        Err(line) => return Ok(Reply::Refusal(line)),
     };
     match outcome_on(alloc, program.functions.as_slice(), rest) {
         Ok(outcome) => Ok(Reply::Output(print_result(alloc, &outcome)?)),

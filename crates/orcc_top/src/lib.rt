@@ -13,6 +13,7 @@ mod formatting;
 mod listing;
 mod objects;
 mod placing;
+mod parsing;
 mod refusal;
 mod reply;
 mod separating;

@@ -1,19 +1,16 @@
-//! Assembling a text to an object.
+//! The object of a text.
 ghost use Rattle.std.specs.Prelude.{◌≡◌, ◌≤◌, None, true, length, map, IfOk, OnOk, IfErr};
 ghost use Rattle.orc_program.specs.Kept.{all_distinct};
 ghost use Rattle.orc_asm.specs.Function.{first_pressure, IsRefusal};
 ghost use Rattle.orcc_top.specs.Assembly.{first_pressure_in, TellsPressure};
+ghost use Rattle.orcc_top.specs.Code.{HoldsCode};
 ghost use Rattle.orcc_top.specs.Each.{OneForEach};
 ghost use Rattle.orcc_top.specs.Objects.{CompiledOf};
-ghost use Rattle.orcc_top.specs.Replies.{Replies};
 
-use crate::command::Command;
-use crate::refusal::{Refusal, line_of};
-use crate::reply::Reply;
+use crate::assembly::Form;
 use orc_asm::{AsmError, assemble};
 use orc_elf::{ElfCode, ElfEntry, write_elf};
 use orc_program::{Function, Name};
-use orc_text::{TextError, read};
 use std::alloc::{AllocError, Global};
 
 /// A function's entry in an object.
@@ -47,25 +44,17 @@ fn object_of(alloc: Global, functions: &[Function]) -> Result<ElfCode, AsmError>
     Ok(object)
 }
 
-/// What `obj` answers to a text.
-pub fn assemble_object(alloc: Global, text: &[u8]) -> Result<Reply, AllocError>
-    requires { length text.now ≤ 1048576 }
-    ensures { IfOk result (λ reply. Replies Command.Obj text.now reply) }
+/// The bytes of the object of a program's functions.
+pub fn object_bytes(alloc: Global, functions: &[Function]) -> Result<Vec<u8>, AsmError>
+    requires few { length functions.now ≤ 64 }
+    requires distinct { all_distinct (map (λ f. f.name) functions.now) ≡ true }
+    ensures holds { IfOk result (λ bytes. HoldsCode Form.Object functions.now bytes.items) }
+    ensures placed { OnOk result (first_pressure_in functions.now ≡ None) }
+    ensures pressure { IfErr result (λ e. TellsPressure (first_pressure_in functions.now) e) }
 {
-    let program = match read(alloc, text) {
-        Ok(program) => program,
-        Err(TextError::Fault { line, fault }) => {
-            let refusal = Refusal::Text { line, fault };
-            return Ok(Reply::Refusal(line_of(alloc, refusal)?));
-        }
-        Err(TextError::Memory) => return Err(AllocError),
-    };
-    match object_of(alloc, program.functions.as_slice()) {
-        Ok(object) => Ok(Reply::Output(write_elf(alloc, &object)?)),
-        Err(AsmError::Pressure { line, need }) => {
-            let refusal = Refusal::Pressure { line, need };
-            Ok(Reply::Refusal(line_of(alloc, refusal)?))
-        }
-        Err(AsmError::Memory) => Err(AllocError),
+    let object = object_of(alloc, functions)?;
+    match write_elf(alloc, &object) {
+        Ok(bytes) => Ok(bytes),
+        Err(AllocError) => Err(AsmError::Memory),
     }
 }

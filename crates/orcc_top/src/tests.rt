@@ -1,3 +1,6 @@
+mod failures;
+mod hostile;
+
 use crate::{Status, orcc};
 use c_read::read_c;
 use orc_elf::{ElfCode, ElfEntry, write_elf};
@@ -11,6 +14,17 @@ use std::process::Abort;
 const RETURNS: &[u8] =
     b"ORCI\x01\x01\x01f\x00\x00\x00\x00\x00\x01\x00\x00\x00\xc3{\"function\":\"f\",\"n\":0,\"m\":0,\"arrays\":[],\"params\":[],\"memory\":[],\"budget\":10}";
 
+/// A text that adds rows of bytes.
+const ADD8: &str = ".function add8\n.dest 1 d1\n.source 1 s1\n.source 1 s2\naddb d1, s1, s2\n";
+
+/// A text that scales samples, through a temp.
+const VOLUME: &str =
+    ".function volume\n.dest 2 d1 gint16\n.param 2 p1\n.temp 4 t1\nmulswl t1, d1, p1\nshrsl t1, t1, 11\nconvlw d1, t1\n";
+
+/// A text that isn't its own canonical text.
+const DEMO: &str =
+    "# demo\n.function f\n.flags 2d\n.dest 2 d1 gint16\naddw d1,d1,0x10L\n.param 4 p1\n";
+
 /// A text of one function that adds bytes in place, and a job.
 const ADDS: &[u8] =
     b".function f\n.dest 1 d1\naddb d1, d1, 1\n%%\n{\"function\":\"f\",\"n\":2,\"m\":1,\"arrays\":[{\"base\":4096,\"stride\":0}],\"params\":[],\"memory\":[{\"at\":4096,\"bytes\":\"01ff\"}],\"budget\":1}";
@@ -21,24 +35,39 @@ struct Outcome {
     status: Status,
     output: Vec<u8>,
     notes: Vec<u8>,
+    /// Whether a call to the input, to the output or to the notes failed.
+    failed: bool,
 }
 
-/// The number of a call that fails, if one does.
-fn failing(alloc: Global, call: Option<u64>) -> Result<Vec<u64>, AllocError> {
-    let mut fail = Vec::new(alloc);
-    if let Some(call) = call {
-        fail.push(call)?;
+/// What a run talks to.
+#[derive(Clone, Copy, PartialEq, Eq)]
+enum Stream {
+    Input,
+    Output,
+    Notes,
+}
+
+/// A call of a run to one of its streams that fails, counted from 1.
+type Failure = Option<(Stream, u64)>;
+
+/// The numbers of the calls to a stream that fail.
+fn calls_of(alloc: Global, failure: Failure, stream: Stream) -> Result<Vec<u64>, AllocError> {
+    let mut calls = Vec::new(alloc);
+    if let Some((failing, call)) = failure
+        && failing == stream
+    {
+        calls.push(call)?;
     }
-    Ok(fail)
+    Ok(calls)
 }
 
-/// Runs on an input that gives and takes seven bytes a call, where the takes and the puts with these numbers fail.
+/// Runs on an input and with an output of so much room, where each call moves seven bytes.
 fn run_with(
     alloc: Global,
     words: &[&str],
     bytes: &[u8],
-    take: Option<u64>,
-    put: Option<u64>,
+    room: usize,
+    failure: Failure,
 ) -> Result<Outcome, AllocError> {
     let mut given = Vec::new(alloc);
     for word in words {
@@ -48,15 +77,18 @@ fn run_with(
         bytes: Vec::from_slice(alloc, bytes)?,
         at: 0,
         most: 7,
-        fail: failing(alloc, take)?,
+        fail: calls_of(alloc, failure, Stream::Input)?,
         calls: 0,
         faults: 0,
     };
-    let mut output = Buffer::with_room(alloc, 60_000, 7, failing(alloc, put)?)?;
-    let mut notes = Buffer::with_room(alloc, 100, 7, Vec::new(alloc))?;
+    let failing_puts = calls_of(alloc, failure, Stream::Output)?;
+    let mut output = Buffer::with_room(alloc, room, 7, failing_puts)?;
+    let failing_notes = calls_of(alloc, failure, Stream::Notes)?;
+    let mut notes = Buffer::with_room(alloc, 100, 7, failing_notes)?;
     let status = orcc(alloc, given.as_slice(), &mut input, &mut output, &mut notes);
     Ok(Outcome {
         status,
+        failed: input.faults > 0 || output.faults > 0 || notes.faults > 0,
         output: output.held,
         notes: notes.held,
     })
@@ -64,7 +96,7 @@ fn run_with(
 
 /// Runs where no call fails.
 fn run(alloc: Global, words: &[&str], bytes: &[u8]) -> Result<Outcome, AllocError> {
-    run_with(alloc, words, bytes, None, None)
+    run_with(alloc, words, bytes, 60_000, None)
 }
 
 #[test]
@@ -75,13 +107,13 @@ fn each_command_answers(rt: HostRuntime) -> Result<(), AllocError> {
         (&["c"], b"# nothing", Status::Done, b"#include <stdint.h>\n"),
         (
             &["check"],
-            b".function volume\n.dest 2 d1 gint16\n.param 2 p1\n.temp 4 t1\nmulswl t1, d1, p1\nshrsl t1, t1, 11\nconvlw d1, t1\n",
+            VOLUME.as_bytes(),
             Status::Done,
             b"volume need 2 lanes 4 cost 30\n",
         ),
         (
             &["fmt"],
-            b"# demo\n.function f\n.flags 2d\n.dest 2 d1 gint16\naddw d1,d1,0x10L\n.param 4 p1\n",
+            DEMO.as_bytes(),
             Status::Done,
             b".function f\n.flags 2d\n.dest 2 d1 gint16\n.param 4 p1\naddw d1, d1, 16\n",
         ),
@@ -179,23 +211,6 @@ fn an_object_has_the_code_of_the_image(rt: HostRuntime) -> Result<(), AllocError
     Ok(())
 }
 
-#[test]
-fn a_failed_take_writes_nothing(rt: HostRuntime) -> Result<(), AllocError> {
-    let ran = run_with(rt.alloc(), &["asm"], b"# nothing", Some(2), None)?;
-    assert_eq!(rt; ran.status, Status::ReadFault);
-    assert!(rt; ran.output.is_empty() && ran.notes.is_empty());
-    Ok(())
-}
-
-#[test]
-fn a_failed_put_leaves_a_prefix(rt: HostRuntime) -> Result<(), AllocError> {
-    let ran = run_with(rt.alloc(), &["dis"], &RETURNS[..18], None, Some(2))?;
-    assert_eq!(rt; ran.status, Status::WriteFault);
-    assert!(rt; ran.output.as_slice() == b"functio".as_slice());
-    assert!(rt; ran.notes.is_empty());
-    Ok(())
-}
-
 /// A text whose ten temps all have a value that is read late, in parts behind each of which stands a line of the tenth temp.
 const TEMPS: [(&str, &str); 4] = [
     (
@@ -240,11 +255,17 @@ fn ten_values_have_places(rt: HostRuntime) -> Result<(), AllocError> {
 
 /// What the code of a text does with a job: the text of its function `f`, the job but for its function and its budget, and the result but for
 /// the steps.
-const RUNS: [(&str, &str, &str); 13] = [
+const RUNS: [(&str, &str, &str); 14] = [
     (
         ".dest 1 d1\n.source 1 s1\n.source 1 s2\naddb d1, s1, s2\n",
         r#""n":3,"m":1,"arrays":[{"base":4096,"stride":0},{"base":8192,"stride":0},{"base":12288,"stride":0}],"params":[],"memory":[{"at":4096,"bytes":"000000"},{"at":8192,"bytes":"01ff80"},{"at":12288,"bytes":"010180"}]"#,
         "\nmem 4096 020000\nmem 8192 01ff80\nmem 12288 010180\n",
+    ),
+    // A segment that no array has.
+    (
+        ".dest 1 d1\n.source 1 s1\n.source 1 s2\naddb d1, s1, s2\n",
+        r#""n":3,"m":1,"arrays":[{"base":4096,"stride":0},{"base":8192,"stride":0},{"base":12288,"stride":0}],"params":[],"memory":[{"at":4096,"bytes":"000000"},{"at":8192,"bytes":"01ff80"},{"at":12288,"bytes":"010180"},{"at":20480,"bytes":"aaaaaaaaaaaaaaaaaaaaaaaaaaaaaaaa"}]"#,
+        "\nmem 4096 020000\nmem 8192 01ff80\nmem 12288 010180\nmem 20480 aaaaaaaaaaaaaaaaaaaaaaaaaaaaaaaa\n",
     ),
     // Sums of sixteen bits, over fewer elements and more than a register holds.
     (

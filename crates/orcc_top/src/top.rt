@@ -3,7 +3,7 @@ ghost use Rattle.std.specs.Prelude.{◌≡◌, ◌≢◌, ◌⊎◌, List, ℕ, 
 ghost use Rattle.std.specs.Io.KnownBytes.{Appends};
 ghost use Rattle.orc_io.specs.Causes.{Rose};
 ghost use Rattle.orcc_top.specs.Commands.{spelled, usage_line, IsWrongUsage};
-ghost use Rattle.orcc_top.specs.Runs.{IsAsked, IsAccepted, IsRefused, GivesOutput, GivesRefusal, CutsOutput, CutsLine};
+ghost use Rattle.orcc_top.specs.Runs.{IsAsked, IsAccepted, IsRefused, StopsWithin, GivesOutput, GivesRefusal, CutsOutput, CutsLine};
 
 use crate::answer::{Stop, reply_to};
 use crate::command::command_of;
@@ -75,9 +75,11 @@ pub fn orcc<S: Source, K: Sink, N: Sink>(
         → ((result ≡ Status.Usage) ⊎ (result ≡ Status.WriteFault)) }
     ensures wrong_words_input { IsWrongUsage (spelled words.now) → input.new ≡ input.old }
 
-    // ReadFault: only where the input's count rose.
+    // ReadFault: only where the input's count rose, before the limit was passed.
     ensures read_fault { result ≡ Status.ReadFault
         → Rose (S.faults input.old) (S.faults input.new) }
+    ensures read_fault_taken { result ≡ Status.ReadFault
+        → StopsWithin (spelled words.now) (S.left input.old) (S.left input.new) }
     ensures read_fault_untouched { result ≡ Status.ReadFault
         → ((output.new ≡ output.old) × (notes.new ≡ notes.old)) }
 

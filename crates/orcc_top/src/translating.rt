@@ -5,12 +5,11 @@ ghost use Rattle.orcc_top.specs.Replies.{Replies};
 ghost use Rattle.orcc_top.specs.Translation.{MeansAs};
 
 use crate::command::Command;
-use crate::refusal::{Refusal, line_of};
+use crate::parsing::read_text;
 use crate::reply::Reply;
 use c_emit::{emit, print};
 use c_run::{CFunction, CFunctions, CTree};
 use orc_program::Function;
-use orc_text::{TextError, read};
 use std::alloc::{AllocError, Global};
 
 /// A function's function of C.
@@ -37,15 +36,11 @@ pub fn translate_text(alloc: Global, text: &[u8]) -> Result<Reply, AllocError>
     requires { length text.now ≤ 1048576 }
     ensures { IfOk result (λ reply. Replies Command.C text.now reply) }
 {
-    match read(alloc, text) {
+    match read_text(alloc, text)? {
         Ok(program) => {
             let functions = functions_of(alloc, program.functions.as_slice())?;
             Ok(Reply::Output(print(alloc, &CTree { functions })?))
         }
-        Err(TextError::Fault { line, fault }) => {
-            let refusal = Refusal::Text { line, fault };
-            Ok(Reply::Refusal(line_of(alloc, refusal)?))
-        }
-        Err(TextError::Memory) => Err(AllocError),
+        Err(line) => Ok(Reply::Refusal(line)),
     }
 }

@@ -11,4 +11,4 @@ putting-preserved g c =
     let h = c.in-Ok.ensures.count.0 in
     let k : c.putting.done + c.in-Ok.count ≤ length c.args.bytes.now = grind (arith, common_steps) in
     let put = rw (take_rest c.args.bytes.now c.putting.done) at c.in-Ok.ensures.bytes in
-    (k, omega (arith, c.put.ensures.cause.later), subst (Appends _ _) (sym (take-add c.putting.done c.in-Ok.count c.args.bytes.now)) (Appends-trans _ _ _ _ _ c.putting.invariant.2 put))
+    (k, omega (arith, c.put.ensures.cause.later), grind (arith, common_steps), subst (Appends _ _) (sym (take-add c.putting.done c.in-Ok.count c.args.bytes.now)) (Appends-trans _ _ _ _ _ c.putting.invariant.3 put))
