@@ -1,5 +1,3 @@
 pub mod RunsAs
 pub mod Function
-pub mod Code
 pub mod Rows
-pub mod Regions

@@ -10,7 +10,7 @@ use Rattle.orc_asm.specs.declared.rows.SlotCode.{SlotCode}
 use Rattle.orc_asm.specs.declared.rows.SlotCode.TheVariants as for_slot
 use Rattle.orc_frame.specs.Layout.{row_slot, rows_slot}
 use Rattle.orc_frame.specs.Parts.{base_word, stride_word}
-use Rattle.orc_asm.specs.Code.{pointer}
+use Rattle.orc_region.specs.Code.{pointer}
 
 -- ---- lists
 

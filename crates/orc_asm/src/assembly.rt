@@ -8,18 +8,18 @@ ghost use Rattle.orc_asm.specs.Function.{RunsAs, RunsQuietly, first_pressure, Is
 
 use crate::refusal::AsmError;
 use crate::rows::whole_code;
-use crate::turns::{counts_of, elements};
 use orc_bits::Code;
 use orc_frame::{epilogue, layout, prologue};
 use orc_plan::{Core, lower, place};
 use orc_program::Function;
+use orc_region::{counts_of, elements};
 use std::alloc::{AllocError, Global};
 
 /// Code that does in every good call what the function means, in at most as many steps as are stated. It does so inside any larger memory
 /// too, and on the way changes no byte but those of dests' cells, of accumulators' words and of the frame. It has 1 to 1,048,576 bytes.
 /// A function is refused exactly where some instruction needs more values of temps at once than there are places for them: with the first
 /// such instruction's line and need.
-#[tactic(auto, using(crate::proofs::Weaker::quietly_as, crate::proofs::Pressed::none_pressed, crate::proofs::Pressed::first_pressed))]
+#[tactic(auto, using(crate::proofs::Calls::Weaker::quietly_as, crate::proofs::Function::Pressed::none_pressed, crate::proofs::Function::Pressed::first_pressed))]
 pub fn assemble(alloc: Global, f: &Function) -> Result<Code, AsmError>
     ensures runs { IfOk result (λ code. RunsAs f.now code) }
     ensures inside { IfOk result (λ code. RunsQuietly f.now code) }

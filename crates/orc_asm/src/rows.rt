@@ -8,8 +8,8 @@ ghost use Rattle.x86_flow.specs.Tree.{flat_of};
 ghost use Rattle.orc_frame.specs.Layout.{row_slot};
 ghost use Rattle.orc_asm.specs.Rows.{slot_code, slots_code, arrays_code, base_code, stride_code, number_code, rows_code, row_entry_code, row_step_code, row_flow, whole_flow};
 
-use crate::lists::{BLOCK, COUNTER, STACK, pointer};
 use orc_bits::Code;
+use orc_region::{BLOCK, COUNTER, STACK, pointer};
 use sqlite_items::Items;
 use std::alloc::{AllocError, Global};
 use x86_flow::tree::{Flow, put_flow};
@@ -93,7 +93,7 @@ fn push_slot(list: &mut InsList, what: SlotCode, slot: usize) -> Result<(), Allo
 }
 
 /// Adds what is done for `n` slots from `first` on.
-#[tactic(auto, using(crate::proofs::RowPushes::slots_none, crate::proofs::RowPushes::slots_more))]
+#[tactic(auto, using(crate::proofs::Row::Built::slots_none, crate::proofs::Row::Built::slots_more))]
 fn push_slots(list: &mut InsList, what: SlotCode, first: usize, n: usize) -> Result<(), AllocError>
     requires { first + n ≤ 12 }
     ensures { OnOk result (list.new ≡ list.old ++ slots_code (slot_code what) first n) }
@@ -105,7 +105,7 @@ fn push_slots(list: &mut InsList, what: SlotCode, first: usize, n: usize) -> Res
 }
 
 /// Adds what is done for all arrays.
-#[tactic(auto, using(crate::proofs::RowPushes::arrays_both))]
+#[tactic(auto, using(crate::proofs::Row::Built::arrays_both))]
 fn push_arrays(
     list: &mut InsList,
     what: SlotCode,
@@ -138,7 +138,7 @@ fn number(two_d: bool) -> Ins
 }
 
 /// What comes before the first row of a function with so many dests and sources.
-#[tactic(auto, using(crate::proofs::RowPushes::rows_whole))]
+#[tactic(auto, using(crate::proofs::Row::Built::rows_whole))]
 pub fn rows_list(
     alloc: Global,
     two_d: bool,
@@ -164,7 +164,7 @@ pub fn rows_list(
 }
 
 /// What comes before the elements of a row.
-#[tactic(auto, using(crate::proofs::RowPushes::entry_whole))]
+#[tactic(auto, using(crate::proofs::Row::Built::entry_whole))]
 pub fn row_entry_list(alloc: Global, dests: usize, sources: usize) -> Result<InsList, AllocError>
     requires dests { dests ≤ 4 }
     requires sources { sources ≤ 8 }
@@ -184,7 +184,7 @@ pub fn row_entry_list(alloc: Global, dests: usize, sources: usize) -> Result<Ins
 }
 
 /// What comes after the elements of a row.
-#[tactic(auto, using(crate::proofs::RowPushes::step_whole))]
+#[tactic(auto, using(crate::proofs::Row::Built::step_whole))]
 pub fn row_step_list(alloc: Global, dests: usize, sources: usize) -> Result<InsList, AllocError>
     requires dests { dests ≤ 4 }
     requires sources { sources ≤ 8 }

@@ -23,7 +23,7 @@ use Rattle.orc_frame.specs.Subject.{End, Subject, IsArray, InDests, rows}
 use Rattle.orc_frame.specs.GoodCall.{lowered}
 use Rattle.orc_frame.specs.Function.{subject_of, end_of}
 use Rattle.orc_asm.specs.RunsAs.{Returns, QuietAt, quiet}
-use Rattle.orc_asm.proofs.Slots.{Limits, limits}
+use Rattle.orc_region.proofs.Checked.Slots.{Limits, limits}
 use Rattle.orc_jobs.specs.World.{Shared, stand_at, on, Ended, Plays}
 use Rattle.orc_jobs.specs.Alone.{KeepsBut, Alone, Isolated, AsAlone}
 use Rattle.orc_jobs.proofs.Isolation.{as_alone}

@@ -1,8 +1,8 @@
 use Rattle.std.proofs.Common.{ap}
 use Rattle.orc_program.specs.Program.{FunctionValue}
 use Rattle.orc_frame.proofs.Counted.{ok_map}
-use Rattle.orc_asm.proofs.ElementPushes.{elements_few}
-use Rattle.orc_asm.proofs.Whole.{list_slices, whole_runs}
+use Rattle.orc_region.proofs.Built.Turns.{elements_few}
+use Rattle.orc_asm.proofs.Function.Whole.{list_slices, whole_runs}
 use Rattle.orc_asm.proofs.assembly.code_of.Goals as goal
 
 pub whole_code-requires-clause-few : goal.whole_code-requires-clause-few

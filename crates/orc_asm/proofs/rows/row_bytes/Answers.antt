@@ -2,7 +2,7 @@ use Rattle.std.proofs.Common.{◌++◌, ap, ◌∙◌}
 use Rattle.x86_flow.specs.Flow.{spell_all}
 use Rattle.x86_flow.specs.Tree.{flat_of}
 use Rattle.orc_asm.specs.Rows.{row_entry_code, row_step_code}
-use Rattle.orc_asm.proofs.RowPushes.{row_assembled, spelled_entry, spelled_step}
+use Rattle.orc_asm.proofs.Row.Built.{row_assembled, spelled_entry, spelled_step}
 use Rattle.orc_asm.proofs.rows.row_bytes.Goals as goal
 
 pub put_list-requires : goal.put_list-requires

@@ -2,7 +2,7 @@ use Rattle.std.proofs.Common.{◌++◌, ap, ◌∙◌}
 use Rattle.x86_flow.specs.Flow.{Plain, flat, spell_all}
 use Rattle.x86_flow.specs.Tree.{flat_of}
 use Rattle.orc_asm.specs.Rows.{rows_code, row_flow}
-use Rattle.orc_asm.proofs.RowPushes.{whole_assembled, spelled_rows, row_fits}
+use Rattle.orc_asm.proofs.Row.Built.{whole_assembled, spelled_rows, row_fits}
 use Rattle.orc_asm.proofs.rows.whole_code.Goals as goal
 
 pub put_list-requires-2 : goal.put_list-requires-2

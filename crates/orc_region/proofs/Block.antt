@@ -1,0 +1,10 @@
+-- What the instructions of a block do: so many elements at once, as emulation does them one by one.
+pub mod Actions
+pub mod Cells
+pub mod Elements
+pub mod Emulated
+pub mod Frames
+pub mod Keeping
+pub mod Names
+pub mod Registers
+pub mod RuleRegisters

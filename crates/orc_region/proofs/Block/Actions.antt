@@ -1,0 +1,794 @@
+-- Blocks of actions do so many elements at once as emulation does them one by one.
+use Rattle.std.proofs.Common.{◌≡◌, ◌≢◌, ℕ, suc, ◌+◌, ◌*◌, ◌%◌, ◌^◌, ◌<◌, ◌≤◌, Bool, true, false, max, if◌then◌else◌, List, [], ◌∷◌, ◌++◌, get_or, Some, is_some, refl, sym, ap, ap₂, ◌∙◌, subst, arith, le_trans, map, ⊎_elim}
+use Rattle.std.proofs.lemmas.Bool.{cases_eq}
+use Rattle.std.proofs.Math.Nat.{le-max_left, le-max_right, mul-le-mul_left, mul-le-mul_right, mod-eq_of_lt, mod-mod}
+use Rattle.orc_bits.specs.Numbers.{cut}
+use Rattle.orc_bits.specs.Lanes.{lane, AreBytes, change}
+use Rattle.orc_bits.specs.Memory.{Memory, IsMapped}
+use Rattle.orc_bits.proofs.LaneLaws.{lane_of_digits, lane_one, lane-from_lanes, change_other, change_same}
+use Rattle.orc_bits.proofs.Memories.{or_else}
+use Rattle.orc_ops.specs.declared.opcode.Op.{Op}
+use Rattle.orc_ops.specs.Table.{row, wide, to, size_of_result, size_of_source}
+use Rattle.orc_ops.specs.Stems.{apply}
+use Rattle.orc_ops.specs.Formula.{formula, source_of}
+use Rattle.x86_ins.specs.declared.ins.Ins.{Ins}
+use Rattle.x86_ins.specs.declared.ins.Ins.TheVariants.{VecLoad, VecStore}
+use Rattle.x86_ins.specs.declared.ins.MoveOp.TheVariants.{Movdqu}
+use Rattle.x86_ins.specs.declared.ins.VecOp.TheVariants.{Movdqa}
+use Rattle.x86_ins.specs.Renaming.{renamed}
+use Rattle.x86_ins.specs.Vectors.{after, shape, result_of}
+use Rattle.x86_ins.specs.Machine.{Core, Bounded, with_lanes}
+use Rattle.x86_ins.specs.Spelling.{IsIns}
+use Rattle.x86_ins.specs.Way.{Each}
+use Rattle.x86_ins.proofs.Registers.{registers_after}
+use Rattle.x86_ins.proofs.Renamed.{after_renamed, simd_renamed}
+use Rattle.x86_flow.specs.Moves.{IsWidth, away, load_far_code, store_either_code}
+use Rattle.x86_flow.specs.Does.{Line}
+use Rattle.x86_flow.proofs.Moves.{IsFill, line_append, load_line_at, store_either_line}
+use Rattle.x86_flow.proofs.Plans.{rule_line}
+use Rattle.sse_laws.specs.Meets.{Meets, widest, size_beside, is_shift, second_of, results_at}
+use Rattle.sse_acc.specs.Sums.{AddsUp, sum_below, sum_of}
+use Rattle.sse_acc.specs.Sums.{number_of as adds_number}
+use Rattle.sse_acc.proofs.Totals.{sum_below-same}
+use Rattle.orc_program.specs.Meaning.{sub_lane, pack}
+use Rattle.orc_frame.specs.Layout.{pattern_slot, sum_slot}
+use Rattle.orc_frame.specs.Parts.{InRunning}
+use Rattle.orc_region.specs.Code.{Action, IsRule, Source, FromArray, FromPattern, FromPlace, Target, ToArray, ToSum, ToPlace, pointer, place_register, made_in, first_register, second_register, rule_register, rule_code, source_far_code, sources_far_code, sum_code, result_far_code, results_far_code, action_code, action_far_code, actions_far_code}
+use Rattle.orc_region.proofs.Block.RuleRegisters.{register_0, register_1, register_one, register_place, adds_renamed}
+use Rattle.orc_region.proofs.Block.Registers.{not_0}
+use Rattle.orc_region.proofs.Arithmetic.Digits.{digit, digit_small, byte_split, byte_within, byte_further}
+use Rattle.orc_region.proofs.Arithmetic.SubLanes.{lane_sub_lane, packed_bytes}
+use Rattle.orc_region.proofs.Checked.Sized.{one_shift, shift_two}
+use Rattle.orc_region.proofs.Block.Cells.{Numbers, OfDests, Local, given_by, given, adds_to, results_add, live_target, live_targets, live_act, Lanes, Others, AtElements, IsOf, IsTo, IsFrom, IsBeside, AreFrom, IsMade, AreMade, AreTo, IsKept, IsKnown, AllKnown, Separate, Low, set_local, set_target, set_results, value_of, local_act, local, adds, store_lanes, store_others}
+use Rattle.orc_region.proofs.Block.Keeping.{line_bounded, each_front, each_back}
+use Rattle.orc_region.proofs.Block.Frames.{IsFrame, Framed, framed_same, framed_totals, framed_grown, load_slot, store_slot, pattern_lane, same_sum, no_sum, adds_all, sum_both}
+
+-- so many elements can be moved at once
+abbrev pub IsMovedFrom : ℕ → (ℕ → ℕ) → Source → Type 0
+IsMovedFrom count size (FromArray k) = IsWidth (count * size k)
+IsMovedFrom count size (FromPattern j) = Unit {0}
+IsMovedFrom count size (FromPlace p) = Unit {0}
+
+abbrev pub IsMovedTo : ℕ → (ℕ → ℕ) → Target → Type 0
+IsMovedTo count size (ToArray k) = IsWidth (count * size k)
+IsMovedTo count size (ToSum g) = Unit {0}
+IsMovedTo count size (ToPlace p) = Unit {0}
+
+-- so many elements of the action's slots can be moved at once, and their lanes fit into a register
+pub record IsFit (count : ℕ) (size : ℕ → ℕ) (a : Action) : Type 0 where
+  pub to : Each (IsMovedTo count size) a.to
+  pub sources : Each (IsMovedFrom count size) a.sources
+  pub lanes : count * a.prefix * widest a.op ≤ 16
+  pub rule : IsRule count a.op a.rule
+  pub known : Each IsIns (action_code count size a)
+
+lane_fits : (q count w : ℕ) → q < count → count * w ≤ 16 → q * w + w ≤ 16
+lane_fits q count w l h =
+    let m : suc q * w ≤ count * w = mul-le-mul_right w (let p : suc q ≤ count = omega (arith, l) in p) in
+    let e : suc q * w ≡ q * w + w = omega arith in
+    omega (arith, m, e, h)
+
+no_lane : (x : List ℕ) (n q : ℕ) → n ≡ 0 → lane n q x ≡ 0
+no_lane x n q e = ap (λ w. lane w q x) e ∙ lane_of_digits x 0 q 0 (λ k l. absurd (omega (arith, l)))
+
+second_is : (op : Op) (q : ℕ) (x : ℕ → List ℕ) → is_shift (row op).kind ≡ false → second_of op q x ≡ lane (size_of_source op 1) q (x 1)
+second_is op q x e = ap (λ b. if b then lane 8 0 (x 1) else lane (size_of_source op 1) q (x 1)) e
+
+-- a copy has the register's bytes
+copied_byte : (x y : List ℕ) → AreBytes y → (j : ℕ) → j < 16 → get_or (result_of (shape Movdqa) x y) j 0 ≡ get_or y j 0
+copied_byte x y bytes j l =
+    let z = result_of (shape Movdqa) x y in
+    let there : lane 1 j z ≡ lane 1 j y % 256 ^ 1 = lane-from_lanes 1 (λ q. lane 1 q y) j (omega arith) (omega (arith, l)) in
+    let small = bytes j in
+    sym (lane_one j z) ∙ there ∙ ap (λ v. v % 256 ^ 1) (lane_one j y) ∙ mod-eq_of_lt small
+
+-- ---- a formula cuts its sources
+
+cut_twice : (w v : ℕ) → v % 2 ^ w % 2 ^ w ≡ v % 2 ^ w
+cut_twice w v = mod-mod v (2 ^ w)
+
+formula_first : (op : Op) (v b : ℕ) → formula op (v % 2 ^ (8 * size_of_source op 0)) b ≡ formula op v b
+unfolding formula
+formula_first op v b = ap (λ x. apply (row op).stem (wide op) (to op) x (source_of op 1 b)) (cut_twice (8 * size_of_source op 0) v)
+
+formula_second : (op : Op) (a v : ℕ) → formula op a (v % 2 ^ (8 * size_of_source op 1)) ≡ formula op a v
+unfolding formula
+formula_second op a v = ap (λ x. apply (row op).stem (wide op) (to op) (source_of op 0 a) x) (cut_twice (8 * size_of_source op 1) v)
+
+-- the bytes of the first source, and of a second one that is no count
+first_width : (op : Op) → size_of_source op 0 ≤ widest op
+first_width op = within (size_of_result op 0) (size_of_result op 1) (size_of_source op 0) (size_beside op)
+  where
+    within : (a b c d : ℕ) → c ≤ max (max a b) (max c d)
+    within a b c d = le_trans (le-max_left c d) (le-max_right (max a b) (max c d))
+
+second_width : (op : Op) → is_shift (row op).kind ≡ false → size_of_source op 1 ≤ widest op
+second_width op e = subst (λ n. n ≤ widest op) (ap (λ b. if b then 0 else size_of_source op 1) e) (within (size_of_result op 0) (size_of_result op 1) (size_of_source op 0) (size_beside op))
+  where
+    within : (a b c d : ℕ) → d ≤ max (max a b) (max c d)
+    within a b c d = le_trans (le-max_right c d) (le-max_right (max a b) (max c d))
+
+narrower : (q w v : ℕ) → w ≤ v → q * v + v ≤ 16 → q * w + w ≤ 16
+narrower q w v l h = let m : suc q * w ≤ suc q * v = mul-le-mul_left (suc q) l in let a : suc q * w ≡ q * w + w = omega arith in let b : suc q * v ≡ q * v + v = omega arith in omega (arith, m, a, b, h)
+
+-- ---- so many elements from one on
+
+-- what a turn does its work on: n elements of arrays, patterns and running sums, with RSP at `rsp`
+pub record Ground (n : ℕ) (base size : ℕ → ℕ) (P : ℕ → Type 0) (numbers : Numbers) (rsp : ℕ) : Type 0 where
+  pub separate : Separate n base size P
+  pub low : Low n base size P
+  pub frame : IsFrame numbers rsp
+  -- arrays lie outside the frame
+  pub apart : (k : ℕ) → P k → (i : ℕ) → i < n → (r : ℕ) → r < size k → rsp ≤ base k + i * size k + r → base k + i * size k + r < rsp + 1024 → ⊥
+
+module _ (n : ℕ) (base size : ℕ → ℕ) (P : ℕ → Type 0) (numbers : Numbers) (rsp : ℕ) (ground : Ground n base size P numbers rsp) (Q : Core → Ins → Type 0) (far : ℕ → ℕ) (aligned : ℕ → Bool) (count : ℕ) (some : 0 < count) where
+  separate : Separate n base size P
+  separate = ground.separate
+
+  low : Low n base size P
+  low = ground.low
+
+  -- but for dests' cells of these elements and for running sums memory is as at first
+  abbrev pub Rest : ℕ → Memory → Memory → Type 0
+  Rest i first mem = (a : ℕ) → (AtElements n base size (OfDests P) i count a → ⊥) → (InRunning rsp numbers.sums a → ⊥) → mem a ≡ first a
+
+  -- what lets Q be known at each step: but for RAX the general registers stand, and only dests' cells of these elements and running sums have changed
+  abbrev pub Keeps : ℕ → (ℕ → ℕ) → Memory → Type 0
+  Keeps i gpr first = (u : Core) (ins : Ins) → ((r : ℕ) → r ≢ 0 → u.gpr r ≡ gpr r) → Rest i first u.memory → Q u ins
+
+  -- what lets it be known while memory stands
+  abbrev Stays : Core → Type 0
+  Stays c = (u : Core) (ins : Ins) → u.memory ≡ c.memory → ((r : ℕ) → r ≢ 0 → u.gpr r ≡ c.gpr r) → Q u ins
+
+  -- the pointers of the arrays that have bytes, and what aligned stores ask
+  abbrev pub Points : ℕ → (ℕ → ℕ) → Type 0
+  Points i gpr = (k : ℕ) → P k → 0 < size k → (gpr (pointer k) + far k ≡ base k + i * size k) × (aligned k ≡ true → (count * size k ≡ 16) × ((base k + i * size k) % 16 ≡ 0))
+
+  -- at a place stands a value of so many bytes an element, of each of the elements
+  abbrev pub StandsAt : (ℕ → ℕ) → (ℕ → Local) → (ℕ → List ℕ) → ℕ → Type 0
+  StandsAt live sig x p = (q : ℕ) → q < count → (r : ℕ) → r < live p → get_or (x (place_register p)) (q * live p + r) 0 ≡ digit ((sig q).values p) r
+
+  abbrev pub Standing : (ℕ → ℕ) → (ℕ → Local) → (ℕ → List ℕ) → Type 0
+  Standing live sig x = (p : ℕ) → p < 10 → StandsAt live sig x p
+
+  -- what a block leaves
+  pub record After (i : ℕ) (c d : Core) (first : Memory) (live : ℕ → ℕ) (sig : ℕ → Local) (totals : ℕ → ℕ) : Type 0 where
+    pub gpr : (r : ℕ) → r ≢ 0 → d.gpr r ≡ c.gpr r
+    pub lanes : Lanes n base size P i count d.memory sig
+    pub standing : Standing live sig d.xmm
+    pub framed : Framed numbers rsp d.memory totals
+    pub others : Rest i first d.memory
+    pub bounded : Bounded d
+
+  near : (i k b : ℕ) → IsOf n base size P k b → i + count ≤ n → base k + i * size k + 16 < 2 ^ 63
+  near i k b o w = let l = low k o.array i (omega (arith, w, some)) 0 o.some in omega (arith, l)
+
+  -- a byte of these elements, by its distance from the first
+  byte_at : (i k b : ℕ) (mem : Memory) (sig : ℕ → Local) → IsOf n base size P k b → Lanes n base size P i count mem sig → (q r : ℕ) → q < count → r < size k → mem (base k + i * size k + (q * size k + r)) ≡ Some (digit ((sig q).cells k) r)
+  byte_at i k b mem sig o h q r l lr = ap mem (sym (byte_further (base k) i q (size k) r)) ∙ h k o.array q l r lr
+
+  each_byte : (i k b : ℕ) (mem : Memory) (sig : ℕ → Local) → IsOf n base size P k b → Lanes n base size P i count mem sig → (j : ℕ) → j < count * size k → (v : ℕ) × (v < 256) × (mem (base k + i * size k + j) ≡ Some v)
+  each_byte i k b mem sig o h j l =
+      let x = byte_split (size k) count j l in
+      (digit ((sig x.0).cells k) x.1, digit_small ((sig x.0).cells k) x.1, ap (λ t. mem (base k + i * size k + t)) x.4 ∙ byte_at i k b mem sig o h x.0 x.1 x.2 x.3)
+
+  -- what a load leaves: sub-lanes of w bytes, `prefix` of them for each element
+  record Got (k w prefix x : ℕ) (sig : ℕ → Local) (c d : Core) : Type 0 where
+    memory : d.memory ≡ c.memory
+    gpr : (r : ℕ) → r ≢ 0 → d.gpr r ≡ c.gpr r
+    others : (y : ℕ) → y ≢ x → d.xmm y ≡ c.xmm y
+    lanes : AreBytes (d.xmm x) → (q : ℕ) → q < count → (p : ℕ) → p < prefix → lane w (q * prefix + p) (d.xmm x) ≡ sub_lane (8 * w) ((sig q).cells k) p
+
+  load_cells : (i k w prefix x : ℕ) (c : Core) (sig : ℕ → Local) → IsOf n base size P k (w * prefix) → IsWidth (count * size k) → i + count ≤ n → Points i c.gpr → Lanes n base size P i count c.memory sig → Stays c
+      → (d : Core) × Line Q (load_far_code (count * size k) x (pointer k) (far k)) c d × Got k w prefix x sig c d
+  load_cells i k w prefix x c sig o wide fits at h stays =
+      let b = w * prefix in
+      let p = base k + i * size k in
+      let z : ℕ → ℕ = λ j. or_else 0 (c.memory (p + j)) in
+      let byte = each_byte i k b c.memory sig o h in
+      let there : (j : ℕ) → j < count * size k → c.memory (p + j) ≡ Some (z j) = λ j l. let v = byte j l in v.2 ∙ ap (λ m. Some (or_else 0 m)) (sym v.2) in
+      let small : (j : ℕ) → j < count * size k → z j < 256 = λ j l. let v = byte j l in subst (λ m. or_else 0 m < 256) (sym v.2) v.1 in
+      let l = load_line_at Q c (count * size k) x (pointer k) (far k) p z (λ u ins m g t. stays u ins m g) wide (at k o.array o.some).0 (near i k b o fits) there (λ two. small 0 (omega (arith, two))) in
+      let d = l.0 in
+      let g = l.2 in
+      let digits : AreBytes (d.xmm x) → (q : ℕ) → q < count → (r : ℕ) → r < size k → get_or (d.xmm x) (q * size k + r) 0 ≡ digit ((sig q).cells k) r = λ bytes q lq r lr.
+      let j = q * size k + r in
+      let lj = byte_within q count (size k) r lq lr in
+      let is : z j ≡ digit ((sig q).cells k) r = ap (or_else 0) (byte_at i k b c.memory sig o h q r lq lr) in
+      let full : get_or (d.xmm x) j 0 ≡ get_or (d.xmm x) j 0 % 256 = sym (mod-eq_of_lt (bytes j)) in
+      let cut : z j % 256 ≡ z j = mod-eq_of_lt (small j lj) in
+      full ∙ g.bytes j lj ∙ cut ∙ is in (
+        d,
+        l.1,
+        record {
+          memory = g.memory;
+          gpr = g.gpr;
+          others = g.others;
+          lanes = λ bytes q lq. lane_sub_lane (d.xmm x) w prefix q ((sig q).cells k) (subst (λ s. (r : ℕ) → r < s → get_or (d.xmm x) (q * s + r) 0 ≡ digit ((sig q).cells k) r) o.bytes_are (digits bytes q lq));
+        },
+      )
+
+  -- what a source leaves in a register: its sub-lanes, or a pattern's bytes
+  abbrev InRegister : ℕ → ℕ → (ℕ → Local) → Source → List ℕ → Type 0
+  InRegister w prefix sig (FromArray k) x = (q : ℕ) → q < count → (p : ℕ) → p < prefix → lane w (q * prefix + p) x ≡ sub_lane (8 * w) ((sig q).cells k) p
+  InRegister w prefix sig (FromPattern j) x = (b : ℕ) → b < 16 → get_or x b 0 ≡ digit (numbers.number j) (b % numbers.period j)
+  InRegister w prefix sig (FromPlace k) x = (q : ℕ) → q < count → (p : ℕ) → p < prefix → lane w (q * prefix + p) x ≡ sub_lane (8 * w) ((sig q).values k) p
+
+  -- what a source at a place is loaded from
+  abbrev IsThere : (ℕ → ℕ) → (ℕ → Local) → (ℕ → List ℕ) → Source → Type 0
+  IsThere live sig x (FromArray k) = Unit {0}
+  IsThere live sig x (FromPattern j) = Unit {0}
+  IsThere live sig x (FromPlace p) = StandsAt live sig x p
+
+  is_there : (live : ℕ → ℕ) (sig : ℕ → Local) (x : ℕ → List ℕ) (w prefix : ℕ) (s : Source) → IsFrom n base size P numbers live w prefix s → Standing live sig x → IsThere live sig x s
+  is_there live sig x w prefix (FromArray k) o stand = tt
+  is_there live sig x w prefix (FromPattern j) o stand = tt
+  is_there live sig x w prefix (FromPlace p) o stand = stand p o.0
+
+  -- the elements of a value fit into a register
+  abbrev HasRoom : ℕ → ℕ → Source → Type 0
+  HasRoom w prefix (FromArray k) = Unit {0}
+  HasRoom w prefix (FromPattern j) = Unit {0}
+  HasRoom w prefix (FromPlace p) = count * (w * prefix) ≤ 16
+
+  -- it stays where another register was loaded
+  there_still : (live : ℕ → ℕ) (sig : ℕ → Local) (x y : ℕ → List ℕ) (a b : ℕ) (s : Source) (ts : List Target) → a ≡ first_register ts → IsKept n base size P numbers ts s → ((z : ℕ) → z ≢ a → y z ≡ x z) → IsThere live sig x s → IsThere live sig y s
+  there_still live sig x y a b (FromArray k) ts e kept same h = tt
+  there_still live sig x y a b (FromPattern j) ts e kept same h = tt
+  there_still live sig x y a b (FromPlace p) ts e kept same h = λ q l r lr. ap (λ v. get_or v (q * live p + r) 0) (same (place_register p) (λ z. kept.0 (sym e ∙ sym z))) ∙ h q l r lr
+
+  record GotFrom (s : Source) (w prefix x : ℕ) (sig : ℕ → Local) (c d : Core) : Type 0 where
+    memory : d.memory ≡ c.memory
+    gpr : (r : ℕ) → r ≢ 0 → d.gpr r ≡ c.gpr r
+    others : (y : ℕ) → y ≢ x → d.xmm y ≡ c.xmm y
+    lanes : AreBytes (d.xmm x) → InRegister w prefix sig s (d.xmm x)
+
+  load_source : (i : ℕ) (s : Source) (w prefix x : ℕ) (c : Core) (live : ℕ → ℕ) (sig : ℕ → Local) (totals : ℕ → ℕ) → IsFrom n base size P numbers live w prefix s → IsMovedFrom count size s → i + count ≤ n → Points i c.gpr → c.gpr 4 ≡ rsp
+      → Lanes n base size P i count c.memory sig → Framed numbers rsp c.memory totals → IsThere live sig c.xmm s → HasRoom w prefix s → Bounded c → Stays c → (d : Core) × Line Q (source_far_code count size far x s) c d × GotFrom s w prefix x sig c d
+  load_source i (FromArray k) w prefix x c live sig totals o wide fits at stack h framed there room bound stays =
+      let l = load_cells i k w prefix x c sig o wide fits at h stays in
+      (l.0, l.1, record { memory = l.2.memory; gpr = l.2.gpr; others = l.2.others; lanes = l.2.lanes })
+  load_source i (FromPattern j) w prefix x c live sig totals o wide fits at stack h framed there room bound stays =
+      let l = load_slot c x rsp (pattern_slot j) (λ b. digit (numbers.number j) (b % numbers.period j)) stack (omega (arith, ground.frame.low, ground.frame.few_patterns, o.0)) (framed.patterns j o.0) in (
+        l.0,
+        (stays c _ refl (λ r ne. refl), (l.0, l.1, refl)),
+        record { memory = l.2.memory; gpr = λ r ne. ap (λ f. f r) l.2.gpr; others = l.2.others; lanes = λ bytes. l.2.bytes },
+      )
+  load_source i (FromPlace p) w prefix x c live sig totals o wide fits at stack h framed there room bound stays =
+      let y = place_register p in
+      let new = result_of (shape Movdqa) (c.xmm x) (c.xmm y) in
+      let d : Core = with_lanes c (change c.xmm x new) in
+      let byte : (q : ℕ) → q < count → (r : ℕ) → r < w * prefix → get_or (d.xmm x) (q * (w * prefix) + r) 0 ≡ digit ((sig q).values p) r = λ q lq r lr.
+      ap (λ v. get_or v (q * (w * prefix) + r) 0) (change_same c.xmm x new)
+      ∙ copied_byte (c.xmm x) (c.xmm y) (bound.xmm y) (q * (w * prefix) + r) (let within = byte_within q count (w * prefix) r lq lr in omega (arith, within, room))
+      ∙ subst (λ s. (r : ℕ) → r < s → get_or (c.xmm y) (q * s + r) 0 ≡ digit ((sig q).values p) r) o.1 (there q lq) r lr in (
+        d,
+        (stays c _ refl (λ r ne. refl), (d, refl, refl)),
+        record {
+          memory = refl;
+          gpr = λ r ne. refl;
+          others = λ z ne. change_other c.xmm x new z ne;
+          lanes = λ bytes q lq. lane_sub_lane (d.xmm x) w prefix q ((sig q).values p) (byte q lq);
+        },
+      )
+
+  -- the first source of a lane
+  first_value : (op : Op) (prefix : ℕ) (s : Source) (live : ℕ → ℕ) (sig : ℕ → Local) (x : List ℕ) → IsFrom n base size P numbers live (size_of_source op 0) prefix s → InRegister (size_of_source op 0) prefix sig s x
+      → (q : ℕ) → q < count → (p : ℕ) → p < prefix → (q * prefix + p) * widest op + widest op ≤ 16 → (b : ℕ) → formula op (lane (size_of_source op 0) (q * prefix + p) x) b ≡ formula op (given_by numbers.number (size_of_source op 0) (sig q) s p) b
+  first_value op prefix (FromArray k) live sig x o h q l p lp fits b = ap (λ v. formula op v b) (h q l p lp)
+  first_value op prefix (FromPlace k) live sig x o h q l p lp fits b = ap (λ v. formula op v b) (h q l p lp)
+  first_value op prefix (FromPattern j) live sig x o h q l p lp fits b =
+      ap (λ v. formula op v b) (pattern_lane x (size_of_source op 0) (numbers.number j) (q * prefix + p) (λ k lk. h k lk ∙ ap (λ w. digit (numbers.number j) (k % w)) o.1) (narrower (q * prefix + p) (size_of_source op 0) (widest op) (first_width op) fits))
+      ∙ formula_first op (numbers.number j) b
+
+  -- and the second, or the count
+  second_value : (op : Op) (prefix : ℕ) (s : Source) (live : ℕ → ℕ) (sig : ℕ → Local) (x : ℕ → List ℕ) → IsFrom n base size P numbers live (size_of_source op 1) prefix s → IsBeside n base size P numbers op s → InRegister (size_of_source op 1) prefix sig s (x 1)
+      → (q : ℕ) → q < count → (p : ℕ) → p < prefix → (q * prefix + p) * widest op + widest op ≤ 16 → (a : ℕ) → formula op a (second_of op (q * prefix + p) x) ≡ formula op a (given_by numbers.number (size_of_source op 1) (sig q) s p)
+  second_value op prefix (FromArray k) live sig x o plain h q l p lp fits a = ap (formula op a) (second_is op (q * prefix + p) x plain ∙ h q l p lp)
+  second_value op prefix (FromPlace k) live sig x o plain h q l p lp fits a = ap (formula op a) (second_is op (q * prefix + p) x plain ∙ h q l p lp)
+  second_value op prefix (FromPattern j) live sig x o plain h q l p lp fits a = go (is_shift (row op).kind) refl
+    where
+      bytes : (k : ℕ) → k < 16 → get_or (x 1) k 0 ≡ digit (numbers.number j) (k % size_of_source op 1)
+      bytes k lk = h k lk ∙ ap (λ w. digit (numbers.number j) (k % w)) o.1
+
+      at_lane : (t : ℕ) → t * size_of_source op 1 + size_of_source op 1 ≤ 16 → formula op a (lane (size_of_source op 1) t (x 1)) ≡ formula op a (numbers.number j)
+      at_lane t room = ap (formula op a) (pattern_lane (x 1) (size_of_source op 1) (numbers.number j) t bytes room) ∙ formula_second op a (numbers.number j)
+
+      go : (b : Bool) → is_shift (row op).kind ≡ b → formula op a (second_of op (q * prefix + p) x) ≡ formula op a (numbers.number j)
+      go false e = ap (formula op a) (second_is op (q * prefix + p) x e) ∙ at_lane (q * prefix + p) (narrower (q * prefix + p) (size_of_source op 1) (widest op) (second_width op e) fits)
+      go true e =
+          let eight : size_of_source op 1 ≡ 8 = shift_two op e in
+          ap (λ b. formula op a (if b then lane 8 0 (x 1) else lane (size_of_source op 1) (q * prefix + p) (x 1))) e
+          ∙ ap (λ w. formula op a (lane w 0 (x 1))) (sym eight) ∙ at_lane 0 (omega (arith, eight))
+
+  -- what an opcode makes of each sub-lane
+  abbrev made : Op → Local → List Source → ℕ → ℕ × ℕ
+  made op l ss p = formula op ((given numbers.number op l ss).0 p) ((given numbers.number op l ss).1 p)
+
+  -- the registers hold an action's sources
+  abbrev Values : Op → ℕ → List Source → (ℕ → Local) → (ℕ → List ℕ) → Type 0
+  Values op prefix ss sig x = (q : ℕ) → q < count → (p : ℕ) → p < prefix → results_at op (q * prefix + p) x ≡ made op (sig q) ss p
+
+  abbrev Fits : Op → ℕ → Type 0
+  Fits op prefix = (q : ℕ) → q < count → (p : ℕ) → p < prefix → (q * prefix + p) * widest op + widest op ≤ 16
+
+  -- what the loads of an action's sources to registers a and b leave
+  record Read (op : Op) (prefix : ℕ) (ss : List Source) (sig : ℕ → Local) (a b : ℕ) (c d : Core) : Type 0 where
+    memory : d.memory ≡ c.memory
+    gpr : (r : ℕ) → r ≢ 0 → d.gpr r ≡ c.gpr r
+    others : (y : ℕ) → y ≢ a → y ≢ b → d.xmm y ≡ c.xmm y
+    bounded : Bounded d
+    value : (x : ℕ → List ℕ) → x 0 ≡ d.xmm a → x 1 ≡ d.xmm b → Values op prefix ss sig x
+
+  -- the elements of sources fit into a register
+  record Room (op : Op) (prefix : ℕ) : Type 0 where
+    first : count * (size_of_source op 0 * prefix) ≤ 16
+    second : is_shift (row op).kind ≡ false → count * (size_of_source op 1 * prefix) ≤ 16
+
+  first_room : (op : Op) (prefix : ℕ) (s : Source) → Room op prefix → HasRoom (size_of_source op 0) prefix s
+  first_room op prefix (FromArray k) room = tt
+  first_room op prefix (FromPattern j) room = tt
+  first_room op prefix (FromPlace p) room = room.first
+
+  second_room : (op : Op) (prefix : ℕ) (s : Source) → IsBeside n base size P numbers op s → Room op prefix → HasRoom (size_of_source op 1) prefix s
+  second_room op prefix (FromArray k) plain room = tt
+  second_room op prefix (FromPattern j) plain room = tt
+  second_room op prefix (FromPlace p) plain room = room.second plain
+
+  sources_line : (i : ℕ) (op : Op) (prefix : ℕ) (ss : List Source) (ts : List Target) (c : Core) (live : ℕ → ℕ) (sig : ℕ → Local) (totals : ℕ → ℕ) → AreFrom n base size P numbers live op prefix ss → Each (IsKept n base size P numbers ts) ss → first_register ts ≢ second_register ts
+      → Fits op prefix → Room op prefix → Each (IsMovedFrom count size) ss → Each IsIns (sources_far_code count size far (first_register ts) (second_register ts) ss) → i + count ≤ n
+      → Points i c.gpr → c.gpr 4 ≡ rsp → Lanes n base size P i count c.memory sig → Framed numbers rsp c.memory totals → Standing live sig c.xmm → Bounded c → Stays c
+      → (d : Core) × Line Q (sources_far_code count size far (first_register ts) (second_register ts) ss) c d × Read op prefix ss sig (first_register ts) (second_register ts) c d
+  sources_line i op prefix [] ts c live sig totals known kept apart fits room wide ins w at stack h framed stand bound stays = absurd known
+  sources_line i op prefix (s ∷ []) ts c live sig totals known kept apart fits room wide ins w at stack h framed stand bound stays =
+      let a = first_register ts in
+      let x = load_source i s (size_of_source op 0) prefix a c live sig totals known.0 wide.0 w at stack h framed (is_there live sig c.xmm (size_of_source op 0) prefix s known.0 stand) (first_room op prefix s room) bound stays in
+      let d = x.0 in
+      let b = line_bounded Q (source_far_code count size far a s) c d ins x.1 bound in (
+        d,
+        x.1,
+        record {
+          memory = x.2.memory;
+          gpr = x.2.gpr;
+          others = λ y na nb. x.2.others y na;
+          bounded = b;
+          value = λ v e0 e1 q l p lp.
+              ap (formula op (lane (size_of_source op 0) (q * prefix + p) (v 0))) (second_is op (q * prefix + p) v (one_shift op known.1) ∙ no_lane (v 1) (size_of_source op 1) (q * prefix + p) known.1)
+              ∙ first_value op prefix s live sig (v 0) known.0 (subst (InRegister (size_of_source op 0) prefix sig s) (sym e0) (x.2.lanes (b.xmm a))) q l p lp (fits q l p lp) 0;
+        },
+      )
+  sources_line i op prefix (s ∷ t ∷ more) ts c live sig totals known kept apart fits room wide ins w at stack h framed stand bound stays =
+      let a = first_register ts in
+      let e = second_register ts in
+      let one = source_far_code count size far a s in
+      let two = source_far_code count size far e t in
+      let x = load_source i s (size_of_source op 0) prefix a c live sig totals known.0 wide.0 w at stack h framed (is_there live sig c.xmm (size_of_source op 0) prefix s known.0 stand) (first_room op prefix s room) bound stays in
+      let b = x.0 in
+      let at' : Points i b.gpr = λ j hj s. (ap (λ y. y + far j) (x.2.gpr (pointer j) (not_0 j)) ∙ (at j hj s).0, (at j hj s).1) in
+      let h' : Lanes n base size P i count b.memory sig = λ j hj q l r lr. ap (λ f. f (base j + (i + q) * size j + r)) x.2.memory ∙ h j hj q l r lr in
+      let there : IsThere live sig b.xmm t = there_still live sig c.xmm b.xmm a e t ts refl kept.1.0 (λ z ne. x.2.others z ne) (is_there live sig c.xmm (size_of_source op 1) prefix t known.1 stand) in
+      let y = load_source i t (size_of_source op 1) prefix e b live sig totals known.1 wide.1.0 w at' (x.2.gpr 4 (λ e. omega (arith, e)) ∙ stack) h' (subst (λ m. Framed numbers rsp m totals) (sym x.2.memory) framed) there (second_room op prefix t known.2 room) (line_bounded Q one c b (each_front IsIns one two ins) x.1 bound) (λ u i m g. stays u i (m ∙ x.2.memory) (λ r ne. g r ne ∙ x.2.gpr r ne)) in
+      let d = y.0 in
+      let line : Line Q (one ++ two) c d = line_append Q one two c b d x.1 y.1 in
+      let bd = line_bounded Q (one ++ two) c d ins line bound in
+      let same : d.xmm a ≡ b.xmm a = y.2.others a apart in
+      let first : InRegister (size_of_source op 0) prefix sig s (d.xmm a) = subst (InRegister (size_of_source op 0) prefix sig s) (sym same) (x.2.lanes (subst AreBytes same (bd.xmm a))) in (
+        d,
+        line,
+        record {
+          memory = y.2.memory ∙ x.2.memory;
+          gpr = λ r ne. y.2.gpr r ne ∙ x.2.gpr r ne;
+          others = λ z na nb. y.2.others z nb ∙ x.2.others z na;
+          bounded = bd;
+          value = λ v e0 e1 q l p lp.
+              second_value op prefix t live sig v known.1 known.2 (subst (InRegister (size_of_source op 1) prefix sig t) (sym e1) (y.2.lanes (bd.xmm e))) q l p lp (fits q l p lp) (lane (size_of_source op 0) (q * prefix + p) (v 0))
+              ∙ first_value op prefix s live sig (v 0) known.0 (subst (InRegister (size_of_source op 0) prefix sig s) (sym e0) first) q l p lp (fits q l p lp) (given_by numbers.number (size_of_source op 1) (sig q) t p);
+        },
+      )
+
+  -- what a store of packed numbers leaves
+  record Put (i k : ℕ) (v : ℕ → ℕ) (sig : ℕ → Local) (c d : Core) : Type 0 where
+    gpr : (r : ℕ) → r ≢ 0 → d.gpr r ≡ c.gpr r
+    xmm : d.xmm ≡ c.xmm
+    lanes : Lanes n base size P i count d.memory (λ q. set_local n base size P (sig q) k (v q))
+    others : Others n base size (OfDests P) i count c.memory d.memory
+
+  store_cells : (i k w prefix x : ℕ) (g : ℕ → ℕ → ℕ) (c : Core) (sig : ℕ → Local) → IsTo n base size P k (w * prefix) → IsWidth (count * size k) → i + count ≤ n → Points i c.gpr → Lanes n base size P i count c.memory sig → Stays c
+      → AreBytes (c.xmm x) → ((q : ℕ) → q < count → (p : ℕ) → p < prefix → lane w (q * prefix + p) (c.xmm x) ≡ g q p)
+      → (d : Core) × Line Q (store_either_code (aligned k) (count * size k) x (pointer k) (far k)) c d × Put i k (λ q. pack (8 * w) prefix (g q)) sig c d
+  store_cells i k w prefix x g c sig o wide fits at h stays bytes lanes =
+      let b = w * prefix in
+      let p = base k + i * size k in
+      let v : ℕ → ℕ = λ q. pack (8 * w) prefix (g q) in
+      let z : ℕ → ℕ = λ j. get_or (c.xmm x) j 0 in
+      let there : (j : ℕ) → j < count * size k → IsMapped c.memory (p + j) = λ j l. ap is_some (each_byte i k b c.memory sig o.of h j l).2 in
+      let s = store_either_line Q c (aligned k) (count * size k) x (pointer k) (far k) p (at k o.of.array o.of.some).1 (λ u ins m g t. stays u ins m g) wide (not_0 k) (at k o.of.array o.of.some).0 (near i k b o.of fits) there bytes in
+      let d = s.0 in
+      let numbers : (q r : ℕ) → q < count → r < size k → z (q * size k + r) ≡ digit (v q) r = λ q r l.
+      subst (λ t. r < t → z (q * t + r) ≡ digit (v q) r) (sym o.of.bytes_are) (packed_bytes (c.xmm x) bytes w prefix q (g q) (lanes q l) r) in (
+        d,
+        s.1,
+        record {
+          gpr = s.2.gpr;
+          xmm = s.2.xmm;
+          lanes = store_lanes n base size P separate low i count c.memory d.memory sig k z v o.of.array o.of.some fits h s.2.memory numbers;
+          others = store_others n base size (OfDests P) i count c.memory d.memory k z (o.of.array, o.dest) s.2.memory;
+        },
+      )
+
+  -- registers a and b hold these numbers
+  record Holds (op : Op) (prefix : ℕ) (g : ℕ → ℕ → ℕ × ℕ) (x : ℕ → List ℕ) (a b : ℕ) : Type 0 where
+    bytes : (r : ℕ) → AreBytes (x r)
+    first : (q : ℕ) → q < count → (p : ℕ) → p < prefix → lane (size_of_result op 0) (q * prefix + p) (x a) ≡ (g q p).0
+    second : (q : ℕ) → q < count → (p : ℕ) → p < prefix → lane (size_of_result op 1) (q * prefix + p) (x b) ≡ (g q p).1
+
+  abbrev packed : Op → ℕ → (ℕ → ℕ × ℕ) → ℕ × ℕ
+  packed op prefix g = (pack (8 * size_of_result op 0) prefix (λ p. (g p).0), pack (8 * size_of_result op 1) prefix (λ p. (g p).1))
+
+  -- what the rule and the stores of an action leave
+  record Wrote (i : ℕ) (op : Op) (prefix : ℕ) (ts : List Target) (v : ℕ → ℕ × ℕ) (live : ℕ → ℕ) (sig : ℕ → Local) (totals : ℕ → ℕ) (first : Memory) (c d : Core) : Type 0 where
+    gpr : (r : ℕ) → r ≢ 0 → d.gpr r ≡ c.gpr r
+    lanes : Lanes n base size P i count d.memory (λ q. set_results n base size P (sig q) ts (v q))
+    standing : Standing (live_targets live op prefix ts) (λ q. set_results n base size P (sig q) ts (v q)) d.xmm
+    framed : Framed numbers rsp d.memory (λ g. totals g + sum_below count (λ q. results_add ts (v q) g))
+    others : Rest i first d.memory
+
+  -- what holds while memory stands
+  stay : (i : ℕ) (c : Core) (gpr : ℕ → ℕ) (first : Memory) → ((r : ℕ) → r ≢ 0 → c.gpr r ≡ gpr r) → Rest i first c.memory → Keeps i gpr first → Stays c
+  stay i c gpr first e o keeps u ins m g = keeps u ins (λ r ne. g r ne ∙ e r ne) (λ v out sums. ap (λ f. f v) m ∙ o v out sums)
+
+  rest_more : (i : ℕ) (first c d : Memory) → Rest i first c → Others n base size (OfDests P) i count c d → Rest i first d
+  rest_more i first c d o x a m s = x a m ∙ o a m s
+
+  -- stores to cells leave the frame
+  frame_kept : (i : ℕ) (c d : Memory) (totals : ℕ → ℕ) → i + count ≤ n → Others n base size (OfDests P) i count c d → Framed numbers rsp c totals → Framed numbers rsp d totals
+  frame_kept i c d totals w o = framed_same numbers rsp ground.frame c d totals (λ x l u. o x (λ at. ground.apart at.0 at.1.0 (i + at.2) (omega (arith, at.3, w)) at.4 at.5 (subst (λ a. rsp ≤ a) at.6 l) (subst (λ a. a < rsp + 1024) at.6 u)))
+
+  nothing_added : (totals : ℕ → ℕ) (mem : Memory) (g : ℕ → ℕ → ℕ) → ((q h : ℕ) → g q h ≡ 0) → Framed numbers rsp mem totals → Framed numbers rsp mem (λ h. totals h + sum_below count (λ q. g q h))
+  nothing_added totals mem g none = framed_totals numbers rsp mem totals (λ h. totals h + sum_below count (λ q. g q h)) (λ h. let e = sum_below-same count (λ q. g q h) (λ q. 0) (λ q l. none q h) ∙ no_sum count in omega (arith, e))
+
+  -- ---- results that are no running sums
+
+  -- what one result leaves: cells are stored, and what goes to a place stands there
+  record Result (i : ℕ) (t : Target) (v : ℕ → ℕ) (sig : ℕ → Local) (totals : ℕ → ℕ) (first : Memory) (c d : Core) : Type 0 where
+    gpr : (r : ℕ) → r ≢ 0 → d.gpr r ≡ c.gpr r
+    xmm : d.xmm ≡ c.xmm
+    lanes : Lanes n base size P i count d.memory (λ q. set_target n base size P (sig q) t (v q))
+    framed : Framed numbers rsp d.memory totals
+    others : Rest i first d.memory
+
+  result_line : (i w prefix x : ℕ) (t : Target) (g : ℕ → ℕ → ℕ) (c : Core) (first : Memory) (sig : ℕ → Local) (totals : ℕ → ℕ) → IsMade n base size P numbers (w * prefix) t → IsMovedTo count size t → i + count ≤ n
+      → Points i c.gpr → Lanes n base size P i count c.memory sig → Framed numbers rsp c.memory totals → AreBytes (c.xmm (made_in x t)) → ((q : ℕ) → q < count → (p : ℕ) → p < prefix → lane w (q * prefix + p) (c.xmm (made_in x t)) ≡ g q p) → Rest i first c.memory → Keeps i c.gpr first
+      → (d : Core) × Line Q (result_far_code count size far aligned x t) c d × Result i t (λ q. pack (8 * w) prefix (g q)) sig totals first c d
+  result_line i w prefix x (ToSum k) g c first sig totals known wide fits at h framed bytes lanes o keeps = absurd known
+  result_line i w prefix x (ToPlace p) g c first sig totals known wide fits at h framed bytes lanes o keeps = (c, refl, record { gpr = λ r ne. refl; xmm = refl; lanes = h; framed = framed; others = o })
+  result_line i w prefix x (ToArray k) g c first sig totals known wide fits at h framed bytes lanes o keeps =
+      let s = store_cells i k w prefix x g c sig known wide fits at h (stay i c c.gpr first (λ r ne. refl) o keeps) bytes lanes in (
+        s.0,
+        s.1,
+        record {
+          gpr = s.2.gpr;
+          xmm = s.2.xmm;
+          lanes = s.2.lanes;
+          framed = frame_kept i c.memory s.0.memory totals fits s.2.others framed;
+          others = rest_more i first c.memory s.0.memory o s.2.others;
+        },
+      )
+
+  -- what stands at places after one result, but for places that are left out
+  stands_on : (w prefix x : ℕ) (t : Target) (g : ℕ → ℕ → ℕ) (live : ℕ → ℕ) (sig : ℕ → Local) (r : ℕ → List ℕ) (Out : ℕ → Type 0) → x < 6 → IsMade n base size P numbers (w * prefix) t → AreBytes (r (made_in x t))
+      → ((q : ℕ) → q < count → (p : ℕ) → p < prefix → lane w (q * prefix + p) (r (made_in x t)) ≡ g q p) → ((p : ℕ) → p < 10 → (Out p → ⊥) → made_in x t ≢ place_register p → StandsAt live sig r p)
+      → (p : ℕ) → p < 10 → (Out p → ⊥) → StandsAt (live_target live t (w * prefix)) (λ q. set_target n base size P (sig q) t (pack (8 * w) prefix (g q))) r p
+  stands_on w prefix x (ToSum k) g live sig r Out few known bytes lanes stand p l out = absurd known
+  stands_on w prefix x (ToArray k) g live sig r Out few known bytes lanes stand p l out = stand p l out (λ e. omega (arith, e, few))
+  stands_on w prefix x (ToPlace k) g live sig r Out few known bytes lanes stand p l out = ⊎_elim here there (cases_eq p k)
+    where
+      value : ℕ → ℕ
+      value q = pack (8 * w) prefix (g q)
+
+      Here : ℕ → Type 0
+      Here j = StandsAt (change live k (w * prefix)) (λ q. set_target n base size P (sig q) (ToPlace k) (value q)) r j
+
+      at_place : Here k
+      at_place q lq b lb =
+          let size_is : change live k (w * prefix) k ≡ w * prefix = change_same live k (w * prefix) in
+          ap (λ n. get_or (r (place_register k)) (q * n + b) 0) size_is
+          ∙ packed_bytes (r (place_register k)) bytes w prefix q (g q) (lanes q lq) b (subst (λ n. b < n) size_is lb)
+          ∙ ap (λ v. digit v b) (sym (change_same (sig q).values k (value q)))
+
+      here : p ≡ k → Here p
+      here e = subst Here (sym e) at_place
+
+      there : p ≢ k → Here p
+      there ne q lq b lb =
+          let size_is : change live k (w * prefix) p ≡ live p = change_other live k (w * prefix) p ne in
+          ap (λ n. get_or (r (place_register p)) (q * n + b) 0) size_is
+          ∙ stand p l out (λ e. ne (omega (arith, e))) q lq b (subst (λ n. b < n) size_is lb)
+          ∙ ap (λ v. digit v b) (sym (change_other (sig q).values k (value q) p ne))
+
+  no_sum_added : (bytes : ℕ) (t : Target) (v g : ℕ) → IsMade n base size P numbers bytes t → adds_to t v g ≡ 0
+  no_sum_added bytes (ToArray k) v g known = refl
+  no_sum_added bytes (ToPlace k) v g known = refl
+  no_sum_added bytes (ToSum k) v g known = absurd known
+
+  -- what a rule leaves, before its results are stored: the values at places that have no result
+  abbrev Remains : List Target → (ℕ → ℕ) → (ℕ → Local) → (ℕ → List ℕ) → Type 0
+  Remains ts live sig x = (p : ℕ) → p < 10 → first_register ts ≢ place_register p → second_register ts ≢ place_register p → StandsAt live sig x p
+
+  one_result_line : (i : ℕ) (op : Op) (prefix : ℕ) (g : ℕ → ℕ → ℕ × ℕ) (t : Target) (c : Core) (first : Memory) (live : ℕ → ℕ) (sig : ℕ → Local) (totals : ℕ → ℕ) → IsMade n base size P numbers (size_of_result op 0 * prefix) t → IsMovedTo count size t → i + count ≤ n
+      → Points i c.gpr → Lanes n base size P i count c.memory sig → Framed numbers rsp c.memory totals → Holds op prefix g c.xmm (made_in 0 t) 1 → Remains (t ∷ []) live sig c.xmm → Rest i first c.memory → Keeps i c.gpr first
+      → (d : Core) × Line Q (result_far_code count size far aligned 0 t) c d × Wrote i op prefix (t ∷ []) (λ q. packed op prefix (g q)) live sig totals first c d
+  one_result_line i op prefix g t c first live sig totals known wide w at h framed holds remains o keeps =
+      let x = result_line i (size_of_result op 0) prefix 0 t (λ q p. (g q p).0) c first sig totals known wide w at h framed (holds.bytes (made_in 0 t)) holds.first o keeps in
+      let stand = stands_on (size_of_result op 0) prefix 0 t (λ q p. (g q p).0) live sig c.xmm (λ p. ⊥) (omega arith) known (holds.bytes (made_in 0 t)) holds.first (λ p l out ne. remains p l ne (λ e. omega (arith, e))) in (
+        x.0,
+        x.1,
+        record {
+          gpr = x.2.gpr;
+          lanes = x.2.lanes;
+          standing = λ p l. subst (λ y. StandsAt (live_target live t (size_of_result op 0 * prefix)) (λ q. set_target n base size P (sig q) t (packed op prefix (g q)).0) y p) (sym x.2.xmm) (stand p l (λ z. z));
+          framed = nothing_added totals x.0.memory (λ q h. adds_to t (packed op prefix (g q)).0 h) (λ q h. no_sum_added (size_of_result op 0 * prefix) t (packed op prefix (g q)).0 h known) x.2.framed;
+          others = x.2.others;
+        },
+      )
+
+  two_results_line : (i : ℕ) (op : Op) (prefix : ℕ) (g : ℕ → ℕ → ℕ × ℕ) (t u : Target) (more : List Target) (c : Core) (first : Memory) (live : ℕ → ℕ) (sig : ℕ → Local) (totals : ℕ → ℕ) → IsMade n base size P numbers (size_of_result op 0 * prefix) t → IsMade n base size P numbers (size_of_result op 1 * prefix) u
+      → made_in 0 t ≢ made_in 1 u → IsMovedTo count size t → IsMovedTo count size u → i + count ≤ n
+      → Points i c.gpr → Lanes n base size P i count c.memory sig → Framed numbers rsp c.memory totals → Holds op prefix g c.xmm (made_in 0 t) (made_in 1 u) → Remains (t ∷ u ∷ more) live sig c.xmm → Rest i first c.memory → Keeps i c.gpr first
+      → (d : Core) × Line Q (result_far_code count size far aligned 0 t ++ result_far_code count size far aligned 1 u) c d × Wrote i op prefix (t ∷ u ∷ more) (λ q. packed op prefix (g q)) live sig totals first c d
+  two_results_line i op prefix g t u more c first live sig totals known known' apart wide wide' w at h framed holds remains o keeps =
+      let one = result_far_code count size far aligned 0 t in
+      let two = result_far_code count size far aligned 1 u in
+      let x = result_line i (size_of_result op 0) prefix 0 t (λ q p. (g q p).0) c first sig totals known wide w at h framed (holds.bytes (made_in 0 t)) holds.first o keeps in
+      let b = x.0 in
+      let same : b.xmm (made_in 1 u) ≡ c.xmm (made_in 1 u) = ap (λ f. f (made_in 1 u)) x.2.xmm in
+      let sig' : ℕ → Local = λ q. set_target n base size P (sig q) t (packed op prefix (g q)).0 in
+      let y = result_line i (size_of_result op 1) prefix 1 u (λ q p. (g q p).1) b first sig' totals known' wide' w (λ j hj s. (ap (λ y. y + far j) (x.2.gpr (pointer j) (not_0 j)) ∙ (at j hj s).0, (at j hj s).1)) x.2.lanes x.2.framed
+      (subst AreBytes (sym same) (holds.bytes (made_in 1 u))) (λ q l p lp. ap (lane (size_of_result op 1) (q * prefix + p)) same ∙ holds.second q l p lp) x.2.others (λ v ins gs m. keeps v ins (λ r ne. gs r ne ∙ x.2.gpr r ne) m) in
+      let d = y.0 in
+      let stand_one = stands_on (size_of_result op 0) prefix 0 t (λ q p. (g q p).0) live sig c.xmm (λ p. made_in 1 u ≡ place_register p) (omega arith) known (holds.bytes (made_in 0 t)) holds.first (λ p l out ne. remains p l ne out) in
+      let stand_two = stands_on (size_of_result op 1) prefix 1 u (λ q p. (g q p).1) (live_target live t (size_of_result op 0 * prefix)) sig' c.xmm (λ p. ⊥) (omega arith) known' (holds.bytes (made_in 1 u)) holds.second (λ p l out ne. stand_one p l ne) in (
+        d,
+        line_append Q one two c b d x.1 y.1,
+        record {
+          gpr = λ r ne. y.2.gpr r ne ∙ x.2.gpr r ne;
+          lanes = y.2.lanes;
+          standing = λ p l. subst (λ z. StandsAt (live_targets live op prefix (t ∷ u ∷ more)) (λ q. set_results n base size P (sig q) (t ∷ u ∷ more) (packed op prefix (g q))) z p) (sym (y.2.xmm ∙ x.2.xmm)) (stand_two p l (λ z. z));
+          framed = nothing_added totals d.memory (λ q h. adds_to t (packed op prefix (g q)).0 h + adds_to u (packed op prefix (g q)).1 h) (λ q h. let a = no_sum_added (size_of_result op 0 * prefix) t (packed op prefix (g q)).0 h known in let b = no_sum_added (size_of_result op 1 * prefix) u (packed op prefix (g q)).1 h known' in omega (arith, a, b)) y.2.framed;
+          others = y.2.others;
+        },
+      )
+
+  -- a rule that computes leaves its results in the registers that they go to
+  computed_line : (op : Op) (prefix : ℕ) (ss : List Source) (ts : List Target) (rule : List Ins) (c : Core) (live : ℕ → ℕ) (sig : ℕ → Local) → Meets op rule → first_register ts ≢ second_register ts → Fits op prefix
+      → Values op prefix ss sig (λ r. c.xmm (rule_register ts r)) → Bounded c → Stays c → Remains ts live sig c.xmm
+      → Line Q (map (renamed (rule_register ts)) rule) c (with_lanes c (after (map (renamed (rule_register ts)) rule) c.xmm))
+      × Holds op prefix (λ q. made op (sig q) ss) (after (map (renamed (rule_register ts)) rule) c.xmm) (first_register ts) (second_register ts)
+      × Remains ts live sig (after (map (renamed (rule_register ts)) rule) c.xmm)
+  computed_line op prefix ss ts rule c live sig meets apart fits value bound stays remains =
+      let f : ℕ → ℕ = rule_register ts in
+      let list = map (renamed f) rule in
+      let x : ℕ → List ℕ = λ r. c.xmm (f r) in
+      let turned : (r : ℕ) → after list c.xmm (f r) ≡ after rule x r = after_renamed f (register_one ts) rule c.xmm in
+      let at_first : after list c.xmm (first_register ts) ≡ after rule x 0 = ap (after list c.xmm) (sym (register_0 ts)) ∙ turned 0 in
+      let at_second : after list c.xmm (second_register ts) ≡ after rule x 1 = ap (after list c.xmm) (sym (register_1 ts apart)) ∙ turned 1 in
+      let small : (r : ℕ) → AreBytes (x r) = λ r. bound.xmm (f r) in (
+        rule_line Q list (simd_renamed f rule ∙ meets.vectors) c (λ t ins gs fs ms. stays t ins ms (λ r ne. ap (λ g. g r) gs)),
+        record {
+          bytes = registers_after list c.xmm bound.xmm;
+          first = λ q l p lp. ap (lane (size_of_result op 0) (q * prefix + p)) at_first ∙ meets.first x small (q * prefix + p) (fits q l p lp) ∙ ap (λ (z : ℕ × ℕ). z.0) (value q l p lp);
+          second = λ q l p lp. ap (lane (size_of_result op 1) (q * prefix + p)) at_second ∙ meets.second x small (q * prefix + p) (fits q l p lp) ∙ ap (λ (z : ℕ × ℕ). z.1) (value q l p lp);
+        },
+        λ p l nf ns q lq r lr.
+            let here : f (place_register p) ≡ place_register p = register_place ts p nf ns in
+            let same : after list c.xmm (place_register p) ≡ c.xmm (place_register p) = ap (after list c.xmm) (sym here) ∙ turned (place_register p) ∙ meets.keeps x (place_register p) (omega arith) ∙ ap c.xmm here in
+            ap (λ v. get_or v (q * live p + r) 0) same ∙ remains p l nf ns q lq r lr,
+      )
+
+  -- ---- one running sum
+
+  one_lane : (q k : ℕ) → k ≡ 1 → q * k + 0 ≡ q
+  one_lane q k e = ap (λ k. q * k + 0) e ∙ (let z : q * 1 + 0 ≡ q = omega arith in z)
+
+  one_pack : (w k : ℕ) (g : ℕ → ℕ) → k ≡ 1 → pack (8 * w) k g ≡ g 0
+  one_pack w k g e = ap (λ k. pack (8 * w) k g) e ∙ ap (λ x. 0 + g 0 * 2 ^ x) (let z : 8 * w * 0 ≡ 0 = omega arith in z) ∙ (let z : 0 + g 0 * 1 ≡ g 0 = omega arith in z)
+
+  same_results : (op : Op) (q : ℕ) (x y : ℕ → List ℕ) → x 0 ≡ y 0 → x 1 ≡ y 1 → results_at op q x ≡ results_at op q y
+  same_results op q x y e f = ap₂ (λ s t. formula op (lane (size_of_source op 0) q s) (if is_shift (row op).kind then lane 8 0 t else lane (size_of_source op 1) q t)) e f
+
+  -- what the elements add
+  abbrev amount : Op → ℕ → List Source → (ℕ → Local) → ℕ
+  amount op prefix ss sig = sum_below count (λ q. (packed op prefix (made op (sig q) ss)).0)
+
+  amount_is : (op : Op) (prefix : ℕ) (ss : List Source) (sig : ℕ → Local) (x y : ℕ → List ℕ) → prefix ≡ 1 → y 0 ≡ x 0 → y 1 ≡ x 1 → Values op prefix ss sig x → sum_below count (λ q. adds_number op q y) ≡ amount op prefix ss sig
+  amount_is op prefix ss sig x y one e f value = sum_below-same count (λ q. adds_number op q y) (λ q. (packed op prefix (made op (sig q) ss)).0) (λ q l.
+      ap (λ (z : ℕ × ℕ). z.0) (same_results op q y x e f ∙ ap (λ t. results_at op t x) (sym (one_lane q prefix one)) ∙ value q l 0 (omega (arith, one)))
+      ∙ sym (one_pack (size_of_result op 0) prefix (λ p. (made op (sig q) ss p).0) one))
+
+  abbrev load_sum : ℕ → Ins
+  load_sum g = VecLoad Movdqu 2 (away 4 (sum_slot g))
+
+  abbrev store_sum : ℕ → Ins
+  store_sum g = VecStore Movdqu 2 (away 4 (sum_slot g))
+
+  -- the sum after the rule
+  grows : (op : Op) (prefix : ℕ) (ss : List Source) (sig : ℕ → Local) (rule : List Ins) (g : ℕ) (running : List ℕ) (x y : ℕ → List ℕ) → numbers.width g ≡ size_of_result op 0 → prefix ≡ 1 → AddsUp op count rule → Values op prefix ss sig x
+      → y 0 ≡ x 0 → y 1 ≡ x 1 → ((b : ℕ) → b < 16 → get_or (y 2) b 0 ≡ get_or running b 0) → ((r : ℕ) → AreBytes (y r))
+      → cut (8 * numbers.width g) (sum_of (numbers.width g) (after rule y 2)) ≡ cut (8 * numbers.width g) (sum_of (numbers.width g) running + amount op prefix ss sig)
+  grows op prefix ss sig rule g running x y width one adds value e f bytes small =
+      let w = size_of_result op 0 in
+      subst (λ w. cut (8 * w) (sum_of w (after rule y 2)) ≡ cut (8 * w) (sum_of w running + amount op prefix ss sig)) (sym width)
+      (adds.grows y small ∙ ap₂ (λ s t. cut (8 * w) (s + t)) (same_sum w (y 2) running bytes) (amount_is op prefix ss sig x y one e f value))
+
+  sum_low : (g : ℕ) → g < numbers.sums → rsp + sum_slot g + 16 < 2 ^ 63
+  sum_low g l = omega (arith, ground.frame.low, ground.frame.few_sums, l)
+
+  -- what the store of a sum leaves
+  sum_stored : (i : ℕ) (g : ℕ) (mem end : Memory) (z : ℕ → ℕ) (first : Memory) (sig : ℕ → Local) → g < numbers.sums → i + count ≤ n → IsFill 16 mem (rsp + sum_slot g) z end → Lanes n base size P i count mem sig → Rest i first mem
+      → Lanes n base size P i count end sig × Rest i first end
+  sum_stored i g mem end z first sig lg w f h o = (
+    λ k hk q l r lr. f.outside (base k + (i + q) * size k + r) (λ j lj e. ground.apart k hk (i + q) (omega (arith, l, w)) r lr (omega (arith, e)) (omega (arith, e, lj, lg, ground.frame.few_sums))) ∙ h k hk q l r lr,
+    λ x m s. f.outside x (λ j lj e. s (omega (arith, e), omega (arith, e, lj, lg))) ∙ o x m s,
+  )
+
+  sum_line : (i : ℕ) (op : Op) (prefix : ℕ) (ss : List Source) (rule : List Ins) (g : ℕ) (c : Core) (first : Memory) (live : ℕ → ℕ) (sig : ℕ → Local) (totals : ℕ → ℕ) → g < numbers.sums → numbers.width g ≡ size_of_result op 0 → prefix ≡ 1 → AddsUp op count rule → i + count ≤ n
+      → c.gpr 4 ≡ rsp → Lanes n base size P i count c.memory sig → Framed numbers rsp c.memory totals → Standing live sig c.xmm → Values op prefix ss sig c.xmm → Bounded c → Each IsIns (load_sum g ∷ []) → Rest i first c.memory → Keeps i c.gpr first
+      → (d : Core) × Line Q (load_sum g ∷ (rule ++ store_sum g ∷ [])) c d × Wrote i op prefix (ToSum g ∷ []) (λ q. packed op prefix (made op (sig q) ss)) live sig totals first c d
+  sum_line i op prefix ss rule g c first live sig totals lg width one adds w stack h framed stand value bound ins o keeps =
+      let stays = stay i c c.gpr first (λ r ne. refl) o keeps in
+      let l = load_slot c 2 rsp (sum_slot g) (λ b. get_or (framed.running g) b 0) stack (sum_low g lg) (framed.sums g lg) in
+      let b = l.0 in
+      let in_c : Q c (load_sum g) = stays c (load_sum g) refl (λ r ne. refl) in
+      let load : Line Q (load_sum g ∷ []) c b = (in_c, (b, l.1, refl)) in
+      let bounded = line_bounded Q (load_sum g ∷ []) c b ins load bound in
+      let gpr : (r : ℕ) → b.gpr r ≡ c.gpr r = λ r. ap (λ f. f r) l.2.gpr in
+      let u : Core = with_lanes b (after rule b.xmm) in
+      let line : Line Q rule b u = rule_line Q rule adds.vectors b (λ t ins gs fs ms. stays t ins (ms ∙ l.2.memory) (λ r ne. ap (λ f. f r) gs ∙ gpr r)) in
+      let there : (j : ℕ) → j < 16 → IsMapped u.memory (rsp + sum_slot g + j) = λ j lj. ap (λ m. is_some (m (rsp + sum_slot g + j))) l.2.memory ∙ ap is_some (framed.sums g lg j lj) in
+      let s = store_slot u 2 rsp (sum_slot g) (gpr 4 ∙ stack) (sum_low g lg) there in
+      let d = s.0 in
+      let f : IsFill 16 c.memory (rsp + sum_slot g) (λ j. get_or (after rule b.xmm 2) j 0) d.memory = subst (λ m. IsFill 16 m (rsp + sum_slot g) (λ j. get_or (after rule b.xmm 2) j 0) d.memory) l.2.memory s.4 in
+      let kept = sum_stored i g c.memory d.memory (λ j. get_or (after rule b.xmm 2) j 0) first sig lg w f h o in
+      let grown = framed_grown numbers rsp ground.frame c.memory d.memory totals framed g (amount op prefix ss sig) lg (after rule b.xmm 2) (registers_after rule b.xmm bounded.xmm 2) f
+      (grows op prefix ss sig rule g (framed.running g) c.xmm b.xmm width one adds value (l.2.others 0 (λ e. omega (arith, e))) (l.2.others 1 (λ e. omega (arith, e))) l.2.bytes bounded.xmm) in (
+        d,
+        (in_c, (b, l.1, line_append Q rule (store_sum g ∷ []) b u d line (stays u (store_sum g) l.2.memory (λ r ne. gpr r), (d, s.1, refl)))),
+        record {
+          gpr = λ r ne. ap (λ f. f r) s.2 ∙ gpr r;
+          lanes = kept.0;
+          standing = λ p lp q lq r lr. ap (λ v. get_or v (q * live p + r) 0) (ap (λ f. f (place_register p)) s.3 ∙ adds.keeps b.xmm (place_register p) (omega arith) ∙ l.2.others (place_register p) (λ e. omega (arith, e))) ∙ stand p lp q lq r lr;
+          framed = framed_totals numbers rsp d.memory _ _ (λ k. ap (λ t. totals k + t) (adds_all count g k (λ q. (packed op prefix (made op (sig q) ss)).0))) grown;
+          others = kept.1;
+        },
+      )
+
+  -- ---- an action
+
+  abbrev Known : Op → ℕ → List Source → List Target → (ℕ → Local) → (ℕ → List ℕ) → Type 0
+  Known op prefix ss ts sig y = (x : ℕ → List ℕ) → x 0 ≡ y (first_register ts) → x 1 ≡ y (second_register ts) → Values op prefix ss sig x
+
+  in_rule : (op : Op) (prefix : ℕ) (ss : List Source) (ts : List Target) (sig : ℕ → Local) (y : ℕ → List ℕ) → first_register ts ≢ second_register ts → Known op prefix ss ts sig y → Values op prefix ss sig (λ r. y (rule_register ts r))
+  in_rule op prefix ss ts sig y apart value = value (λ r. y (rule_register ts r)) (ap y (register_0 ts)) (ap y (register_1 ts apart))
+
+  -- the rule, and the store of one result
+  one_finish : (i : ℕ) (op : Op) (prefix : ℕ) (ss : List Source) (rule : List Ins) (t : Target) (c : Core) (first : Memory) (live : ℕ → ℕ) (sig : ℕ → Local) (totals : ℕ → ℕ) → AreMade n base size P numbers op prefix (t ∷ []) → Meets op rule → made_in 0 t ≢ 1 → IsMovedTo count size t → Fits op prefix
+      → i + count ≤ n → Points i c.gpr → Lanes n base size P i count c.memory sig → Framed numbers rsp c.memory totals → Remains (t ∷ []) live sig c.xmm → Known op prefix ss (t ∷ []) sig c.xmm → Bounded c → Rest i first c.memory → Keeps i c.gpr first
+      → (d : Core) × Line Q (map (renamed (rule_register (t ∷ []))) rule ++ result_far_code count size far aligned 0 t) c d × Wrote i op prefix (t ∷ []) (λ q. packed op prefix (made op (sig q) ss)) live sig totals first c d
+  one_finish i op prefix ss rule t c first live sig totals known meets apart wide fits w at h framed remains value bound o keeps =
+      let ts = t ∷ [] in
+      let list = map (renamed (rule_register ts)) rule in
+      let x = computed_line op prefix ss ts rule c live sig meets apart fits (in_rule op prefix ss ts sig c.xmm apart value) bound (stay i c c.gpr first (λ r ne. refl) o keeps) remains in
+      let u : Core = with_lanes c (after list c.xmm) in
+      let s = one_result_line i op prefix (λ q. made op (sig q) ss) t u first live sig totals known.0 wide w at h framed x.1 x.2 o keeps in
+      (s.0, line_append Q list (result_far_code count size far aligned 0 t) c u s.0 x.0 s.1, record { gpr = s.2.gpr; lanes = s.2.lanes; standing = s.2.standing; framed = s.2.framed; others = s.2.others })
+
+  -- the same with two
+  two_finish : (i : ℕ) (op : Op) (prefix : ℕ) (ss : List Source) (rule : List Ins) (t u : Target) (more : List Target) (c : Core) (first : Memory) (live : ℕ → ℕ) (sig : ℕ → Local) (totals : ℕ → ℕ) → AreMade n base size P numbers op prefix (t ∷ u ∷ more) → Meets op rule → made_in 0 t ≢ made_in 1 u
+      → IsMovedTo count size t → IsMovedTo count size u → Fits op prefix → i + count ≤ n → Points i c.gpr → Lanes n base size P i count c.memory sig → Framed numbers rsp c.memory totals → Remains (t ∷ u ∷ more) live sig c.xmm → Known op prefix ss (t ∷ u ∷ more) sig c.xmm → Bounded c → Rest i first c.memory → Keeps i c.gpr first
+      → (d : Core) × Line Q (map (renamed (rule_register (t ∷ u ∷ more))) rule ++ (result_far_code count size far aligned 0 t ++ result_far_code count size far aligned 1 u)) c d × Wrote i op prefix (t ∷ u ∷ more) (λ q. packed op prefix (made op (sig q) ss)) live sig totals first c d
+  two_finish i op prefix ss rule t u more c first live sig totals known meets apart wide wide' fits w at h framed remains value bound o keeps =
+      let ts = t ∷ u ∷ more in
+      let list = map (renamed (rule_register ts)) rule in
+      let stores = result_far_code count size far aligned 0 t ++ result_far_code count size far aligned 1 u in
+      let x = computed_line op prefix ss ts rule c live sig meets apart fits (in_rule op prefix ss ts sig c.xmm apart value) bound (stay i c c.gpr first (λ r ne. refl) o keeps) remains in
+      let v : Core = with_lanes c (after list c.xmm) in
+      let s = two_results_line i op prefix (λ q. made op (sig q) ss) t u more v first live sig totals known.0 known.2 apart wide wide' w at h framed x.1 x.2 o keeps in
+      (s.0, line_append Q list stores c v s.0 x.0 s.1, record { gpr = s.2.gpr; lanes = s.2.lanes; standing = s.2.standing; framed = s.2.framed; others = s.2.others })
+
+  finish_line : (i : ℕ) (op : Op) (prefix : ℕ) (ss : List Source) (rule : List Ins) (ts : List Target) (c : Core) (first : Memory) (live : ℕ → ℕ) (sig : ℕ → Local) (totals : ℕ → ℕ) → AreTo n base size P numbers op prefix ts → IsRule count op rule → first_register ts ≢ second_register ts → Each (IsMovedTo count size) ts → Fits op prefix
+      → Each IsIns (sum_code ts) → i + count ≤ n → Points i c.gpr → c.gpr 4 ≡ rsp → Lanes n base size P i count c.memory sig → Framed numbers rsp c.memory totals → Remains ts live sig c.xmm
+      → ((x : ℕ → List ℕ) → x 0 ≡ c.xmm (first_register ts) → x 1 ≡ c.xmm (second_register ts) → Values op prefix ss sig x) → Bounded c → Rest i first c.memory → Keeps i c.gpr first
+      → (d : Core) × Line Q (sum_code ts ++ (map (renamed (rule_register ts)) rule ++ results_far_code count size far aligned ts)) c d × Wrote i op prefix ts (λ q. packed op prefix (made op (sig q) ss)) live sig totals first c d
+  finish_line i op prefix ss rule [] c first live sig totals known is apart wide fits ins w at stack h framed remains value bound o keeps = absurd known
+  finish_line i op prefix ss rule (ToSum g ∷ []) c first live sig totals known is apart wide fits ins w at stack h framed remains value bound o keeps =
+      sum_line i op prefix ss (map (renamed (rule_register (ToSum g ∷ []))) rule) g c first live sig totals known.0 known.2 known.3 (adds_renamed g op count rule (is.adds known.1)) w stack h framed (λ p l. remains p l (λ e. omega (arith, e)) (λ e. omega (arith, e))) (value c.xmm refl refl) bound ins o keeps
+  finish_line i op prefix ss rule (ToArray k ∷ []) c first live sig totals known is apart wide fits ins w at stack h framed remains value bound o keeps =
+      one_finish i op prefix ss rule (ToArray k) c first live sig totals known (is.meets known.1) apart wide.0 fits w at h framed remains value bound o keeps
+  finish_line i op prefix ss rule (ToPlace p ∷ []) c first live sig totals known is apart wide fits ins w at stack h framed remains value bound o keeps =
+      one_finish i op prefix ss rule (ToPlace p) c first live sig totals known (is.meets known.1) apart wide.0 fits w at h framed remains value bound o keeps
+  finish_line i op prefix ss rule (ToSum g ∷ t ∷ more) c first live sig totals known is apart wide fits ins w at stack h framed remains value bound o keeps = absurd known.0
+  finish_line i op prefix ss rule (ToArray k ∷ u ∷ more) c first live sig totals known is apart wide fits ins w at stack h framed remains value bound o keeps =
+      two_finish i op prefix ss rule (ToArray k) u more c first live sig totals known (is.meets known.1) apart wide.0 wide.1.0 fits w at h framed remains value bound o keeps
+  finish_line i op prefix ss rule (ToPlace p ∷ u ∷ more) c first live sig totals known is apart wide fits ins w at stack h framed remains value bound o keeps =
+      two_finish i op prefix ss rule (ToPlace p) u more c first live sig totals known (is.meets known.1) apart wide.0 wide.1.0 fits w at h framed remains value bound o keeps
+
+  -- what an action adds to the totals
+  abbrev Grown : List Action → (ℕ → Local) → (ℕ → ℕ) → ℕ → ℕ
+  Grown actions sig totals g = totals g + sum_below count (λ q. adds n base size P numbers actions (sig q) g)
+
+  abbrev GrownBy : Action → (ℕ → Local) → (ℕ → ℕ) → ℕ → ℕ
+  GrownBy a sig totals g = totals g + sum_below count (λ q. results_add a.to (value_of n base size P numbers a (sig q)) g)
+
+  room_of : (a : Action) → count * a.prefix * widest a.op ≤ 16 → Room a.op a.prefix
+  room_of a h = record { first = within (size_of_source a.op 0) (first_width a.op); second = λ plain. within (size_of_source a.op 1) (second_width a.op plain) }
+    where
+      within : (w : ℕ) → w ≤ widest a.op → count * (w * a.prefix) ≤ 16
+      within w l =
+          let m : count * a.prefix * w ≤ count * a.prefix * widest a.op = mul-le-mul_left (count * a.prefix) l in
+          let e : count * (w * a.prefix) ≡ count * a.prefix * w = omega arith in
+          omega (arith, m, e, h)
+
+  action_line : (i : ℕ) (a : Action) (c : Core) (first : Memory) (live : ℕ → ℕ) (sig : ℕ → Local) (totals : ℕ → ℕ) → IsKnown n base size P numbers live a → IsFit count size a → Each IsIns (action_far_code count size far aligned a) → i + count ≤ n → Points i c.gpr → c.gpr 4 ≡ rsp
+      → Lanes n base size P i count c.memory sig → Framed numbers rsp c.memory totals → Standing live sig c.xmm
+      → Bounded c → Rest i first c.memory → Keeps i c.gpr first → (d : Core) × Line Q (action_far_code count size far aligned a) c d × After i c d first (live_act live a) (λ q. local_act n base size P numbers a (sig q)) (GrownBy a sig totals)
+  action_line i a c first live sig totals known fit ins_a w at stack h framed stand bound o keeps =
+      let loads = sources_far_code count size far (first_register a.to) (second_register a.to) a.sources in
+      let rest = sum_code a.to ++ (rule_code a ++ results_far_code count size far aligned a.to) in
+      let stays = stay i c c.gpr first (λ r ne. refl) o keeps in
+      let fits : Fits a.op a.prefix = λ q l p lp. lane_fits (q * a.prefix + p) (count * a.prefix) (widest a.op) (byte_within q count a.prefix p l lp) fit.lanes in
+      let x = sources_line i a.op a.prefix a.sources a.to c live sig totals known.sources known.kept known.apart fits (room_of a fit.lanes) fit.sources (each_front IsIns loads rest ins_a) w at stack h framed stand bound stays in
+      let e = x.0 in
+      let g = x.2 in
+      let s = finish_line i a.op a.prefix a.sources a.rule a.to e first live sig totals known.to fit.rule known.apart fit.to fits
+      (each_front IsIns (sum_code a.to) (rule_code a ++ results_far_code count size far aligned a.to) (each_back IsIns loads rest ins_a)) w (λ k hk t. (ap (λ y. y + far k) (g.gpr (pointer k) (not_0 k)) ∙ (at k hk t).0, (at k hk t).1)) (g.gpr 4 (λ z. omega (arith, z)) ∙ stack)
+      (λ k hk q l r lr. ap (λ f. f (base k + (i + q) * size k + r)) g.memory ∙ h k hk q l r lr) (subst (λ m. Framed numbers rsp m totals) (sym g.memory) framed)
+      (λ p l nf ns q lq r lr. ap (λ v. get_or v (q * live p + r) 0) (g.others (place_register p) (λ z. nf (sym z)) (λ z. ns (sym z))) ∙ stand p l q lq r lr) g.value g.bounded
+      (λ v out sums. ap (λ f. f v) g.memory ∙ o v out sums) (λ t ins gs m. keeps t ins (λ r ne. gs r ne ∙ g.gpr r ne) m) in
+      let d = s.0 in
+      let line : Line Q (action_far_code count size far aligned a) c d = line_append Q loads rest c e d x.1 s.1 in (
+        d,
+        line,
+        record {
+          gpr = λ r ne. s.2.gpr r ne ∙ g.gpr r ne;
+          lanes = s.2.lanes;
+          standing = s.2.standing;
+          framed = s.2.framed;
+          others = s.2.others;
+          bounded = line_bounded Q (action_far_code count size far aligned a) c d ins_a line bound;
+        },
+      )
+
+  grown_on : (a : Action) (rest : List Action) (sig : ℕ → Local) (totals : ℕ → ℕ) (g : ℕ) → Grown rest (λ q. local_act n base size P numbers a (sig q)) (GrownBy a sig totals) g ≡ Grown (a ∷ rest) sig totals g
+  grown_on a rest sig totals g =
+      let x : ℕ → ℕ = λ q. results_add a.to (value_of n base size P numbers a (sig q)) g in
+      let y : ℕ → ℕ = λ q. adds n base size P numbers rest (local_act n base size P numbers a (sig q)) g in
+      (let z : totals g + sum_below count x + sum_below count y ≡ totals g + (sum_below count x + sum_below count y) = omega arith in z) ∙ ap (λ t. totals g + t) (sum_both count x y)
+
+  no_growth : (totals : ℕ → ℕ) (g : ℕ) → totals g ≡ totals g + sum_below count (λ q. 0)
+  no_growth totals g = let e = no_sum count in omega (arith, e)
+
+  -- the values at places after actions
+  abbrev pub live_after : (ℕ → ℕ) → List Action → ℕ → ℕ
+  live_after live [] = live
+  live_after live (a ∷ rest) = live_after (live_act live a) rest
+
+  -- a whole block
+  pub actions_line : (i : ℕ) (actions : List Action) (c : Core) (first : Memory) (live : ℕ → ℕ) (sig : ℕ → Local) (totals : ℕ → ℕ) → AllKnown n base size P numbers live actions → Each (IsFit count size) actions → Each (λ a. Each IsIns (action_far_code count size far aligned a)) actions → i + count ≤ n → Points i c.gpr → c.gpr 4 ≡ rsp
+      → Lanes n base size P i count c.memory sig → Framed numbers rsp c.memory totals → Standing live sig c.xmm → Bounded c → Rest i first c.memory → Keeps i c.gpr first
+      → (d : Core) × Line Q (actions_far_code count size far aligned actions) c d × After i c d first (live_after live actions) (λ q. local n base size P numbers actions (sig q)) (Grown actions sig totals)
+  actions_line i [] c first live sig totals known fit ins_all w at stack h framed stand bound o keeps = (c, refl, record { gpr = λ r ne. refl; lanes = h; standing = stand; framed = framed_totals numbers rsp c.memory totals (λ g. totals g + sum_below count (λ q. 0)) (no_growth totals) framed; others = o; bounded = bound })
+  actions_line i (a ∷ rest) c first live sig totals known fit ins_all w at stack h framed stand bound o keeps =
+      let x = action_line i a c first live sig totals known.0 fit.0 ins_all.0 w at stack h framed stand bound o keeps in
+      let y = actions_line i rest x.0 first (live_act live a) (λ q. local_act n base size P numbers a (sig q)) (GrownBy a sig totals) known.1 fit.1 ins_all.1 w (λ k hk s. (ap (λ y. y + far k) (x.2.gpr (pointer k) (not_0 k)) ∙ (at k hk s).0, (at k hk s).1)) (x.2.gpr 4 (λ z. omega (arith, z)) ∙ stack) x.2.lanes x.2.framed x.2.standing x.2.bounded x.2.others
+      (λ u ins g. keeps u ins (λ r ne. g r ne ∙ x.2.gpr r ne)) in (
+        y.0,
+        line_append Q (action_far_code count size far aligned a) (actions_far_code count size far aligned rest) c x.0 y.0 x.1 y.1,
+        record {
+          gpr = λ r ne. y.2.gpr r ne ∙ x.2.gpr r ne;
+          lanes = y.2.lanes;
+          standing = y.2.standing;
+          framed = framed_totals numbers rsp y.0.memory _ (Grown (a ∷ rest) sig totals) (grown_on a rest sig totals) y.2.framed;
+          others = y.2.others;
+          bounded = y.2.bounded;
+        },
+      )

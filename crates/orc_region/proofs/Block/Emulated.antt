@@ -1,0 +1,170 @@
+-- What emulation does at an instruction on arrays.
+use Rattle.std.proofs.Common.{◌≡◌, ℕ, ◌+◌, ◌*◌, ◌/◌, ◌%◌, ◌^◌, ◌<◌, true, if◌then◌else◌, [], ◌∷◌, length, nat_lt, Option, Some, None, Result, Ok, refl, sym, ap, ◌∙◌, subst, arith}
+use Rattle.std.proofs.lemmas.Bool.{true≢false}
+use Rattle.std.proofs.lemmas.Bool.Decides.{nat_tests}
+use Rattle.orc_bits.specs.Memory.{Memory, value, fill, store, IsMapped}
+use Rattle.orc_bits.specs.Lanes.{byte_of, change}
+use Rattle.orc_bits.proofs.Memories.{AreMapped, store_mapped}
+use Rattle.orc_ops.specs.Table.{size_of_source}
+use Rattle.orc_program.specs.declared.program.VarKind.{VarKind}
+use Rattle.orc_program.specs.declared.program.VarKind.TheVariants as kind
+use Rattle.orc_program.specs.declared.program.Operand.{Operand}
+use Rattle.orc_program.specs.declared.program.Operand.TheVariants as operand
+use Rattle.orc_program.specs.declared.program.Insn.{Insn}
+use Rattle.orc_program.specs.declared.call.Call.{Call}
+use Rattle.orc_program.specs.Program.{FunctionValue, var_at, is_array, is_array_kind, same_kind}
+use Rattle.orc_program.specs.Meaning.{State, Gap, param_at, cell, sub_lane, lanewise, go_on, or_gap, gap_at, read_cell, read_var, read_source, read_sources, write_var, write_result, write_results, act}
+use Rattle.orc_program.specs.Checks.{number_in}
+use Rattle.x86_flow.proofs.Moves.{IsFill, fill_is}
+use Rattle.orc_region.proofs.Arithmetic.Digits.{digit, value_digits}
+use Rattle.orc_region.proofs.Arithmetic.SubLanes.{cut_sub_lane, same_lanewise}
+
+-- the variable at a place is an array of elements of so many bytes
+pub record IsCells (f : FunctionValue) (p bytes : ℕ) : Type 0 where
+  pub inside : p < length f.vars
+  pub array : is_array (var_at f.vars p) ≡ true
+  pub size : (var_at f.vars p).size ≡ bytes
+
+abbrev pub IsDest : FunctionValue → ℕ → Type 0
+IsDest f d = (var_at f.vars d).kind ≡ kind.Dest
+
+-- the variable at a place is an accumulator of so many bytes
+pub record IsSum (f : FunctionValue) (p bytes : ℕ) : Type 0 where
+  pub inside : p < length f.vars
+  pub sum : (var_at f.vars p).kind ≡ kind.Accumulator
+  pub size : (var_at f.vars p).size ≡ bytes
+
+-- the variable at a place is a temp
+abbrev pub IsTemp : FunctionValue → ℕ → Type 0
+IsTemp f x = (var_at f.vars x).kind ≡ kind.Temp
+
+abbrev pub state : Memory → (ℕ → ℕ) → (ℕ → ℕ) → State
+state mem temps sums = record { memory = mem; temps = temps; sums = sums }
+
+-- the number that a pattern's operand stands for in a call
+abbrev pub meant : FunctionValue → Call → Operand → ℕ
+meant f call (operand.Number n) = n
+meant f call (operand.Var p) = param_at f call p
+
+byte_below : (n v j : ℕ) → j < n → byte_of n v j ≡ digit v j
+byte_below n v j l = let t : nat_lt j n ≡ true = grind (arith, nat_tests) in ap (λ b. if b then v / 256 ^ j % 256 else 0) t
+
+-- what a success has
+abbrev some_or : Option Operand → Operand
+some_or (Some o) = o
+some_or None = operand.Number 0
+
+abbrev IsThere : Option Operand → Type 0
+IsThere (Some o) = Unit {0}
+IsThere None = ⊥
+
+not_there : {m : Operand} → None ≡ Some m → ⊥
+not_there e = subst IsThere (sym e) tt
+
+module _ (f : FunctionValue) (call : Call) (r i : ℕ) where
+  -- the cell holds a number's bytes
+  abbrev pub Holds : ℕ → ℕ → Memory → ℕ → Type 0
+  Holds p n mem x = (j : ℕ) → j < n → mem (cell f call p r i + j) ≡ Some (digit x j)
+
+  abbrev pub IsLow : ℕ → ℕ → Type 0
+  IsLow p n = cell f call p r i + n < 2 ^ 62
+
+  reads_cell : (p n x : ℕ) (s : State) → IsCells f p n → IsLow p n → Holds p n s.memory x → read_cell f call r i p s ≡ Ok (x % 256 ^ n)
+  reads_cell p n x s is low h =
+      ap (λ m. or_gap (value m s.memory (cell f call p r i)) (gap_at f call r i p s)) is.size
+      ∙ ap (λ o. or_gap o (gap_at f call r i p s)) (value_digits n s.memory (cell f call p r i) x (omega (arith, low)) h)
+
+  reads_var : (w p x : ℕ) (s : State) (k : VarKind) → is_array_kind k ≡ true → read_cell f call r i p s ≡ Ok x → read_var f call r i w s p k ≡ Ok (sub_lane w x)
+  reads_var w p x s kind.Source a e = ap (λ o. go_on o (λ v. Ok (sub_lane w v))) e
+  reads_var w p x s kind.Dest a e = ap (λ o. go_on o (λ v. Ok (sub_lane w v))) e
+  reads_var w p x s kind.Temp a e = absurd (true≢false (sym a))
+  reads_var w p x s kind.Param a e = absurd (true≢false (sym a))
+  reads_var w p x s kind.Const a e = absurd (true≢false (sym a))
+  reads_var w p x s kind.Accumulator a e = absurd (true≢false (sym a))
+
+  -- what a source of w bytes gives to k sub-lanes
+  abbrev pub Gives : ℕ → ℕ → State → Operand → (ℕ → ℕ) → Type 0
+  Gives w k s o g = (a : ℕ → ℕ) × (read_source f call r i (8 * w) s o ≡ Ok a) × ((q : ℕ) → q < k → a q ≡ g q)
+
+  pub array_gives : (p w k x : ℕ) (s : State) → IsCells f p (w * k) → IsLow p (w * k) → Holds p (w * k) s.memory x → Gives w k s (operand.Var p) (sub_lane (8 * w) x)
+  array_gives p w k x s is low h = (
+    sub_lane (8 * w) (x % 256 ^ (w * k)),
+    reads_var (8 * w) p (x % 256 ^ (w * k)) s (var_at f.vars p).kind is.array (reads_cell p (w * k) x s is low h),
+    λ q l. cut_sub_lane w k q x l,
+  )
+
+  -- a temp that has this value
+  pub temp_gives : (x w k v : ℕ) (s : State) → IsTemp f x → s.temps x ≡ v → Gives w k s (operand.Var x) (sub_lane (8 * w) v)
+  temp_gives x w k v s is e = (
+    sub_lane (8 * w) (s.temps x),
+    ap (λ k. read_var f call r i (8 * w) s x k) is,
+    λ q l. ap (λ v. sub_lane (8 * w) v q) e,
+  )
+
+  -- the number of a parameter or of a constant
+  scalar_read : (w p : ℕ) (s : State) (m : Operand) (k : VarKind) → (if same_kind kind.Param k then Some (operand.Var p) else (if same_kind kind.Const k then Some (operand.Number (var_at f.vars p).number) else None)) ≡ Some m
+      → read_var f call r i w s p k ≡ Ok (λ q. meant f call m)
+  scalar_read w p s m kind.Param e = ap (λ o. Ok (λ q. meant f call (some_or o))) e
+  scalar_read w p s m kind.Const e = ap (λ o. Ok (λ q. meant f call (some_or o))) e
+  scalar_read w p s m kind.Source e = absurd (not_there e)
+  scalar_read w p s m kind.Dest e = absurd (not_there e)
+  scalar_read w p s m kind.Temp e = absurd (not_there e)
+  scalar_read w p s m kind.Accumulator e = absurd (not_there e)
+
+  number_read : (w : ℕ) (s : State) (o m : Operand) → number_in f.vars o ≡ Some m → read_source f call r i w s o ≡ Ok (λ q. meant f call m)
+  number_read w s (operand.Number n) m e = ap (λ o. Ok (λ q. meant f call (some_or o))) e
+  number_read w s (operand.Var p) m e = scalar_read w p s m (var_at f.vars p).kind e
+
+  pub number_gives : (w k : ℕ) (s : State) (o m : Operand) → number_in f.vars o ≡ Some m → Gives w k s o (λ q. meant f call m)
+  number_gives w k s o m e = ((λ q. meant f call m), number_read (8 * w) s o m e, λ q l. refl)
+
+  -- an array's number is written
+  pub array_takes : (d n v : ℕ) (mem : Memory) (temps sums : ℕ → ℕ) → IsCells f d n → IsDest f d → IsLow d n → ((j : ℕ) → j < n → IsMapped mem (cell f call d r i + j))
+      → (end : Memory) × (write_result f call r i v (state mem temps sums) (operand.Var d) ≡ Ok (state end temps sums)) × IsFill n mem (cell f call d r i) (digit v) end
+  array_takes d n v mem temps sums is dest low there =
+      let a = cell f call d r i in
+      let s = state mem temps sums in
+      let mapped : AreMapped n mem a = λ j l. subst (λ x. IsMapped mem x) (let q : a + j ≡ (a + j) % 2 ^ 64 = omega (arith, l, low) in q) (there j l) in (
+        fill n mem a (byte_of n v),
+        ap (λ k. write_var f call r i v s d k) dest
+            ∙ ap (λ m. go_on (or_gap (store m mem a (byte_of m v)) (gap_at f call r i d s)) (λ m. Ok (record s { memory = m }))) is.size
+            ∙ ap (λ o. go_on (or_gap o (gap_at f call r i d s)) (λ m. Ok (record s { memory = m }))) (store_mapped n mem a (byte_of n v) mapped),
+        fill_is n mem a (byte_of n v) (digit v) (omega (arith, low)) (λ j l. byte_below n v j l),
+      )
+
+  -- and one is added to a sum
+  pub sum_takes : (p n v : ℕ) (mem : Memory) (temps sums : ℕ → ℕ) → IsSum f p n → write_result f call r i v (state mem temps sums) (operand.Var p) ≡ Ok (state mem temps (change sums p ((sums p + v) % 2 ^ (8 * n))))
+  sum_takes p n v mem temps sums is =
+      ap (λ k. write_var f call r i v (state mem temps sums) p k) is.sum
+      ∙ ap (λ m. Ok (state mem temps (change sums p ((sums p + v) % 2 ^ (8 * m))))) is.size
+
+  -- and one goes to a temp
+  pub temp_takes : (x v : ℕ) (mem : Memory) (temps sums : ℕ → ℕ) → IsTemp f x → write_result f call r i v (state mem temps sums) (operand.Var x) ≡ Ok (state mem (change temps x v) sums)
+  temp_takes x v mem temps sums is = ap (λ k. write_var f call r i v (state mem temps sums) x k) is
+
+  abbrev Pair : Type 0
+  Pair = (ℕ → ℕ) × (ℕ → ℕ)
+
+  -- what an instruction writes whose sources give these numbers to each sub-lane
+  abbrev pub Writes : Insn → State → (ℕ → ℕ) → (ℕ → ℕ) → Type 0
+  Writes insn s a b = act f call r i insn s ≡ write_results f call r i (lanewise insn.op insn.prefix a b) s insn.results.items
+
+  -- an instruction with one source
+  pub act_one : (insn : Insn) (s : State) (x : Operand) (g : ℕ → ℕ) → insn.sources.items ≡ x ∷ [] → Gives (size_of_source insn.op 0) insn.prefix s x g → Writes insn s g (λ q. 0)
+  unfolding act
+  act_one insn s x g is a =
+      let write : Pair → Result State Gap = λ z. write_results f call r i (lanewise insn.op insn.prefix z.0 z.1) s insn.results.items in
+      let none : ℕ → ℕ = λ q. 0 in
+      ap (λ os. go_on (read_sources f call r i insn.op s os) write) is
+      ∙ ap (λ o. go_on {A = Pair} (go_on o (λ a. Ok (a, none))) write) a.1
+      ∙ ap (λ v. write_results f call r i v s insn.results.items) (same_lanewise insn.op insn.prefix a.0 none g none a.2 (λ q l. refl))
+
+  -- and one with two
+  pub act_two : (insn : Insn) (s : State) (x y : Operand) (g h : ℕ → ℕ) → insn.sources.items ≡ x ∷ y ∷ [] → Gives (size_of_source insn.op 0) insn.prefix s x g → Gives (size_of_source insn.op 1) insn.prefix s y h → Writes insn s g h
+  unfolding act
+  act_two insn s x y g h is a b =
+      let write : Pair → Result State Gap = λ z. write_results f call r i (lanewise insn.op insn.prefix z.0 z.1) s insn.results.items in
+      ap (λ os. go_on (read_sources f call r i insn.op s os) write) is
+      ∙ ap (λ o. go_on {A = Pair} (go_on o (λ a. go_on (read_source f call r i (8 * size_of_source insn.op 1) s y) (λ b. Ok (a, b)))) write) a.1
+      ∙ ap (λ o. go_on {A = Pair} (go_on o (λ b. Ok (a.0, b))) write) b.1
+      ∙ ap (λ v. write_results f call r i v s insn.results.items) (same_lanewise insn.op insn.prefix a.0 b.0 g h a.2 b.2)

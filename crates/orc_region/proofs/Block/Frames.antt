@@ -1,0 +1,190 @@
+-- Patterns and running sums in the frame.
+use Rattle.std.proofs.Common.{◌≡◌, ◌≢◌, ℕ, zero, suc, ◌+◌, ◌*◌, ◌/◌, ◌%◌, ◌^◌, ◌<◌, ◌≤◌, ◌==◌, Bool, true, false, if◌then◌else◌, List, get_or, Some, Ok, refl, sym, ap, ◌∙◌, subst, arith, ⊎_elim}
+use Rattle.std.proofs.lemmas.Bool.{cases_eq}
+use Rattle.std.proofs.lemmas.Nat.{mod-mul-add}
+use Rattle.std.proofs.Math.Nat.{add-mod-mod}
+use Rattle.orc_bits.specs.Numbers.{cut}
+use Rattle.orc_bits.specs.Lanes.{lane, from_bytes, AreBytes, change}
+use Rattle.orc_bits.specs.Memory.{Memory, IsMapped, read, fill}
+use Rattle.orc_bits.proofs.LaneLaws.{lane_of_digits, lane-same, from_byte, change_other, change_same, eq_false}
+use Rattle.orc_bits.proofs.Memories.{read_lanes, all_there, store_there}
+use Rattle.x86_ins.specs.declared.ins.Ins.TheVariants.{VecLoad, VecStore}
+use Rattle.x86_ins.specs.declared.ins.MoveOp.TheVariants.{Movdqu}
+use Rattle.x86_ins.specs.Machine.{Core, with_xmm, with_memory, address, access, save, work}
+use Rattle.x86_flow.specs.Moves.{away}
+use Rattle.x86_flow.proofs.Moves.{IsFill, fill_is}
+use Rattle.sse_acc.specs.Sums.{sum_below, sum_of}
+use Rattle.sse_acc.proofs.Totals.{sum_below-zero, sum_below-suc, sum_below-same}
+use Rattle.orc_frame.specs.Layout.{pattern_slot, sum_slot}
+use Rattle.orc_region.specs.Code.{ToSum}
+use Rattle.orc_region.proofs.Arithmetic.Digits.{digit, byte_within}
+use Rattle.orc_region.proofs.Block.Cells.{Numbers, adds_to, eq_yes}
+
+-- ---- moves of 16 bytes, so far from RSP
+
+pub record Loaded (x : ℕ) (z : ℕ → ℕ) (c d : Core) : Type 0 where
+  pub gpr : d.gpr ≡ c.gpr
+  pub memory : d.memory ≡ c.memory
+  pub others : (y : ℕ) → y ≢ x → d.xmm y ≡ c.xmm y
+  pub bytes : (b : ℕ) → b < 16 → get_or (d.xmm x) b 0 ≡ z b
+
+slot_at : (rsp far : ℕ) → rsp + far + 16 < 2 ^ 63 → (rsp + far) % 2 ^ 64 ≡ rsp + far
+slot_at rsp far low = omega (arith, low)
+
+pub load_slot : (c : Core) (x rsp far : ℕ) (z : ℕ → ℕ) → c.gpr 4 ≡ rsp → rsp + far + 16 < 2 ^ 63 → ((b : ℕ) → b < 16 → c.memory (rsp + far + b) ≡ Some (z b))
+    → (d : Core) × (work (VecLoad Movdqu x (away 4 far)) c ≡ Ok d) × Loaded x z c d
+load_slot c x rsp far z e low there =
+    let p = rsp + far in
+    let r = read_lanes 16 c.memory p z low there in
+    let new : List ℕ = from_bytes (λ j. get_or r.0 j 0) in
+    let at : address c (away 4 far) ≡ p = ap (λ a. (a + far) % 2 ^ 64) e ∙ slot_at rsp far low in (
+      with_xmm c x new,
+      ap (λ a. access 16 c.memory a (read 16 c.memory a) (λ bs. with_xmm c x (from_bytes (λ j. get_or bs j 0)))) at
+          ∙ ap (λ o. access 16 c.memory p o (λ bs. with_xmm c x (from_bytes (λ j. get_or bs j 0)))) r.1,
+      record {
+        gpr = refl;
+        memory = refl;
+        others = λ y ne. change_other c.xmm x new y ne;
+        bytes = λ b l. ap (λ v. get_or v b 0) (change_same c.xmm x new) ∙ from_byte (λ j. get_or r.0 j 0) b l ∙ r.2 b l;
+      },
+    )
+
+pub store_slot : (c : Core) (x rsp far : ℕ) → c.gpr 4 ≡ rsp → rsp + far + 16 < 2 ^ 63 → ((b : ℕ) → b < 16 → IsMapped c.memory (rsp + far + b))
+    → (d : Core) × (work (VecStore Movdqu x (away 4 far)) c ≡ Ok d) × (d.gpr ≡ c.gpr) × (d.xmm ≡ c.xmm) × IsFill 16 c.memory (rsp + far) (λ b. get_or (c.xmm x) b 0) d.memory
+store_slot c x rsp far e low there =
+    let p = rsp + far in
+    let f : ℕ → ℕ = λ j. get_or (c.xmm x) j 0 in
+    let at : address c (away 4 far) ≡ p = ap (λ a. (a + far) % 2 ^ 64) e ∙ slot_at rsp far low in (
+      with_memory c (fill 16 c.memory p f),
+      ap (λ a. save 16 c a f (λ mem. with_memory c mem)) at
+          ∙ ap (λ o. access 16 c.memory p o (λ mem. with_memory c mem)) (store_there 16 c.memory p f (all_there 16 c.memory p low there)),
+      refl,
+      refl,
+      fill_is 16 c.memory p f f low (λ j l. refl),
+    )
+
+-- ---- lanes of patterns
+
+-- a lane of a pattern that repeats after so many bytes
+pub pattern_lane : (x : List ℕ) (w n q : ℕ) → ((b : ℕ) → b < 16 → get_or x b 0 ≡ digit n (b % w)) → q * w + w ≤ 16 → lane w q x ≡ n % 2 ^ (8 * w)
+pattern_lane x w n q h l = lane_of_digits x w q n (λ k lk. h (q * w + k) (omega (arith, lk, l)) ∙ ap (digit n) (mod-mul-add q w k lk))
+
+-- ---- sums of lanes
+
+whole_lanes : (w q k : ℕ) → q < 16 / w → k < w → q * w + k < 16
+whole_lanes zero q k l lk = absurd (omega (arith, lk))
+whole_lanes (suc w) q k l lk = let m = byte_within q (16 / suc w) (suc w) k l lk in omega (arith, m)
+
+pub same_sum : (w : ℕ) (x y : List ℕ) → ((b : ℕ) → b < 16 → get_or x b 0 ≡ get_or y b 0) → sum_of w x ≡ sum_of w y
+same_sum w x y h = sum_below-same (16 / w) (λ q. lane w q x) (λ q. lane w q y) (λ q l. lane-same x y w q (λ k lk. h (q * w + k) (whole_lanes w q k l lk)))
+
+pub no_sum : (n : ℕ) → sum_below n (λ q. 0) ≡ 0
+no_sum zero = sum_below-zero (λ q. 0)
+no_sum (suc n) = let e = sum_below-suc n (λ q. 0) in omega (arith, e, no_sum n)
+
+-- what several elements add to one sum
+pub adds_all : (n g h : ℕ) (v : ℕ → ℕ) → adds_to (ToSum g) (sum_below n v) h ≡ sum_below n (λ q. adds_to (ToSum g) (v q) h)
+adds_all n g h v = go (g == h)
+  where
+    go : (t : Bool) → (if t then sum_below n v else 0) ≡ sum_below n (λ q. if t then v q else 0)
+    go true = refl
+    go false = sym (no_sum n)
+
+-- two sums of numbers are one
+pub sum_both : (n : ℕ) (f g : ℕ → ℕ) → sum_below n f + sum_below n g ≡ sum_below n (λ q. f q + g q)
+sum_both zero f g = let a = sum_below-zero f in let b = sum_below-zero g in let c = sum_below-zero (λ q. f q + g q) in omega (arith, a, b, c)
+sum_both (suc n) f g =
+    let a = sum_below-suc n f in
+    let b = sum_below-suc n g in
+    let c = sum_below-suc n (λ q. f q + g q) in
+    let more = sum_both n f g in
+    omega (arith, a, b, c, more)
+
+-- ---- what the frame holds
+
+-- RSP is `rsp`
+module _ (numbers : Numbers) (rsp : ℕ) where
+  pub record IsFrame : Type 0 where
+    pub few_patterns : numbers.patterns ≤ 48
+    pub few_sums : numbers.sums ≤ 4
+    pub low : rsp + 1024 ≤ 2 ^ 47
+
+  -- the patterns' slots hold their bytes, and the lanes of each running sum add up to its total, modulo what the sum's bytes hold
+  pub record Framed (mem : Memory) (totals : ℕ → ℕ) : Type 0 where
+    pub patterns : (j : ℕ) → j < numbers.patterns → (b : ℕ) → b < 16 → mem (rsp + pattern_slot j + b) ≡ Some (digit (numbers.number j) (b % numbers.period j))
+    pub running : ℕ → List ℕ
+    pub bytes : (g : ℕ) → AreBytes (running g)
+    pub sums : (g : ℕ) → g < numbers.sums → (b : ℕ) → b < 16 → mem (rsp + sum_slot g + b) ≡ Some (get_or (running g) b 0)
+    pub totals_are : (g : ℕ) → g < numbers.sums → cut (8 * numbers.width g) (sum_of (numbers.width g) (running g)) ≡ cut (8 * numbers.width g) (totals g)
+
+  -- the patterns and sums stay where their bytes do
+  pub framed_below : IsFrame → (mem end : Memory) (totals : ℕ → ℕ) → ((x : ℕ) → rsp ≤ x → x < rsp + 832 → end x ≡ mem x) → Framed mem totals → Framed end totals
+  framed_below is mem end totals same h = record {
+    patterns = λ j l b lb. same (rsp + pattern_slot j + b) (omega arith) (omega (arith, l, lb, is.few_patterns)) ∙ h.patterns j l b lb;
+    running = h.running;
+    bytes = h.bytes;
+    sums = λ g l b lb. same (rsp + sum_slot g + b) (omega arith) (omega (arith, l, lb, is.few_sums)) ∙ h.sums g l b lb;
+    totals_are = h.totals_are;
+  }
+
+  pub framed_same : IsFrame → (mem end : Memory) (totals : ℕ → ℕ) → ((x : ℕ) → rsp ≤ x → x < rsp + 1024 → end x ≡ mem x) → Framed mem totals → Framed end totals
+  framed_same is mem end totals same h = record {
+    patterns = λ j l b lb. same (rsp + pattern_slot j + b) (omega arith) (omega (arith, l, lb, is.few_patterns)) ∙ h.patterns j l b lb;
+    running = h.running;
+    bytes = h.bytes;
+    sums = λ g l b lb. same (rsp + sum_slot g + b) (omega arith) (omega (arith, l, lb, is.few_sums)) ∙ h.sums g l b lb;
+    totals_are = h.totals_are;
+  }
+
+  pub framed_totals : (mem : Memory) (a b : ℕ → ℕ) → ((g : ℕ) → a g ≡ b g) → Framed mem a → Framed mem b
+  framed_totals mem a b e h = record {
+    patterns = h.patterns;
+    running = h.running;
+    bytes = h.bytes;
+    sums = h.sums;
+    totals_are = λ g l. h.totals_are g l ∙ ap (cut (8 * numbers.width g)) (e g);
+  }
+
+  added : (m s t v : ℕ) → s % m ≡ t % m → (s + v) % m ≡ (t + v) % m
+  added m s t v e = sym (mod_add s v m) ∙ ap (λ x. (x + v) % m) e ∙ mod_add t v m
+    where
+      mod_add : (s v m : ℕ) → (s % m + v) % m ≡ (s + v) % m
+      mod_add s v m = ap (λ x. x % m) (let z : s % m + v ≡ v + s % m = omega arith in z) ∙ add-mod-mod v s m ∙ ap (λ x. x % m) (let z : v + s ≡ s + v = omega arith in z)
+
+  -- a running sum has grown
+  module _ (is : IsFrame) (mem end : Memory) (totals : ℕ → ℕ) (h : Framed mem totals) (g v : ℕ) (l : g < numbers.sums) (x : List ℕ) (small : AreBytes x) (f : IsFill 16 mem (rsp + sum_slot g) (λ b. get_or x b 0) end)
+      (grows : cut (8 * numbers.width g) (sum_of (numbers.width g) x) ≡ cut (8 * numbers.width g) (sum_of (numbers.width g) (h.running g) + v)) where
+    abbrev new : ℕ → List ℕ
+    new = change h.running g x
+
+    grown_bytes : (k : ℕ) → AreBytes (new k)
+    grown_bytes k = ⊎_elim
+        (λ e. subst AreBytes (sym (ap new e ∙ change_same h.running g x)) small)
+        (λ ne. subst AreBytes (sym (change_other h.running g x k ne)) (h.bytes k))
+        (cases_eq k g)
+
+    grown_there : (k : ℕ) → k < numbers.sums → (b : ℕ) → b < 16 → end (rsp + sum_slot k + b) ≡ Some (get_or (new k) b 0)
+    grown_there k lk b lb = ⊎_elim
+        (λ e. ap (λ k. end (rsp + sum_slot k + b)) e ∙ f.inside b lb ∙ ap (λ y. Some (get_or y b 0)) (sym (ap new e ∙ change_same h.running g x)))
+        (λ ne. f.outside (rsp + sum_slot k + b) (λ j lj q. ne (omega (arith, q, lb, lj))) ∙ h.sums k lk b lb ∙ ap (λ y. Some (get_or y b 0)) (sym (change_other h.running g x k ne)))
+        (cases_eq k g)
+
+    grown_total : (k : ℕ) → k < numbers.sums → cut (8 * numbers.width k) (sum_of (numbers.width k) (new k)) ≡ cut (8 * numbers.width k) (totals k + adds_to (ToSum g) v k)
+    grown_total k lk = ⊎_elim
+        (λ e. subst (λ k. cut (8 * numbers.width k) (sum_of (numbers.width k) (new k)) ≡ cut (8 * numbers.width k) (totals k + adds_to (ToSum g) v k)) (sym e)
+        (ap (λ y. cut (8 * numbers.width g) (sum_of (numbers.width g) y)) (change_same h.running g x) ∙ grows
+        ∙ added (2 ^ (8 * numbers.width g)) (sum_of (numbers.width g) (h.running g)) (totals g) v (h.totals_are g l)
+        ∙ ap (λ b. cut (8 * numbers.width g) (totals g + (if b then v else 0))) (sym (eq_yes g g refl))))
+        (λ ne. ap (λ y. cut (8 * numbers.width k) (sum_of (numbers.width k) y)) (change_other h.running g x k ne) ∙ h.totals_are k lk
+        ∙ ap (cut (8 * numbers.width k)) (let z : totals k ≡ totals k + 0 = omega arith in z)
+        ∙ ap (λ b. cut (8 * numbers.width k) (totals k + (if b then v else 0))) (sym (eq_false g k (λ e. ne (sym e)))))
+        (cases_eq k g)
+
+    pub framed_grown : Framed end (λ k. totals k + adds_to (ToSum g) v k)
+    framed_grown = record {
+      patterns = λ j lj b lb. f.outside (rsp + pattern_slot j + b) (λ i li q. omega (arith, q, lj, lb, is.few_patterns)) ∙ h.patterns j lj b lb;
+      running = new;
+      bytes = grown_bytes;
+      sums = grown_there;
+      totals_are = grown_total;
+    }

@@ -1,0 +1,115 @@
+-- Lists that grow by one instruction, by a rule or by an action.
+use Rattle.std.proofs.Common.{◌≡◌, ℕ, suc, ◌+◌, ◌*◌, ◌<◌, ◌≤◌, true, false, pos, List, [], ◌∷◌, ◌++◌, length, map, take, get_or, Result, Ok, Err, OnOk, refl, sym, ap, ap₂, ◌∙◌, subst, arith, append-nil, append_assoc}
+use Rattle.std.proofs.lemmas.List.{take_more}
+use Rattle.x86_ins.specs.declared.ins.AluOp.TheVariants.{Add}
+use Rattle.x86_ins.specs.declared.ins.Ins.{Ins}
+use Rattle.x86_ins.specs.declared.ins.Ins.TheVariants.{AluImm}
+use Rattle.x86_ins.specs.Renaming.{renamed, renaming}
+use Rattle.x86_ins.specs.Spelling.{IsIns}
+use Rattle.x86_ins.specs.Way.{Each}
+use Rattle.x86_ins.proofs.Renamed.{renamed_alike}
+use Rattle.orc_ops.specs.declared.opcode.Op.{Op}
+use Rattle.orc_ops.specs.Table.{row}
+use Rattle.sse_laws.specs.Meets.{Meets, is_sum}
+use Rattle.sse_acc.specs.Sums.{AddsUp}
+use Rattle.orc_plan.specs.declared.steps.Item.{Item}
+use Rattle.orc_plan.specs.declared.steps.Step.{Step}
+use Rattle.orc_region.specs.declared.span.Span.{Span}
+use Rattle.orc_region.specs.Code.{Action, Target, AreActions, AddsRule, AddsAction, AddsActions, pointer, far_by, aligned_first, source_of, target_of, first_register, second_register, exchange, rule_register, rule_code, sources_far_code, sum_code, results_far_code, action_far_code, actions_far_code, advance_code}
+
+-- what follows from a fact of a success
+pub on_ok : {A E : Type 0} (r : Result A E) (P Q : Type 0) → (P → Q) → OnOk r P → OnOk r Q
+on_ok (Ok x) P Q f h = f h
+on_ok (Err e) P Q f h = h
+
+pub on_both : {A E : Type 0} (r : Result A E) (P Q R : Type 0) → (P → Q → R) → OnOk r P → OnOk r Q → OnOk r R
+on_both (Ok x) P Q R f h g = f h g
+on_both (Err e) P Q R f h g = h
+
+next : (n : ℕ) → suc n ≡ n + 1
+next n = omega arith
+
+-- one more at the end of a list that grew from another
+grown : (base c d x : List Ins) (i : Ins) → c ≡ base ++ x → d ≡ c ++ i ∷ [] → d ≡ base ++ (x ++ i ∷ [])
+grown base c d x i p q = q ∙ ap (λ l. l ++ i ∷ []) p ∙ append_assoc base x (i ∷ [])
+
+pub advances_more : (base c d : List Ins) (size : ℕ → ℕ) (count first n : ℕ) (i : Ins) → c ≡ base ++ advance_code size count first n → d ≡ c ++ i ∷ [] → i ≡ AluImm Add (pointer (first + n)) (pos (count * size (first + n))) → d ≡ base ++ advance_code size count first (n + 1)
+advances_more base c d size count first n i p q e =
+    grown base c d (advance_code size count first n) (AluImm Add (pointer (first + n)) (pos (count * size (first + n)))) p (q ∙ ap (λ x. c ++ x ∷ []) e)
+    ∙ ap (λ k. base ++ advance_code size count first k) (next n)
+
+-- ---- rules and actions
+
+module _ (size : ℕ → ℕ) (span : Span) where
+  abbrev one_code : Action → List Ins
+  one_code = action_far_code span.count size (far_by span.first size) (aligned_first span.aligned)
+
+  abbrev all_code : List Action → List Ins
+  all_code = actions_far_code span.count size (far_by span.first size) (aligned_first span.aligned)
+
+  actions_append : (a b : List Action) → all_code (a ++ b) ≡ all_code a ++ all_code b
+  actions_append [] b = refl
+  actions_append (x ∷ a) b = ap (λ l. one_code x ++ l) (actions_append a b) ∙ sym (append_assoc (one_code x) (all_code a) (all_code b))
+
+  are_both : (at : List ℕ) (xs ys : List Step) (ps qs : List Action) → AreActions at span.count xs ps → AreActions at span.count ys qs → AreActions at span.count (xs ++ ys) (ps ++ qs)
+  are_both at [] ys [] qs h g = g
+  are_both at [] ys (a ∷ ps) qs h g = absurd h
+  are_both at (x ∷ xs) ys [] qs h g = absurd h
+  are_both at (x ∷ xs) ys (a ∷ ps) qs h g = (h.0, are_both at xs ys ps qs h.1 g)
+
+  pub actions_more : (at : List ℕ) (steps : List Step) (k : ℕ) (step : Step) (base c d : List Ins) → k < length steps → step ≡ get_or steps k step → AddsActions at size span (take k steps) base c → AddsAction at size span step c d → AddsActions at size span (take (k + 1) steps) base d
+  actions_more at steps k step base c d l is x y =
+      let one = one_code y.0 in
+      let before = all_code x.0 in (
+        x.0 ++ y.0 ∷ [],
+        subst (λ xs. AreActions at span.count xs (x.0 ++ y.0 ∷ [])) (ap (λ i. take k steps ++ i ∷ []) is ∙ sym (take_more steps k step l)) (are_both at (take k steps) (step ∷ []) x.0 (y.0 ∷ []) x.1 (y.1, tt)),
+        y.2 ∙ ap (λ b. b ++ one) x.2 ∙ append_assoc base before one
+            ∙ ap (λ b. base ++ b) (ap (λ b. before ++ b) (sym (append-nil one)) ∙ sym (actions_append x.0 (y.0 ∷ []))),
+      )
+
+  -- four lists at the end of one
+  four : (base a b c d c1 c2 c3 c4 : List Ins) → c1 ≡ base ++ a → c2 ≡ c1 ++ b → c3 ≡ c2 ++ c → c4 ≡ c3 ++ d → c4 ≡ base ++ (a ++ (b ++ (c ++ d)))
+  four base a b c d c1 c2 c3 c4 h1 h2 h3 h4 =
+      h4 ∙ ap (λ l. l ++ d) (h3 ∙ ap (λ l. l ++ c) (h2 ∙ ap (λ l. l ++ b) h1)) ∙ append_assoc ((base ++ a) ++ b) c d ∙ append_assoc (base ++ a) b (c ++ d) ∙ append_assoc base a (b ++ (c ++ d))
+
+  -- sources, a sum, a rule and results make an action
+  pub action_added : (at : List ℕ) (step : Step) (x y : ℕ) (base c1 c2 c3 c4 : List Ins) → x ≡ first_register (map (target_of at) step.results.items) → y ≡ second_register (map (target_of at) step.results.items)
+      → c1 ≡ base ++ sources_far_code span.count size (far_by span.first size) x y (map (source_of at) step.sources.items) → c2 ≡ c1 ++ sum_code (map (target_of at) step.results.items) → AddsRule span.count step.op (map (target_of at) step.results.items) c2 c3
+      → c4 ≡ c3 ++ results_far_code span.count size (far_by span.first size) (aligned_first span.aligned) (map (target_of at) step.results.items) → AddsAction at size span step base c4
+  action_added at step x y base c1 c2 c3 c4 ex ey p q r t =
+      let a : Action = record { op = step.op; prefix = step.prefix; to = map (target_of at) step.results.items; sources = map (source_of at) step.sources.items; rule = r.0 } in
+      let loads : c1 ≡ base ++ sources_far_code span.count size (far_by span.first size) (first_register a.to) (second_register a.to) a.sources = p ∙ ap₂ (λ x y. base ++ sources_far_code span.count size (far_by span.first size) x y a.sources) ex ey in (
+        a,
+        record { op = refl; prefix = refl; to = refl; sources = refl; rule = r.1 },
+        four base (sources_far_code span.count size (far_by span.first size) (first_register a.to) (second_register a.to) a.sources) (sum_code a.to) (rule_code a) (results_far_code span.count size (far_by span.first size) (aligned_first span.aligned) a.to) c1 c2 c3 c4 loads q r.2 t,
+      )
+
+  -- the same where operands are read as slices
+  pub action_of_slices : (at : List ℕ) (step : Step) (rs ss : List Item) → rs ≡ step.results.items → ss ≡ step.sources.items → (x y : ℕ) (base c1 c2 c3 c4 : List Ins) → x ≡ first_register (map (target_of at) rs) → y ≡ second_register (map (target_of at) rs)
+      → c1 ≡ base ++ sources_far_code span.count size (far_by span.first size) x y (map (source_of at) ss) → c2 ≡ c1 ++ sum_code (map (target_of at) rs) → AddsRule span.count step.op (map (target_of at) rs) c2 c3
+      → c4 ≡ c3 ++ results_far_code span.count size (far_by span.first size) (aligned_first span.aligned) (map (target_of at) rs) → AddsAction at size span step base c4
+  action_of_slices at step rs ss er es x y base c1 c2 c3 c4 ex ey p q r t =
+      let to : map (target_of at) rs ≡ map (target_of at) step.results.items = ap (map (target_of at)) er in
+      action_added at step x y base c1 c2 c3 c4 (ex ∙ ap first_register to) (ey ∙ ap second_register to) (p ∙ ap (λ xs. base ++ sources_far_code span.count size (far_by span.first size) x y (map (source_of at) xs)) es)
+      (q ∙ ap (λ ts. c1 ++ sum_code ts) to) (subst (λ ts. AddsRule span.count step.op ts c2 c3) to r) (t ∙ ap (λ ts. c3 ++ results_far_code span.count size (far_by span.first size) (aligned_first span.aligned) ts) to)
+
+-- ---- a rule under other names
+
+-- instructions under names that are the same below 16
+names_alike : (f g : ℕ → ℕ) → ((r : ℕ) → r < 16 → f r ≡ g r) → (is : List Ins) → Each IsIns is → map (renamed f) is ≡ map (renamed g) is
+names_alike f g same [] h = refl
+names_alike f g same (i ∷ is) h = ap₂ (λ (x : Ins) (y : List Ins). x ∷ y) (renamed_alike f g same i h.0) (names_alike f g same is h.1)
+
+pub rule_added : (count : ℕ) (op : Op) (ts : List Target) (x y : ℕ) (map_is : List ℕ) (list old new : List Ins) → x ≡ first_register ts → y ≡ second_register ts → ((r : ℕ) → r < 16 → renaming map_is r ≡ exchange 0 x (exchange 1 y r))
+    → (is_sum (row op).kind ≡ false → Meets op list) → (is_sum (row op).kind ≡ true → AddsUp op count list) → length list ≤ (row op).class → length list ≤ 100 → Each IsIns list → new ≡ old ++ map (renamed (renaming map_is)) list → AddsRule count op ts old new
+rule_added count op ts x y map_is list old new ex ey is meets adds few short known e = (
+  list,
+  record { meets = meets; adds = adds; few = few; short = short; known = known },
+  e ∙ ap (λ l. old ++ l) (names_alike (renaming map_is) (rule_register ts) (λ r l. is r l ∙ ap₂ (λ a b. exchange 0 a (exchange 1 b r)) ex ey) list known),
+)
+
+-- the same where the list is read as a slice
+pub rule_of_slice : (count : ℕ) (op : Op) (ts : List Target) (x y : ℕ) (map_is : List ℕ) (list slice old new : List Ins) → slice ≡ list → x ≡ first_register ts → y ≡ second_register ts → ((r : ℕ) → r < 16 → renaming map_is r ≡ exchange 0 x (exchange 1 y r))
+    → (is_sum (row op).kind ≡ false → Meets op list) → (is_sum (row op).kind ≡ true → AddsUp op count list) → length list ≤ (row op).class → length list ≤ 100 → Each IsIns slice → new ≡ old ++ map (renamed (renaming map_is)) slice → AddsRule count op ts old new
+rule_of_slice count op ts x y map_is list slice old new same ex ey is meets adds few short known e =
+    rule_added count op ts x y map_is list old new ex ey is meets adds few short (subst (Each IsIns) same known) (e ∙ ap (λ l. old ++ map (renamed (renaming map_is)) l) same)

@@ -1,0 +1,14 @@
+-- What a function that passes the checks has: its operands, slots, places, sizes and lanes.
+pub mod Passing
+pub mod Building
+pub mod Sized
+pub mod Several
+pub mod Uses
+pub mod Direct
+pub mod Acts
+pub mod Knows
+pub mod Numbered
+pub mod Slots
+pub mod Places
+pub mod Layouts
+pub mod Fits

@@ -1,0 +1,7 @@
+pub mod Arithmetic
+pub mod Checked
+pub mod Block
+pub mod Turn
+pub mod Row
+pub mod Sizes
+pub mod Built

@@ -1,0 +1,4 @@
+-- What the loops over the elements of a row do.
+pub mod Regions
+pub mod Gaps
+pub mod Counters

@@ -1,0 +1,7 @@
+-- How many instructions, steps and bytes the code has, and that its instructions are allowed.
+pub mod Cost
+pub mod Counts
+pub mod Vectored
+pub mod Bytes
+pub mod Loops
+pub mod Steps

@@ -1,0 +1,181 @@
+-- The code's instructions are allowed; its steps and bytes are few.
+use Rattle.std.proofs.Common.{◌≡◌, ℕ, zero, suc, ◌+◌, ◌*◌, ◌^◌, ◌<◌, ◌≤◌, Bool, true, false, pos, List, [], ◌∷◌, ◌++◌, length, map, refl, ◌∙◌, arith}
+use Rattle.std.proofs.Math.Nat.{mul-le-mul_right}
+use Rattle.x86_ins.specs.declared.ins.AluOp.TheVariants.{Add, Sub}
+use Rattle.x86_ins.specs.declared.ins.Ins.{Ins}
+use Rattle.x86_ins.specs.declared.ins.Ins.TheVariants.{AluImm, Vec}
+use Rattle.x86_ins.specs.declared.ins.MoveOp.TheVariants.{Movdqu}
+use Rattle.x86_ins.specs.declared.ins.VecOp.TheVariants.{Movdqa}
+use Rattle.x86_ins.specs.Renaming.{renamed}
+use Rattle.x86_ins.specs.Spelling.{IsIns}
+use Rattle.x86_ins.specs.Vectors.{all_simd}
+use Rattle.x86_ins.proofs.Renamed.{simd_renamed, ins_renamed}
+use Rattle.orc_ops.specs.declared.opcode.Op.{Op}
+use Rattle.orc_ops.specs.Table.{row}
+use Rattle.sse_laws.specs.Meets.{is_sum}
+use Rattle.x86_ins.specs.Way.{Each}
+use Rattle.x86_flow.specs.Flow.{size}
+use Rattle.x86_flow.specs.Moves.{IsWidth, away, store_either_code}
+use Rattle.x86_flow.proofs.Spelled.{IsFine, fine_alu_imm, fits_up, each_both, size_within, fine_load_far, fine_store_far, fine_aligned_store, fine_vec_load, fine_vec_store}
+use Rattle.orc_frame.specs.Layout.{pattern_slot, sum_slot}
+use Rattle.orc_region.specs.Code.{Action, IsRule, Source, FromArray, FromPattern, FromPlace, Target, ToArray, ToSum, ToPlace, Plan, pointer, place_register, made_in, first_register, second_register, rule_register, rule_code, at_pointer, unaligned, aligned_first, source_far_code, sources_far_code, sum_code, result_far_code, results_far_code, action_far_code, actions_far_code, actions_code, advance_code, block_far, blocks_code, turn_code, blocks_turn_code}
+use Rattle.orc_region.proofs.Block.Keeping.{ins_of}
+use Rattle.orc_region.proofs.Block.RuleRegisters.{register_small}
+use Rattle.orc_region.proofs.Sizes.Cost.{from_weights, to_weights, weights}
+use Rattle.orc_region.proofs.Block.Registers.{pointer_small}
+use Rattle.orc_region.proofs.Sizes.Vectored.{fine_rule}
+use Rattle.orc_region.proofs.Sizes.Counts.{IsFromSlot, IsToSlot, IsMovable, turn_count, block_turn_count}
+
+-- what is asked of a plan by which so many elements are done at once
+pub record Small (count : ℕ) (p : Plan) : Type 0 where
+  pub most : count ≤ 16
+  pub dests : p.dests ≤ 4
+  pub sources : p.sources ≤ 8
+  pub size : (k : ℕ) → p.size k ≤ 8
+  pub actions : Each (IsMovable count p.size) p.actions
+  pub few : length p.actions ≤ 100
+
+-- a rule is of vector instructions
+pub vectors_of : (count : ℕ) (op : Op) (rule : List Ins) → IsRule count op rule → all_simd rule ≡ true
+vectors_of count op rule is = go (is_sum (row op).kind) refl
+  where
+    go : (b : Bool) → is_sum (row op).kind ≡ b → all_simd rule ≡ true
+    go true e = (is.adds e).vectors
+    go false e = (is.meets e).vectors
+
+each_renamed : (f : ℕ → ℕ) → ((r : ℕ) → r < 16 → f r < 16) → (is : List Ins) → Each IsIns is → Each IsIns (map (renamed f) is)
+each_renamed f small [] h = tt
+each_renamed f small (i ∷ is) h = (ins_renamed f small i h.0, each_renamed f small is h.1)
+
+fine_store_either : (b : Bool) (width x r d : ℕ) → IsWidth width → x < 16 → r < 16 → d < 2 ^ 31 → Each IsFine (store_either_code b width x r d)
+fine_store_either true width x r d is g e l = fine_aligned_store x r d g e l
+fine_store_either false width x r d is g e l = fine_store_far width x r d is g e l
+
+-- ---- actions of so many elements, whose cells are near the pointers
+
+module _ (count : ℕ) (size far : ℕ → ℕ) (aligned : ℕ → Bool) (near : (k : ℕ) → far k < 2 ^ 31) where
+  fine_source : (x : ℕ) (s : Source) → x < 16 → IsFromSlot count size s → Each IsFine (source_far_code count size far x s)
+  fine_source x (FromArray k) l h = fine_load_far (count * size k) x (pointer k) (far k) h.0 l (pointer_small k h.1) (near k)
+  fine_source x (FromPattern j) l h = (fine_vec_load Movdqu x (away 4 (pattern_slot j)) l (omega arith) (fits_up (pattern_slot j) (omega (arith, h))), tt)
+  fine_source x (FromPlace p) l h = fine_rule (Vec Movdqa x (place_register p) ∷ []) refl ((l, omega (arith, h)), tt)
+
+  fine_sources : (x y : ℕ) (ss : List Source) → x < 16 → y < 16 → Each (IsFromSlot count size) ss → Each IsFine (sources_far_code count size far x y ss)
+  fine_sources x y [] l m h = tt
+  fine_sources x y (s ∷ []) l m h = fine_source x s l h.0
+  fine_sources x y (s ∷ t ∷ more) l m h = each_both IsFine (source_far_code count size far x s) (source_far_code count size far y t) (fine_source x s l h.0) (fine_source y t m h.1.0)
+
+  fine_sum : (ts : List Target) → Each (IsToSlot count size) ts → Each IsFine (sum_code ts)
+  fine_sum [] h = tt
+  fine_sum (ToArray k ∷ more) h = tt
+  fine_sum (ToPlace p ∷ more) h = tt
+  fine_sum (ToSum g ∷ more) h = (fine_vec_load Movdqu 2 (away 4 (sum_slot g)) (omega arith) (omega arith) (fits_up (sum_slot g) (let l : g < 4 = h.0 in omega (arith, l))), tt)
+
+  fine_result : (x : ℕ) (t : Target) → x < 16 → IsToSlot count size t → Each IsFine (result_far_code count size far aligned x t)
+  fine_result x (ToArray k) l h = fine_store_either (aligned k) (count * size k) x (pointer k) (far k) h.0 l (pointer_small k h.1) (near k)
+  fine_result x (ToSum g) l h = (fine_vec_store Movdqu 2 (away 4 (sum_slot g)) (omega arith) (omega arith) (fits_up (sum_slot g) (omega (arith, h))), tt)
+  fine_result x (ToPlace p) l h = tt
+
+  fine_results : (ts : List Target) → Each (IsToSlot count size) ts → Each IsFine (results_far_code count size far aligned ts)
+  fine_results [] h = tt
+  fine_results (t ∷ []) h = fine_result 0 t (omega arith) h.0
+  fine_results (t ∷ u ∷ more) h = each_both IsFine (result_far_code count size far aligned 0 t) (result_far_code count size far aligned 1 u) (fine_result 0 t (omega arith) h.0) (fine_result 1 u (omega arith) h.1.0)
+
+  -- the registers of results
+  made_small : (x : ℕ) (t : Target) → x < 16 → IsToSlot count size t → made_in x t < 16
+  made_small x (ToArray k) l h = l
+  made_small x (ToSum g) l h = l
+  made_small x (ToPlace p) l h = omega (arith, h)
+
+  first_small : (ts : List Target) → Each (IsToSlot count size) ts → first_register ts < 16
+  first_small [] h = omega arith
+  first_small (t ∷ more) h = made_small 0 t (omega arith) h.0
+
+  second_small : (ts : List Target) → Each (IsToSlot count size) ts → second_register ts < 16
+  second_small [] h = omega arith
+  second_small (t ∷ []) h = omega arith
+  second_small (t ∷ u ∷ more) h = made_small 1 u (omega arith) h.1.0
+
+  fine_renamed : (a : Action) → IsMovable count size a → Each IsFine (rule_code a)
+  fine_renamed a h =
+      let f : ℕ → ℕ = rule_register a.to in
+      fine_rule (rule_code a) (simd_renamed f a.rule ∙ vectors_of count a.op a.rule h.rule) (each_renamed f (register_small a.to (first_small a.to h.to) (second_small a.to h.to)) a.rule h.rule.known)
+
+  pub fine_action : (a : Action) → IsMovable count size a → Each IsFine (action_far_code count size far aligned a)
+  fine_action a h =
+      let stores = results_far_code count size far aligned a.to in
+      let x = first_register a.to in
+      let y = second_register a.to in
+      each_both IsFine (sources_far_code count size far x y a.sources) (sum_code a.to ++ (rule_code a ++ stores)) (fine_sources x y a.sources (first_small a.to h.to) (second_small a.to h.to) h.sources)
+      (each_both IsFine (sum_code a.to) (rule_code a ++ stores) (fine_sum a.to h.to)
+      (each_both IsFine (rule_code a) stores (fine_renamed a h) (fine_results a.to h.to)))
+
+  pub fine_actions : (actions : List Action) → Each (IsMovable count size) actions → Each IsFine (actions_far_code count size far aligned actions)
+  fine_actions [] h = tt
+  fine_actions (a ∷ rest) h = each_both IsFine (action_far_code count size far aligned a) (actions_far_code count size far aligned rest) (fine_action a h.0) (fine_actions rest h.1)
+
+  pub ins_actions : (actions : List Action) → Each (IsMovable count size) actions → Each (λ a. Each IsIns (action_far_code count size far aligned a)) actions
+  ins_actions [] h = tt
+  ins_actions (a ∷ rest) h = (ins_of (action_far_code count size far aligned a) (fine_action a h.0), ins_actions rest h.1)
+
+-- the instructions of an action
+from_few : (ss : List Source) → from_weights ss ≤ 2 * length ss
+from_few [] = omega arith
+from_few (FromArray k ∷ ss) = omega (arith, from_few ss)
+from_few (FromPattern j ∷ ss) = omega (arith, from_few ss)
+from_few (FromPlace p ∷ ss) = omega (arith, from_few ss)
+
+to_few : (ts : List Target) → to_weights ts ≤ 2 * length ts
+to_few [] = omega arith
+to_few (ToArray k ∷ ts) = omega (arith, to_few ts)
+to_few (ToSum g ∷ ts) = omega (arith, to_few ts)
+to_few (ToPlace p ∷ ts) = omega (arith, to_few ts)
+
+weight_few : (count : ℕ) (size : ℕ → ℕ) (actions : List Action) → Each (IsMovable count size) actions → weights actions ≤ 108 * length actions
+weight_few count size [] h = omega arith
+weight_few count size (a ∷ rest) h = omega (arith, h.0.few, h.0.few_to, h.0.rule.short, from_few a.sources, to_few a.to, weight_few count size rest h.1)
+
+-- ---- pointers and counter
+
+step_small : (by size : ℕ) → by ≤ 16 → size ≤ 8 → by * size ≤ 128
+step_small by size most small = let m : by * size ≤ 16 * size = mul-le-mul_right size most in omega (arith, m, small)
+
+fine_advance : (size : ℕ → ℕ) → ((k : ℕ) → size k ≤ 8) → (by : ℕ) → by ≤ 16 → (first n : ℕ) → first + n ≤ 12 → Each IsFine (advance_code size by first n)
+fine_advance size small by most first zero h = tt
+fine_advance size small by most first (suc n) h =
+    let step = step_small by (size (first + n)) most (small (first + n)) in
+    each_both IsFine (advance_code size by first n) (AluImm Add (pointer (first + n)) (pos (by * size (first + n))) ∷ []) (fine_advance size small by most first n (omega (arith, h)))
+    (fine_alu_imm Add (pointer (first + n)) (pos (by * size (first + n))) (pointer_small (first + n) (omega (arith, h))) (fits_up (by * size (first + n)) (omega (arith, step))), tt)
+
+module _ (count : ℕ) (p : Plan) (h : Small count p) where
+  -- code, and what moves the pointers and the counter on
+  fine_move : (by : ℕ) → by ≤ 16 → (code : List Ins) → Each IsFine code → Each IsFine (code ++ (advance_code p.size by 0 p.dests ++ (advance_code p.size by 4 p.sources ++ AluImm Sub 1 (pos by) ∷ [])))
+  fine_move by most code fine =
+      let last = AluImm Sub 1 (pos by) ∷ [] in
+      each_both IsFine code (advance_code p.size by 0 p.dests ++ (advance_code p.size by 4 p.sources ++ last)) fine
+      (each_both IsFine (advance_code p.size by 0 p.dests) (advance_code p.size by 4 p.sources ++ last) (fine_advance p.size h.size by most 0 p.dests (omega (arith, h.dests)))
+      (each_both IsFine (advance_code p.size by 4 p.sources) last (fine_advance p.size h.size by most 4 p.sources (omega (arith, h.sources))) (fine_alu_imm Sub 1 (pos by) (omega arith) (fits_up by (omega (arith, most))), tt)))
+
+  -- the cells of the first block are at the pointers
+  block_near : (k : ℕ) → block_far p (0 * count) k < 2 ^ 31
+  block_near k = omega arith
+
+  pub fine_turn : Each IsFine (turn_code p count)
+  fine_turn = fine_move count h.most (actions_code count p.size p.actions) (fine_actions count p.size at_pointer unaligned (λ k. omega arith) p.actions h.actions)
+
+  -- a turn of one block with aligned stores for the first dest
+  pub fine_aligned : Each IsFine (blocks_turn_code p (aligned_first true) count 1)
+  fine_aligned =
+      fine_move (1 * count) (let l = h.most in omega (arith, l)) (blocks_code p (aligned_first true) count 1)
+      (fine_actions count p.size (block_far p (0 * count)) (aligned_first true) block_near p.actions h.actions)
+
+  pub ins_block : Each (λ a. Each IsIns (action_far_code count p.size (block_far p (0 * count)) (aligned_first true) a)) p.actions
+  ins_block = ins_actions count p.size (block_far p (0 * count)) (aligned_first true) block_near p.actions h.actions
+
+  -- ---- bytes
+
+  pub turn_bytes : size (turn_code p count) ≤ 200000
+  turn_bytes = omega (arith, size_within (turn_code p count) fine_turn, turn_count p count h.actions, weight_few count p.size p.actions h.actions, h.few, h.dests, h.sources)
+
+  pub aligned_bytes : size (blocks_turn_code p (aligned_first true) count 1) ≤ 200000
+  aligned_bytes =
+      omega (arith, size_within (blocks_turn_code p (aligned_first true) count 1) fine_aligned, block_turn_count p (aligned_first true) count h.actions, weight_few count p.size p.actions h.actions, h.few, h.dests, h.sources)

@@ -1,0 +1,105 @@
+-- The instructions of the code's parts.
+use Rattle.std.proofs.Common.{◌≡◌, ℕ, zero, suc, ◌+◌, ◌*◌, ◌<◌, ◌≤◌, Bool, true, false, pos, List, [], ◌∷◌, ◌++◌, length, refl, arith, length-append}
+use Rattle.std.proofs.lemmas.List.{length-map}
+use Rattle.x86_ins.specs.declared.ins.AluOp.TheVariants.{Add, Sub}
+use Rattle.x86_ins.specs.declared.ins.Ins.{Ins}
+use Rattle.x86_ins.specs.declared.ins.Ins.TheVariants.{AluImm}
+use Rattle.x86_ins.specs.Renaming.{renamed}
+use Rattle.x86_ins.specs.Way.{Each}
+use Rattle.x86_flow.specs.Moves.{IsWidth, load_far_code, store_either_code}
+use Rattle.x86_flow.proofs.Moves.{each_width}
+use Rattle.orc_region.specs.Code.{Action, IsRule, Source, FromArray, FromPattern, FromPlace, Target, ToArray, ToSum, ToPlace, Plan, pointer, at_pointer, unaligned, first_register, second_register, rule_register, rule_code, source_far_code, sources_far_code, sum_code, result_far_code, results_far_code, action_far_code, actions_code, actions_far_code, advance_code, block_far, blocks_code, turn_code, blocks_turn_code}
+use Rattle.orc_region.proofs.Sizes.Cost.{from_weight, from_weights, to_weight, to_weights, weight, weights}
+
+-- a slot of an array whose elements can be moved so many at once, one of the frame, or a place
+abbrev pub IsFromSlot : ℕ → (ℕ → ℕ) → Source → Type 0
+IsFromSlot count size (FromArray k) = IsWidth (count * size k) × (k < 12)
+IsFromSlot count size (FromPattern j) = j < 48
+IsFromSlot count size (FromPlace p) = p < 10
+
+abbrev pub IsToSlot : ℕ → (ℕ → ℕ) → Target → Type 0
+IsToSlot count size (ToArray k) = IsWidth (count * size k) × (k < 12)
+IsToSlot count size (ToSum g) = g < 4
+IsToSlot count size (ToPlace p) = p < 10
+
+-- an action's slots are slots, of elements that can be moved so many at once
+pub record IsMovable (count : ℕ) (size : ℕ → ℕ) (a : Action) : Type 0 where
+  pub to : Each (IsToSlot count size) a.to
+  pub sources : Each (IsFromSlot count size) a.sources
+  pub few : length a.sources ≤ 2
+  pub few_to : length a.to ≤ 2
+  pub rule : IsRule count a.op a.rule
+
+load_count : (width x r far : ℕ) → IsWidth width → length (load_far_code width x r far) ≤ 2
+load_count width x r far is = each_width (λ w. length (load_far_code w x r far) ≤ 2) (omega arith) (omega arith) (omega arith) (omega arith) (omega arith) width is
+
+store_count : (b : Bool) (width x r far : ℕ) → IsWidth width → length (store_either_code b width x r far) ≤ 2
+store_count true width x r far is = omega arith
+store_count false width x r far is = each_width (λ w. length (store_either_code false w x r far) ≤ 2) (omega arith) (omega arith) (omega arith) (omega arith) (omega arith) width is
+
+module _ (count : ℕ) (size far : ℕ → ℕ) (aligned : ℕ → Bool) where
+  source_length : (x : ℕ) (s : Source) → IsFromSlot count size s → length (source_far_code count size far x s) ≤ from_weight s
+  source_length x (FromArray k) h = load_count (count * size k) x (pointer k) (far k) h.0
+  source_length x (FromPattern j) h = omega arith
+  source_length x (FromPlace p) h = omega arith
+
+  sources_length : (x y : ℕ) (ss : List Source) → Each (IsFromSlot count size) ss → length (sources_far_code count size far x y ss) ≤ from_weights ss
+  sources_length x y [] h = omega arith
+  sources_length x y (s ∷ []) h = let l = source_length x s h.0 in omega (arith, l)
+  sources_length x y (s ∷ t ∷ more) h = omega (arith, source_length x s h.0, source_length y t h.1.0, length-append (source_far_code count size far x s) (source_far_code count size far y t))
+
+  result_length : (x : ℕ) (t : Target) → IsToSlot count size t → length (sum_code (t ∷ [])) + length (result_far_code count size far aligned x t) ≤ to_weight t
+  result_length x (ToArray k) h = let l = store_count (aligned k) (count * size k) x (pointer k) (far k) h.0 in omega (arith, l)
+  result_length x (ToSum g) h = omega arith
+  result_length x (ToPlace p) h = omega arith
+
+  sum_first : (t : Target) (more : List Target) → length (sum_code (t ∷ more)) ≡ length (sum_code (t ∷ []))
+  sum_first (ToArray k) more = refl
+  sum_first (ToSum g) more = refl
+  sum_first (ToPlace p) more = refl
+
+  -- a sum is loaded and stored
+  results_length : (ts : List Target) → Each (IsToSlot count size) ts → length (sum_code ts) + length (results_far_code count size far aligned ts) ≤ to_weights ts
+  results_length [] h = omega arith
+  results_length (t ∷ []) h = let l = result_length 0 t h.0 in omega (arith, l)
+  results_length (t ∷ u ∷ more) h =
+      let l = result_length 0 t h.0 in
+      let m = result_length 1 u h.1.0 in
+      omega (arith, l, m, sum_first t (u ∷ more), length-append (result_far_code count size far aligned 0 t) (result_far_code count size far aligned 1 u))
+
+  action_count : (a : Action) → IsMovable count size a → length (action_far_code count size far aligned a) ≤ weight a
+  action_count a h =
+      let loads = sources_far_code count size far (first_register a.to) (second_register a.to) a.sources in
+      let stores = results_far_code count size far aligned a.to in
+      omega (
+        arith,
+        length-append loads (sum_code a.to ++ (rule_code a ++ stores)),
+        length-append (sum_code a.to) (rule_code a ++ stores),
+        length-append (rule_code a) stores,
+        length-map a.rule (renamed (rule_register a.to)),
+        sources_length (first_register a.to) (second_register a.to) a.sources h.sources,
+        results_length a.to h.to,
+      )
+
+  pub actions_count : (actions : List Action) → Each (IsMovable count size) actions → length (actions_far_code count size far aligned actions) ≤ weights actions
+  actions_count [] h = omega arith
+  actions_count (a ∷ rest) h = omega (arith, length-append (action_far_code count size far aligned a) (actions_far_code count size far aligned rest), action_count a h.0, actions_count rest h.1)
+
+advance_count : (size : ℕ → ℕ) (count first n : ℕ) → length (advance_code size count first n) ≡ n
+advance_count size count first zero = refl
+advance_count size count first (suc n) = omega (arith, length-append (advance_code size count first n) (AluImm Add (pointer (first + n)) (pos (count * size (first + n))) ∷ []), advance_count size count first n)
+
+-- code, and what moves the pointers and the counter on
+move_count : (p : Plan) (by : ℕ) (code : List Ins) → length (code ++ (advance_code p.size by 0 p.dests ++ (advance_code p.size by 4 p.sources ++ AluImm Sub 1 (pos by) ∷ []))) ≡ length code + (p.dests + p.sources) + 1
+move_count p by code =
+    let last = AluImm Sub 1 (pos by) ∷ [] in
+    let a = advance_code p.size by 0 p.dests in
+    let b = advance_code p.size by 4 p.sources in
+    omega (arith, length-append code (a ++ (b ++ last)), length-append a (b ++ last), length-append b last, advance_count p.size by 0 p.dests, advance_count p.size by 4 p.sources)
+
+pub turn_count : (p : Plan) (count : ℕ) → Each (IsMovable count p.size) p.actions → length (turn_code p count) ≤ weights p.actions + (p.dests + p.sources) + 1
+turn_count p count h = omega (arith, move_count p count (actions_code count p.size p.actions), actions_count count p.size at_pointer unaligned p.actions h)
+
+-- a turn of one block with aligned stores
+pub block_turn_count : (p : Plan) (aligned : ℕ → Bool) (count : ℕ) → Each (IsMovable count p.size) p.actions → length (blocks_turn_code p aligned count 1) ≤ weights p.actions + (p.dests + p.sources) + 1
+block_turn_count p aligned count h = omega (arith, move_count p (1 * count) (blocks_code p aligned count 1), actions_count count p.size (block_far p (0 * count)) aligned p.actions h)

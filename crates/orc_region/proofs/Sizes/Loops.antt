@@ -1,0 +1,109 @@
+-- The loops of a row: their instructions are allowed, and have few bytes more than those of the turns.
+use Rattle.std.proofs.Common.{ℕ, zero, suc, ◌+◌, ◌*◌, ◌-◌, ◌^◌, ◌<◌, ◌≤◌, pos, List, [], ◌∷◌, ◌++◌, length, refl, arith}
+use Rattle.x86_ins.specs.declared.ins.AluOp.{AluOp}
+use Rattle.x86_ins.specs.declared.ins.AluOp.TheVariants.{Add, Sub, And}
+use Rattle.x86_ins.specs.declared.ins.ShiftOp.TheVariants.{Shr}
+use Rattle.x86_ins.specs.declared.ins.Cond.TheVariants.{E, Ne, Ns}
+use Rattle.x86_ins.specs.declared.ins.Ins.{Ins}
+use Rattle.x86_ins.specs.declared.ins.Ins.TheVariants.{MovImm, Alu, AluImm}
+use Rattle.x86_ins.specs.Spelling.{IsAllowed, spelling, plus_form}
+use Rattle.x86_ins.specs.Way.{Each}
+use Rattle.x86_flow.specs.Flow.{Flow, flat, size, loop_code, choice_code}
+use Rattle.x86_flow.specs.Moves.{away}
+use Rattle.x86_flow.proofs.Spelled.{IsFine, fits_up, fine_zero, fine_alu, fine_alu_imm, fine_move, fine_shift, fine_load, fine_store, fine_test, each_both, all_allowed, size_within}
+use Rattle.x86_flow.proofs.Shapes.{size_both, loop_size, choice_size, loop_fine, choice_fine}
+use Rattle.orc_region.specs.Regions.{left_word, never, gap_code, low_bits_code, never_code, gap_flow, behind_code, enter_head_code, leave_head_code, reached_flow, unreached_flow, tail_flow, aligned_row, plain_row}
+use Rattle.orc_region.proofs.Row.Gaps.{each_size}
+
+-- instructions that are allowed, of at most so many bytes
+pub record Fits (n : ℕ) (is : List Ins) : Type 0 where
+  pub allowed : Each IsAllowed is
+  pub bytes : size is ≤ n
+
+fits_list : (is : List Ins) (k : ℕ) → length is ≤ k → Each IsFine is → Fits (11 * k) is
+fits_list is k l h = record { allowed = all_allowed is h; bytes = omega (arith, size_within is h, l) }
+
+pub fits_both : (a b : ℕ) (x y : List Ins) → Fits a x → Fits b y → Fits (a + b) (x ++ y)
+fits_both a b x y h g = record { allowed = each_both IsAllowed x y h.allowed g.allowed; bytes = omega (arith, size_both x y, h.bytes, g.bytes) }
+
+fine_never : IsFine (MovImm 0 never)
+unfolding spelling plus_form
+fine_never = record { allowed = ((omega arith, omega arith), refl); short = omega arith }
+
+fine_gap : (k : ℕ) → k ≤ 3 → Each IsFine (gap_code k)
+fine_gap zero l = (fine_zero, (fine_alu Sub 0 2 (omega arith) (omega arith), (fine_alu_imm And 0 (pos 15) (omega arith) (fits_up 15 (omega arith)), tt)))
+fine_gap (suc k) l = (fine_zero, (fine_alu Sub 0 2 (omega arith) (omega arith), (fine_alu_imm And 0 (pos 15) (omega arith) (fits_up 15 (omega arith)), (fine_shift Shr 0 (suc k) (omega arith) (omega (arith, l)), tt))))
+
+gap_length : (k : ℕ) → length (gap_code k) ≤ 4
+gap_length zero = omega arith
+gap_length (suc k) = omega arith
+
+fine_low_bits : (k : ℕ) → k ≤ 3 → Each IsFine (low_bits_code k)
+fine_low_bits k l = (fine_move 0 2 (omega arith) (omega arith), (fine_alu_imm And 0 (pos (2 ^ k - 1)) (omega arith) (fits_up (2 ^ k - 1) (each_size (λ j. 2 ^ j - 1 < 2 ^ 31) (omega arith) (omega arith) (omega arith) (omega arith) k l)), tt))
+
+fits_gap : (k : ℕ) → k ≤ 3 → Fits 88 (flat (gap_flow k))
+fits_gap zero l = (let h = fits_list (gap_code 0) 4 (gap_length 0) (fine_gap 0 l) in record { allowed = h.allowed; bytes = (let b = h.bytes in omega (arith, b)) })
+fits_gap (suc k) l =
+    let bits = fits_list (low_bits_code (suc k)) 2 (omega arith) (fine_low_bits (suc k) l) in
+    let gap = fits_list (gap_code (suc k)) 4 (gap_length (suc k)) (fine_gap (suc k) l) in
+    let far = fits_list never_code 1 (omega arith) (fine_never, tt) in
+    let a = bits.bytes in
+    let b = gap.bytes in
+    let c = far.bytes in
+    record {
+      allowed = each_both IsAllowed (low_bits_code (suc k)) (choice_code E (gap_code (suc k)) never_code) bits.allowed (choice_fine E (gap_code (suc k)) never_code (omega (arith, b)) (omega (arith, c)) gap.allowed far.allowed);
+      bytes = omega (arith, size_both (low_bits_code (suc k)) (choice_code E (gap_code (suc k)) never_code), choice_size E (gap_code (suc k)) never_code, a, b, c);
+    }
+
+fine_count : (op : AluOp) (n : ℕ) → n ≤ 64 → IsFine (AluImm op 1 (pos n))
+fine_count op n l = fine_alu_imm op 1 (pos n) (omega arith) (fits_up n (omega (arith, l)))
+
+module _ (single wide aligned : Flow) (lanes s w a : ℕ) (most : lanes ≤ 64) (few_single : s ≤ 1000000) (few_wide : w ≤ 1000000) (few_aligned : a ≤ 1000000) (is_single : Fits s (flat single)) (is_wide : Fits w (flat wide)) (is_aligned : Fits a (flat aligned)) where
+  fits_singles : Fits (s + 11) (loop_code Ne (flat single))
+  fits_singles = (let b = is_single.bytes in record { allowed = loop_fine Ne (flat single) (omega (arith, b, few_single)) is_single.allowed; bytes = omega (arith, loop_size Ne (flat single), b) })
+
+  fits_tail : Fits (s + 22) (flat (tail_flow lanes single))
+  fits_tail =
+      let x = fits_both 11 (s + 11) (AluImm Add 1 (pos lanes) ∷ []) (loop_code Ne (flat single)) (fits_list (AluImm Add 1 (pos lanes) ∷ []) 1 (omega arith) (fine_count Add lanes most, tt)) fits_singles in
+      record { allowed = x.allowed; bytes = (let b = x.bytes in omega (arith, b)) }
+
+  -- a row without aligned stores
+  pub fits_plain : Fits (s + w + 33) (flat (plain_row lanes single wide))
+  fits_plain =
+      let first = fits_list (AluImm Sub 1 (pos lanes) ∷ []) 1 (omega arith) (fine_count Sub lanes most, tt) in
+      let x = fits_both 11 (w + (s + 22)) (AluImm Sub 1 (pos lanes) ∷ []) (flat wide ++ flat (tail_flow lanes single)) first (fits_both w (s + 22) (flat wide) (flat (tail_flow lanes single)) is_wide fits_tail) in
+      record { allowed = x.allowed; bytes = (let b = x.bytes in omega (arith, b)) }
+
+  fits_reached : Fits (s + a + 66) (flat (reached_flow single aligned))
+  fits_reached =
+      let far = fits_up left_word (omega arith) in
+      let enter = fits_list enter_head_code 3 (omega arith) (fine_store 1 (away 4 left_word) (omega arith) (omega arith) far, (fine_move 1 0 (omega arith) (omega arith), (fine_test 1 1 (omega arith) (omega arith), tt))) in
+      let leave = fits_list leave_head_code 2 (omega arith) (fine_load 1 (away 4 left_word) (omega arith) (omega arith) far, (fine_test 1 1 (omega arith) (omega arith), tt)) in
+      let body = fits_both 22 a leave_head_code (flat aligned) leave is_aligned in
+      let turns = fits_both (s + 11) (22 + a) (loop_code Ne (flat single)) (leave_head_code ++ flat aligned) fits_singles body in
+      let x = fits_both 33 (s + 11 + (22 + a)) enter_head_code (loop_code Ne (flat single) ++ (leave_head_code ++ flat aligned)) enter turns in
+      record { allowed = x.allowed; bytes = (let b = x.bytes in omega (arith, b)) }
+
+  fits_unreached : Fits (w + 11) (flat (unreached_flow wide))
+  fits_unreached =
+      let x = fits_both 11 w (Alu Add 1 0 ∷ []) (flat wide) (fits_list (Alu Add 1 0 ∷ []) 1 (omega arith) (fine_alu Add 1 0 (omega arith) (omega arith), tt)) is_wide in
+      record { allowed = x.allowed; bytes = (let b = x.bytes in omega (arith, b)) }
+
+  fits_ways : Fits (s + a + w + 88) (choice_code Ns (flat (reached_flow single aligned)) (flat (unreached_flow wide)))
+  fits_ways =
+      let b = fits_reached.bytes in
+      let c = fits_unreached.bytes in
+      record {
+        allowed = choice_fine Ns (flat (reached_flow single aligned)) (flat (unreached_flow wide)) (omega (arith, b, few_single, few_aligned)) (omega (arith, c, few_wide)) fits_reached.allowed fits_unreached.allowed;
+        bytes = omega (arith, choice_size Ns (flat (reached_flow single aligned)) (flat (unreached_flow wide)), b, c);
+      }
+
+  -- a row whose first dest has elements of 2 ^ k bytes
+  pub fits_aligned : (k : ℕ) → k ≤ 3 → Fits (2 * s + a + w + 220) (flat (aligned_row k lanes single wide aligned))
+  fits_aligned k l =
+      let ways = choice_code Ns (flat (reached_flow single aligned)) (flat (unreached_flow wide)) in
+      let behind = fits_list (behind_code lanes) 2 (omega arith) (fine_alu Sub 1 0 (omega arith) (omega arith), (fine_count Sub lanes most, tt)) in
+      let turns = fits_both (s + a + w + 88) (s + 22) ways (flat (tail_flow lanes single)) fits_ways fits_tail in
+      let counted = fits_both 22 (s + a + w + 88 + (s + 22)) (behind_code lanes) (ways ++ flat (tail_flow lanes single)) behind turns in
+      let x = fits_both 88 (22 + (s + a + w + 88 + (s + 22))) (flat (gap_flow k)) (behind_code lanes ++ (ways ++ flat (tail_flow lanes single))) (fits_gap k l) counted in
+      record { allowed = x.allowed; bytes = (let b = x.bytes in omega (arith, b)) }

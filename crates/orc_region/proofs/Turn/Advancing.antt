@@ -1,0 +1,271 @@
+-- A turn does so many elements: a block, and the pointers and the counter go on.
+use Rattle.std.proofs.Common.{◌≡◌, ◌≢◌, ℕ, zero, suc, ◌+◌, ◌-◌, ◌*◌, ◌%◌, ◌^◌, ◌<◌, ◌≤◌, Bool, true, true≢false, pos, List, [], ◌∷◌, ◌++◌, suc-mul, Some, is_some, refl, sym, ap, ◌∙◌, subst, arith, ◌⊎◌, ⊎_elim}
+use Rattle.std.proofs.Math.Nat.{add-mul, mul_assoc}
+use Rattle.std.proofs.lemmas.Bool.{cases_eq}
+use Rattle.orc_bits.specs.Memory.{Memory, IsMapped}
+use Rattle.orc_bits.proofs.LaneLaws.{change_other, change_same}
+use Rattle.orc_bits.proofs.Memories.{mapped_value, or_else}
+use Rattle.x86_ins.specs.declared.ins.AluOp.TheVariants.{Add, Sub}
+use Rattle.x86_ins.specs.declared.ins.Ins.{Ins}
+use Rattle.x86_ins.specs.declared.ins.Ins.TheVariants.{AluImm}
+use Rattle.x86_ins.specs.Machine.{Core, Bounded, alu_core, alu_result}
+use Rattle.x86_ins.specs.Spelling.{IsIns}
+use Rattle.x86_ins.specs.Way.{Each}
+use Rattle.orc_bits.specs.Numbers.{wrap}
+use Rattle.x86_flow.specs.Does.{Line}
+use Rattle.x86_flow.proofs.Moves.{line_append}
+use Rattle.orc_frame.specs.Parts.{InRunning}
+use Rattle.orc_region.specs.Code.{Plan, Action, pointer, at_pointer, unaligned, action_far_code, actions_far_code, actions_code, block_far, blocks_code, blocks_turn_code, advance_code, turn_code}
+use Rattle.orc_region.proofs.Block.Registers.{not_0, not_1, not_4, not_7, pointer_one}
+use Rattle.sse_acc.specs.Sums.{sum_below}
+use Rattle.orc_region.proofs.Block.Cells.{Numbers, OfDests, Local, no_values, Lanes, Others, AtElements, AllKnown, Decided, local, adds, elements_or_not, same_end}
+use Rattle.orc_region.proofs.Block.Frames.{Framed}
+use Rattle.orc_region.proofs.Arithmetic.Digits.{number_of, digit_of}
+use Rattle.orc_region.proofs.Block.Keeping.{line_bounded}
+use Rattle.orc_region.proofs.Row.Counters.{Tested}
+use Rattle.orc_region.proofs.Block.Actions.{IsFit, Ground, Rest, actions_line}
+
+-- pointers of so many slots from a first one go on, and nothing else
+pub record Advanced (size : ℕ → ℕ) (count first m : ℕ) (c d : Core) : Type 0 where
+  pub moved : (k : ℕ) → first ≤ k → k < first + m → d.gpr (pointer k) ≡ (c.gpr (pointer k) + count * size k) % 2 ^ 64
+  pub others : (r : ℕ) → ((k : ℕ) → first ≤ k → k < first + m → r ≢ pointer k) → d.gpr r ≡ c.gpr r
+  pub memory : d.memory ≡ c.memory
+
+module _ (Q : Core → Ins → Type 0) (size : ℕ → ℕ) (count : ℕ) where
+  pub advance_line : (first m : ℕ) (c : Core) → ((u : Core) (i : Ins) → u.memory ≡ c.memory → u.gpr 4 ≡ c.gpr 4 → Q u i) → (d : Core) × Line Q (advance_code size count first m) c d × Advanced size count first m c d
+  advance_line first zero c keeps = (c, refl, record { moved = λ k l h. absurd (omega (arith, l, h)); others = λ r h. refl; memory = refl })
+  advance_line first (suc m) c keeps =
+      let a = advance_line first m c keeps in
+      let b = a.0 in
+      let g = a.2 in
+      let r = pointer (first + m) in
+      let v = count * size (first + m) in
+      let new = alu_result Add (b.gpr r) (wrap 64 (pos v)) in
+      let d : Core = alu_core Add b r (wrap 64 (pos v)) in
+      let calm : Q b (AluImm Add r (pos v)) = keeps b _ g.memory (g.others 4 (λ k l h e. not_4 k (sym e))) in
+      let step : Line Q (AluImm Add r (pos v) ∷ []) b d = (calm, (d, refl, refl)) in
+      let same : b.gpr r ≡ c.gpr r = g.others r (λ k l h e. omega (arith, pointer_one (first + m) k e, h)) in
+      let new_is : new ≡ (c.gpr r + v) % 2 ^ 64 = omega (arith, same) in
+      let go : (k : ℕ) → first ≤ k → k < first + suc m → (k ≡ first + m) ⊎ (k ≢ first + m) → d.gpr (pointer k) ≡ (c.gpr (pointer k) + count * size k) % 2 ^ 64 = λ k l h.
+      ⊎_elim (λ e. subst (λ t. d.gpr (pointer t) ≡ (c.gpr (pointer t) + count * size t) % 2 ^ 64) (sym e) (change_same b.gpr r new ∙ new_is))
+      (λ ne. change_other b.gpr r new (pointer k) (λ e. ne (pointer_one k (first + m) e)) ∙ g.moved k l (omega (arith, h, ne))) in (
+        d,
+        line_append Q (advance_code size count first m) (AluImm Add r (pos v) ∷ []) c b d a.1 step,
+        record {
+          moved = λ k l h. go k l h (cases_eq k (first + m));
+          others = λ x h. change_other b.gpr r new x (h (first + m) (omega arith) (omega arith)) ∙ g.others x (λ k l s. h k l (omega (arith, s)));
+          memory = g.memory;
+        },
+      )
+
+abbrev pub IsSlot : ℕ → ℕ → ℕ → Type 0
+IsSlot dests sources k = (k < dests) ⊎ ((4 ≤ k) × (k < 4 + sources))
+
+-- what a block needs of arrays, of the frame, of emulation and of the code's plan; RSP is `rsp`
+pub record Setting (n : ℕ) (base : ℕ → ℕ) (P : ℕ → Type 0) (numbers : Numbers) (rsp : ℕ) (p : Plan) (Emul : ℕ → Memory → (ℕ → ℕ) → Type 0) (F : ℕ → Type 0) : Type 0 where
+  pub ground : Ground n base p.size P numbers rsp
+  pub decided : Decided n base p.size P
+  pub slots : (k : ℕ) → P k → IsSlot p.dests p.sources k
+  pub known : AllKnown n base p.size P numbers no_values p.actions
+  pub few_dests : p.dests ≤ 4
+  pub few_sources : p.sources ≤ 8
+  pub few : n < 2 ^ 31
+  -- memory and the totals of running sums after i elements, and what more of them do
+  pub emulates : (i : ℕ) (mem : Memory) (totals : ℕ → ℕ) (sig : ℕ → Local) → Emul i mem totals → (c : ℕ) → i + c ≤ n → Lanes n base p.size P i c mem sig
+      → (end : Memory) × Emul (c + i) end (λ g. totals g + sum_below c (λ q. adds n base p.size P numbers p.actions (sig q) g)) × Lanes n base p.size P i c end (λ q. local n base p.size P numbers p.actions (sig q)) × Others n base p.size P i c mem end
+  -- F are the addresses where the code's memory need not agree with emulation's: no cells, and all running sums
+  pub apart : (k : ℕ) → P k → (i : ℕ) → i < n → (r : ℕ) → r < p.size k → F (base k + i * p.size k + r) → ⊥
+  pub sums : (a : ℕ) → InRunning rsp numbers.sums a → F a
+
+module _ (n : ℕ) (base : ℕ → ℕ) (P : ℕ → Type 0) (numbers : Numbers) (rsp : ℕ) (p : Plan) (Emul : ℕ → Memory → (ℕ → ℕ) → Type 0) (F : ℕ → Type 0) (set : Setting n base P numbers rsp p Emul F) where
+  -- the address of a byte of an element of the slots with D
+  abbrev pub IsCellOf : (ℕ → Type 0) → ℕ → Type 0
+  IsCellOf D a = (k : ℕ) × D k × (i : ℕ) × (i < n) × (r : ℕ) × (r < p.size k) × (a ≡ base k + i * p.size k + r)
+
+  abbrev pub IsCell : ℕ → Type 0
+  IsCell = IsCellOf P
+
+  abbrev pub IsDestCell : ℕ → Type 0
+  IsDestCell = IsCellOf (OfDests P)
+
+  slot_small : (k : ℕ) → P k → k < 12
+  slot_small k h = ⊎_elim (λ l. omega (arith, l, set.few_dests)) (λ l. omega (arith, l.1, set.few_sources)) (set.slots k h)
+
+  -- rdi is the value of RDI, and `mem` is the memory before the first turn
+  module _ (rdi : ℕ) (mem : Memory) where
+    -- what holds at each step
+    pub record Calm (c : Core) : Type 0 where
+      pub stack : c.gpr 4 ≡ rsp
+      pub quiet : (a : ℕ) → (IsDestCell a → ⊥) → (InRunning rsp numbers.sums a → ⊥) → c.memory a ≡ mem a
+
+    -- before element i, where emulation has the memory e and the running sums have these totals
+    pub record Inside (i : ℕ) (e : Memory) (totals : ℕ → ℕ) (c : Core) : Type 0 where
+      pub pointers : (k : ℕ) → IsSlot p.dests p.sources k → c.gpr (pointer k) ≡ (base k + i * p.size k) % 2 ^ 64
+      pub block : c.gpr 7 ≡ rdi
+      pub calm : Calm c
+      pub agree : (a : ℕ) → (F a → ⊥) → c.memory a ≡ e a
+      pub mapped : (a : ℕ) → IsCell a → IsMapped e a
+      pub framed : Framed numbers rsp c.memory totals
+      pub bounded : Bounded c
+
+    module _ (Q : Core → Ins → Type 0) (calmly : (u : Core) (i : Ins) → Calm u → Q u i) (count : ℕ) (some : 0 < count) (most : count ≤ 16) (fit : Each (IsFit count p.size) p.actions) (ins : Each IsIns (turn_code p count)) where
+      -- the number in a cell
+      abbrev number_in : Memory → ℕ → ℕ → ℕ
+      number_in m i k = number_of (p.size k) (λ r. or_else 0 (m (base k + i * p.size k + r)))
+
+      -- the numbers of elements from one on; nothing is known of places
+      abbrev numbers_in : Memory → ℕ → ℕ → Local
+      numbers_in m i q = record { cells = number_in m (i + q); values = no_values }
+
+      holds : (z i : ℕ) (e : Memory) (totals : ℕ → ℕ) (c : Core) → Inside z e totals c → i + count ≤ n → Lanes n base p.size P i count c.memory (numbers_in c.memory i)
+      holds z i e totals c h w k hk q l r lr =
+          let lq : i + q < n = omega (arith, l, w) in
+          let at : ℕ → ℕ = λ j. base k + (i + q) * p.size k + j in
+          let byte : (j : ℕ) → j < p.size k → (v : ℕ) × (c.memory (at j) ≡ Some v) = λ j lj.
+          let v = mapped_value e (at j) (h.mapped (at j) (k, hk, i + q, lq, j, lj, refl)) in (v.0, h.agree (at j) (set.apart k hk (i + q) lq j lj) ∙ v.1) in
+          let small : (j : ℕ) → j < p.size k → or_else 0 (c.memory (at j)) < 256 = λ j lj. let v = byte j lj in subst (λ o. or_else 0 o < 256) (sym v.1) (h.bounded.memory (at j) v.0 v.1) in
+          let v = byte r lr in
+          v.1 ∙ ap (λ o. Some (or_else 0 o)) (sym v.1) ∙ ap Some (sym (digit_of (p.size k) (λ j. or_else 0 (c.memory (at j))) r small lr))
+
+      -- slots with aligned stores have a register's bytes of `count` elements, at a multiple of 16 at element i
+      abbrev pub Aligns : (ℕ → Bool) → ℕ → Type 0
+      Aligns aligned i = (k : ℕ) → P k → aligned k ≡ true → (count * p.size k ≡ 16) × ((base k + i * p.size k) % 16 ≡ 0)
+
+      none_aligned : (i : ℕ) → Aligns unaligned i
+      none_aligned i k h e = absurd (true≢false (sym e))
+
+      -- and so so many blocks further on
+      aligns_on : (aligned : ℕ → Bool) (i b : ℕ) → Aligns aligned i → Aligns aligned (b * count + i)
+      aligns_on aligned i b h k hk e =
+          let x = h k hk e in
+          let first = x.0 in
+          let second = x.1 in
+          let blocks : b * count * p.size k ≡ b * 16 = mul_assoc b count (p.size k) ∙ ap (λ t. b * t) first in
+          (first, omega (arith, second, blocks, add-mul (b * count) i (p.size k)))
+
+      -- a block for the elements so far behind the pointers, which it leaves
+      block_far_line : (far : ℕ → ℕ) (aligned : ℕ → Bool) (lag : ℕ) → ((k : ℕ) → far k ≡ lag * p.size k) → Each (λ a. Each IsIns (action_far_code count p.size far aligned a)) p.actions → (i : ℕ) → Aligns aligned (lag + i) → (e : Memory) (totals : ℕ → ℕ) (c : Core) → lag + i + count ≤ n → Inside i e totals c → Emul (lag + i) e totals
+          → (end : Memory) × (new : ℕ → ℕ) × (d : Core) × Emul (count + (lag + i)) end new × Line Q (actions_far_code count p.size far aligned p.actions) c d × Inside i end new d × (d.gpr 1 ≡ c.gpr 1)
+      block_far_line far aligned lag far_is ins_all i aligns e totals c w h em =
+          let j = lag + i in
+          let sig : ℕ → Local = numbers_in c.memory j in
+          let hc : Lanes n base p.size P j count c.memory sig = holds i j e totals c h w in
+          let he : Lanes n base p.size P j count e sig = λ k hk q l r lr. sym (h.agree (base k + (j + q) * p.size k + r) (set.apart k hk (j + q) (omega (arith, l, w)) r lr)) ∙ hc k hk q l r lr in
+          let dest : (a : ℕ) → AtElements n base p.size (OfDests P) j count a → IsDestCell a = λ a at. (at.0, at.1, j + at.2, omega (arith, at.3, w), at.4, at.5, at.6) in
+          let at : (k : ℕ) → P k → 0 < p.size k → (c.gpr (pointer k) + far k ≡ base k + j * p.size k) × (aligned k ≡ true → (count * p.size k ≡ 16) × ((base k + j * p.size k) % 16 ≡ 0)) = λ k hk s.
+          ((let l = set.ground.low k hk j (omega (arith, w, some)) 0 s in let x = h.pointers k (set.slots k hk) in omega (arith, l, x, far_is k, add-mul lag i (p.size k))), aligns k hk) in
+          let calm : (u : Core) → ((r : ℕ) → r ≢ 0 → u.gpr r ≡ c.gpr r) → Rest n base p.size P numbers rsp set.ground Q far aligned count some j c.memory u.memory → Calm u = λ u g o. record {
+            stack = g 4 (λ x. omega (arith, x)) ∙ h.calm.stack;
+            quiet = λ a m s. o a (λ x. m (dest a x)) s ∙ h.calm.quiet a m s;
+          } in
+          let b = actions_line n base p.size P numbers rsp set.ground Q far aligned count some j p.actions c c.memory no_values sig totals set.known fit ins_all w at h.calm.stack hc h.framed (λ p l q lq r lr. absurd (omega (arith, lr))) h.bounded (λ a m s. refl) (λ u ins g o. calmly u ins (calm u g o)) in
+          let m = set.emulates j e totals sig em count w he in
+          let d = b.0 in
+          let x = b.2 in (
+            m.0,
+            (λ g. totals g + sum_below count (λ q. adds n base p.size P numbers p.actions (sig q) g)),
+            d,
+            m.1,
+            b.1,
+            record {
+              pointers = λ k hk. x.gpr (pointer k) (λ z. not_0 k z) ∙ h.pointers k hk;
+              block = x.gpr 7 (λ z. omega (arith, z)) ∙ h.block;
+              calm = calm d x.gpr x.others;
+              agree = λ a nf. same_end n base p.size P set.ground.separate set.ground.low set.decided slot_small j count c.memory e d.memory m.0 (λ q. local n base p.size P numbers p.actions (sig q)) x.lanes m.2 m.3 a (λ k. x.others a (λ t. k (t.0, t.1.0, t.2, t.3, t.4, t.5, t.6)) (λ s. nf (set.sums a s))) (h.agree a nf);
+              mapped = λ a t. ⊎_elim (λ at. ap is_some (ap m.0 at.6 ∙ m.2 at.0 at.1 at.2 at.3 at.4 at.5)) (λ k. ap is_some (m.3 a k) ∙ h.mapped a t) (elements_or_not n base p.size P set.ground.separate set.ground.low set.decided slot_small j count a);
+              framed = x.framed;
+              bounded = x.bounded;
+            },
+            x.gpr 1 (λ z. omega (arith, z)),
+          )
+
+      at_pointers : (actions : List Action) → Each (IsFit count p.size) actions → Each (λ a. Each IsIns (action_far_code count p.size at_pointer unaligned a)) actions
+      at_pointers [] h = tt
+      at_pointers (a ∷ rest) h = (h.0.known, at_pointers rest h.1)
+
+      -- the block does these elements, and leaves the pointers
+      pub block_line : (i : ℕ) (e : Memory) (totals : ℕ → ℕ) (c : Core) → i + count ≤ n → Inside i e totals c → Emul i e totals
+          → (end : Memory) × (new : ℕ → ℕ) × (d : Core) × Emul (count + i) end new × Line Q (actions_code count p.size p.actions) c d × Inside i end new d × (d.gpr 1 ≡ c.gpr 1)
+      block_line i e totals c w h em =
+          let same : i ≡ 0 + i = omega arith in
+          let x = block_far_line at_pointer unaligned 0 (λ k. omega arith) (at_pointers p.actions fit) i (none_aligned (0 + i)) e totals c (omega (arith, w)) h (subst (λ k. Emul k e totals) same em) in
+          (x.0, x.1, x.2, subst (λ k. Emul (count + k) x.0 x.1) (sym same) x.3, x.4, x.5, x.6)
+
+      -- so many blocks, one behind another
+      pub blocks_line : (aligned : ℕ → Bool) (b : ℕ) → ((k : ℕ) → k < b → Each (λ a. Each IsIns (action_far_code count p.size (block_far p (k * count)) aligned a)) p.actions) → (i : ℕ) → Aligns aligned i → (e : Memory) (totals : ℕ → ℕ) (c : Core) → i + b * count ≤ n → Inside i e totals c → Emul i e totals
+          → (end : Memory) × (new : ℕ → ℕ) × (d : Core) × Emul (b * count + i) end new × Line Q (blocks_code p aligned count b) c d × Inside i end new d × (d.gpr 1 ≡ c.gpr 1)
+      blocks_line aligned zero ins_all i aligns e totals c w h em = (let same : i ≡ 0 * count + i = omega arith in (e, totals, c, subst (λ k. Emul k e totals) same em, refl, h, refl))
+      blocks_line aligned (suc b) ins_all i aligns e totals c w h em =
+          let x = blocks_line aligned b (λ k l. ins_all k (omega (arith, l))) i aligns e totals c (omega (arith, w, suc-mul b count)) h em in
+          let y = block_far_line (block_far p (b * count)) aligned (b * count) (λ k. refl) (ins_all b (omega arith)) i (aligns_on aligned i b aligns) x.0 x.1 x.2 (omega (arith, w, suc-mul b count)) x.5 x.3 in
+          let here : count + (b * count + i) ≡ suc b * count + i = omega (arith, suc-mul b count) in (
+            y.0,
+            y.1,
+            y.2,
+            subst (λ k. Emul k y.0 y.1) here y.3,
+            line_append Q (blocks_code p aligned count b) (actions_far_code count p.size (block_far p (b * count)) aligned p.actions) c x.2 y.2 x.4 y.4,
+            y.5,
+            y.6 ∙ x.6,
+          )
+
+      further : (by b i s : ℕ) → ((b + i * s) % 2 ^ 64 + by * s) % 2 ^ 64 ≡ (b + (by + i) * s) % 2 ^ 64
+      further by b i s = omega (arith, add-mul by i s)
+
+      -- the pointers and the counter go on by so many elements, after code that left them
+      move_line : (by : ℕ) → by ≤ 64 → (code : List Ins) (i : ℕ) (end : Memory) (new : ℕ → ℕ) (c b : Core) → Line Q code c b → Inside i end new b → b.gpr 1 ≡ c.gpr 1 → Bounded c
+          → Each IsIns (code ++ (advance_code p.size by 0 p.dests ++ (advance_code p.size by 4 p.sources ++ AluImm Sub 1 (pos by) ∷ [])))
+          → (d : Core) × Line Q (code ++ (advance_code p.size by 0 p.dests ++ (advance_code p.size by 4 p.sources ++ AluImm Sub 1 (pos by) ∷ []))) c d × Inside (by + i) end new d × (d.gpr 1 ≡ (c.gpr 1 + (2 ^ 64 - by)) % 2 ^ 64) × Tested d
+      move_line by few code i end new c b does g kept bounded known =
+          let still : (u : Core) → u.memory ≡ b.memory → u.gpr 4 ≡ b.gpr 4 → Calm u = λ u m s. record { stack = s ∙ g.calm.stack; quiet = λ x k s. ap (λ f. f x) m ∙ g.calm.quiet x k s } in
+          let x = advance_line Q p.size by 0 p.dests b (λ u ins m s. calmly u ins (still u m s)) in
+          let apart : (r : ℕ) → ((k : ℕ) → r ≢ pointer k) → x.0.gpr r ≡ b.gpr r = λ r ne. x.2.others r (λ k l l2. ne k) in
+          let y = advance_line Q p.size by 4 p.sources x.0 (λ u ins m s. calmly u ins (still u (m ∙ x.2.memory) (s ∙ apart 4 (λ k z. not_4 k (sym z))))) in
+          let u = y.0 in
+          let same : (r : ℕ) → ((k : ℕ) → r ≢ pointer k) → u.gpr r ≡ b.gpr r = λ r ne. y.2.others r (λ k l l2. ne k) ∙ apart r ne in
+          let memory : u.memory ≡ b.memory = y.2.memory ∙ x.2.memory in
+          let dest : (k : ℕ) → k < p.dests → u.gpr (pointer k) ≡ (b.gpr (pointer k) + by * p.size k) % 2 ^ 64 = λ k l.
+          y.2.others (pointer k) (λ j l1 l2 z. omega (arith, pointer_one k j z, l1, l, set.few_dests)) ∙ x.2.moved k (omega arith) (omega (arith, l)) in
+          let source : (k : ℕ) → 4 ≤ k → k < 4 + p.sources → u.gpr (pointer k) ≡ (b.gpr (pointer k) + by * p.size k) % 2 ^ 64 = λ k l1 l2.
+          y.2.moved k l1 l2 ∙ ap (λ t. (t + by * p.size k) % 2 ^ 64) (x.2.others (pointer k) (λ j m1 m2 z. omega (arith, pointer_one k j z, l1, m2, set.few_dests))) in
+          let moved : (k : ℕ) → IsSlot p.dests p.sources k → u.gpr (pointer k) ≡ (base k + (by + i) * p.size k) % 2 ^ 64 = λ k s.
+          ⊎_elim (λ l. dest k l) (λ l. source k l.0 l.1) s ∙ ap (λ t. (t + by * p.size k) % 2 ^ 64) (g.pointers k s) ∙ further by (base k) i (p.size k) in
+          let fewer = alu_result Sub (u.gpr 1) (wrap 64 (pos by)) in
+          let d : Core = alu_core Sub u 1 (wrap 64 (pos by)) in
+          let counts : u.gpr 1 ≡ c.gpr 1 = same 1 (λ k z. not_1 k (sym z)) ∙ kept in
+          let fewer_is : fewer ≡ (c.gpr 1 + (2 ^ 64 - by)) % 2 ^ 64 = omega (arith, counts, few) in
+          let calm = still u memory (same 4 (λ k z. not_4 k (sym z))) in
+          let last : Line Q (AluImm Sub 1 (pos by) ∷ []) u d = (calmly u _ calm, (d, refl, refl)) in
+          let line : Line Q (code ++ (advance_code p.size by 0 p.dests ++ (advance_code p.size by 4 p.sources ++ AluImm Sub 1 (pos by) ∷ []))) c d =
+          line_append Q code _ c b d does
+          (line_append Q (advance_code p.size by 0 p.dests) _ b x.0 d x.1
+          (line_append Q (advance_code p.size by 4 p.sources) (AluImm Sub 1 (pos by) ∷ []) x.0 u d y.1 last)) in (
+            d,
+            line,
+            record {
+              pointers = λ k s. change_other u.gpr 1 fewer (pointer k) (not_1 k) ∙ moved k s;
+              block = same 7 (λ k z. not_7 k (sym z)) ∙ g.block;
+              calm = record { stack = calm.stack; quiet = calm.quiet };
+              agree = λ t nf. ap (λ f. f t) memory ∙ g.agree t nf;
+              mapped = g.mapped;
+              framed = subst (λ m. Framed numbers rsp m new) (sym memory) g.framed;
+              bounded = line_bounded Q (code ++ (advance_code p.size by 0 p.dests ++ (advance_code p.size by 4 p.sources ++ AluImm Sub 1 (pos by) ∷ []))) c d known line bounded;
+            },
+            fewer_is,
+            record { zero = refl; sign = refl },
+          )
+
+      -- a whole turn
+      pub turn_line : (i : ℕ) (e : Memory) (totals : ℕ → ℕ) (c : Core) → i + count ≤ n → Inside i e totals c → Emul i e totals
+          → (end : Memory) × (new : ℕ → ℕ) × (d : Core) × Emul (count + i) end new × Line Q (turn_code p count) c d × Inside (count + i) end new d × (d.gpr 1 ≡ (c.gpr 1 + (2 ^ 64 - count)) % 2 ^ 64) × Tested d
+      turn_line i e totals c w h em =
+          let a = block_line i e totals c w h em in
+          let m = move_line count (omega (arith, most)) (actions_code count p.size p.actions) i a.0 a.1 c a.2 a.4 a.5 a.6 h.bounded ins in
+          (a.0, a.1, m.0, a.3, m.1, m.2, m.3, m.4)
+
+      -- a turn of several blocks
+      pub blocks_turn_line : (aligned : ℕ → Bool) (b : ℕ) → b * count ≤ 64 → ((k : ℕ) → k < b → Each (λ a. Each IsIns (action_far_code count p.size (block_far p (k * count)) aligned a)) p.actions) → Each IsIns (blocks_turn_code p aligned count b) → (i : ℕ) → Aligns aligned i → (e : Memory) (totals : ℕ → ℕ) (c : Core) → i + b * count ≤ n → Inside i e totals c → Emul i e totals
+          → (end : Memory) × (new : ℕ → ℕ) × (d : Core) × Emul (b * count + i) end new × Line Q (blocks_turn_code p aligned count b) c d × Inside (b * count + i) end new d × (d.gpr 1 ≡ (c.gpr 1 + (2 ^ 64 - b * count)) % 2 ^ 64) × Tested d
+      blocks_turn_line aligned b few ins_all known i aligns e totals c w h em =
+          let a = blocks_line aligned b ins_all i aligns e totals c w h em in
+          let m = move_line (b * count) few (blocks_code p aligned count b) i a.0 a.1 c a.2 a.4 a.5 a.6 h.bounded known in
+          (a.0, a.1, m.0, a.3, m.1, m.2, m.3, m.4)

@@ -1,0 +1,180 @@
+-- How many instructions of a turn go by the pointers of arrays: at most one for each operand that is an array.
+use Rattle.std.proofs.Common.{◌≡◌, ℕ, zero, suc, ◌+◌, ◌*◌, ◌≤◌, ◌&&◌, Bool, true, false, if◌then◌else◌, true≢false, suc-mul, pos, List, [], ◌∷◌, ◌++◌, refl, sym, ap, ◌∙◌, arith}
+use Rattle.x86_ins.specs.declared.ins.AluOp.TheVariants.{Add, Sub}
+use Rattle.x86_ins.specs.declared.ins.Ins.{Ins}
+use Rattle.x86_ins.specs.declared.ins.Ins.TheVariants.{Vec, VecImm, Shuffle, VecLoad, VecStore, FromGpr, ToGpr, Move, Load, Store, Store8, Store16, Load8, Load16, MovImm, Alu, AluImm, Test, Shift, Imul, Lea, Push, Pop, Jump, JumpIf, Ret}
+use Rattle.x86_ins.specs.Vectors.{simd, is_simd, all_simd}
+use Rattle.x86_ins.specs.Way.{Each}
+use Rattle.x86_flow.specs.Moves.{IsWidth, store_either_code}
+use Rattle.x86_flow.specs.Touching.{touch_weight}
+use Rattle.x86_flow.proofs.Plans.{weigh, weigh_append}
+use Rattle.x86_flow.proofs.Moves.{load_weight, store_weight, aligned_store_weight}
+use Rattle.orc_region.specs.Code.{Action, IsRule, Source, FromArray, FromPattern, FromPlace, Target, ToArray, ToSum, ToPlace, Plan, pointer, at_pointer, unaligned, first_register, second_register, rule_register, rule_code, source_far_code, sources_far_code, sum_code, result_far_code, results_far_code, action_far_code, actions_far_code, advance_code, block_far, blocks_code, turn_code, blocks_turn_code}
+use Rattle.x86_ins.proofs.Renamed.{simd_renamed}
+use Rattle.orc_region.proofs.Sizes.Bytes.{vectors_of}
+use Rattle.orc_region.proofs.Block.Actions.{IsMovedFrom, IsMovedTo, IsFit}
+
+-- ---- operands that are arrays
+
+abbrev pub from_arrays : List Source → ℕ
+from_arrays [] = 0
+from_arrays (FromArray k ∷ rest) = 1 + from_arrays rest
+from_arrays (FromPattern j ∷ rest) = from_arrays rest
+from_arrays (FromPlace p ∷ rest) = from_arrays rest
+
+abbrev pub to_arrays : List Target → ℕ
+to_arrays [] = 0
+to_arrays (ToArray k ∷ rest) = 1 + to_arrays rest
+to_arrays (ToSum g ∷ rest) = to_arrays rest
+to_arrays (ToPlace p ∷ rest) = to_arrays rest
+
+abbrev pub arrays_of : List Action → ℕ
+arrays_of [] = 0
+arrays_of (a ∷ rest) = from_arrays a.sources + to_arrays a.to + arrays_of rest
+
+module _ (by : ℕ → Bool) (by_stack : by 4 ≡ false) where
+  abbrev v : Ins → ℕ
+  v = touch_weight by
+
+  abbrev one : Bool → ℕ
+  one b = if b then 1 else 0
+
+  none_4 : one (by 4) ≡ 0
+  none_4 = ap one by_stack
+
+  -- ---- rules
+
+  simd_free : (i : Ins) → is_simd (simd i) ≡ true → v i ≡ 0
+  simd_free (Vec op d s) h = refl
+  simd_free (VecImm op d n) h = refl
+  simd_free (Shuffle op d s o) h = refl
+  simd_free (VecLoad op d a) h = absurd (true≢false (sym h))
+  simd_free (VecStore op s a) h = absurd (true≢false (sym h))
+  simd_free (FromGpr wide d s) h = refl
+  simd_free (ToGpr wide d s) h = refl
+  simd_free (Move d s) h = refl
+  simd_free (Load d a) h = absurd (true≢false (sym h))
+  simd_free (Store s a) h = absurd (true≢false (sym h))
+  simd_free (Store8 s a) h = absurd (true≢false (sym h))
+  simd_free (Store16 s a) h = absurd (true≢false (sym h))
+  simd_free (Load8 d a) h = absurd (true≢false (sym h))
+  simd_free (Load16 d a) h = absurd (true≢false (sym h))
+  simd_free (MovImm d n) h = refl
+  simd_free (Alu op d s) h = refl
+  simd_free (AluImm op d n) h = refl
+  simd_free (Test a b) h = refl
+  simd_free (Shift op d n) h = refl
+  simd_free (Imul d s) h = refl
+  simd_free (Lea d a) h = refl
+  simd_free (Push s) h = absurd (true≢false (sym h))
+  simd_free (Pop d) h = absurd (true≢false (sym h))
+  simd_free (Jump rel) h = refl
+  simd_free (JumpIf q rel) h = refl
+  simd_free Ret h = absurd (true≢false (sym h))
+
+  both : (s t : Bool) → (s && t) ≡ true → (s ≡ true) × (t ≡ true)
+  both true t h = (refl, h)
+  both false t h = absurd (true≢false (sym h))
+
+  all_free : (is : List Ins) → all_simd is ≡ true → weigh v is ≡ 0
+  all_free [] h = refl
+  all_free (i ∷ is) h = (let x = both (is_simd (simd i)) (all_simd is) h in omega (arith, simd_free i x.0, all_free is x.1))
+
+  rule_free : (count : ℕ) (a : Action) → IsRule count a.op a.rule → weigh v (rule_code a) ≡ 0
+  rule_free count a is = all_free (rule_code a) (simd_renamed (rule_register a.to) a.rule ∙ vectors_of count a.op a.rule is)
+
+  -- ---- blocks
+
+  module _ (count : ℕ) (size far : ℕ → ℕ) (aligned : ℕ → Bool) where
+    from_few : (x : ℕ) (s : Source) → IsMovedFrom count size s → weigh v (source_far_code count size far x s) ≤ from_arrays (s ∷ [])
+    from_few x (FromArray k) h = load_weight by (count * size k) x (pointer k) (far k) h
+    from_few x (FromPattern j) h = omega (arith, none_4)
+    from_few x (FromPlace p) h = omega arith
+
+    from_front : (s : Source) (more : List Source) → from_arrays (s ∷ more) ≡ from_arrays (s ∷ []) + from_arrays more
+    from_front (FromArray k) more = omega arith
+    from_front (FromPattern j) more = omega arith
+    from_front (FromPlace p) more = omega arith
+
+    sources_few : (x y : ℕ) (ss : List Source) → Each (IsMovedFrom count size) ss → weigh v (sources_far_code count size far x y ss) ≤ from_arrays ss
+    sources_few x y [] h = omega arith
+    sources_few x y (s ∷ []) h = from_few x s h.0
+    sources_few x y (s ∷ t ∷ more) h =
+        let a = from_few x s h.0 in
+        let b = from_few y t h.1.0 in
+        omega (arith, a, b, from_front s (t ∷ more), from_front t more, weigh_append v (source_far_code count size far x s) (source_far_code count size far y t))
+
+    either_few : (b : Bool) (width x r d : ℕ) → IsWidth width → weigh v (store_either_code b width x r d) ≤ 1
+    either_few false width x r d is = store_weight by width x r d is
+    either_few true width x r d is = aligned_store_weight by x r d
+
+    to_few : (x : ℕ) (t : Target) → IsMovedTo count size t → weigh v (result_far_code count size far aligned x t) ≤ to_arrays (t ∷ [])
+    to_few x (ToArray k) h = either_few (aligned k) (count * size k) x (pointer k) (far k) h
+    to_few x (ToSum g) h = omega (arith, none_4)
+    to_few x (ToPlace p) h = omega arith
+
+    sum_free : (ts : List Target) → weigh v (sum_code ts) ≡ 0
+    sum_free [] = refl
+    sum_free (ToArray k ∷ rest) = refl
+    sum_free (ToSum g ∷ rest) = omega (arith, none_4)
+    sum_free (ToPlace p ∷ rest) = refl
+
+    to_front : (t : Target) (more : List Target) → to_arrays (t ∷ more) ≡ to_arrays (t ∷ []) + to_arrays more
+    to_front (ToArray k) more = omega arith
+    to_front (ToSum g) more = omega arith
+    to_front (ToPlace p) more = omega arith
+
+    results_few : (ts : List Target) → Each (IsMovedTo count size) ts → weigh v (results_far_code count size far aligned ts) ≤ to_arrays ts
+    results_few [] h = omega arith
+    results_few (t ∷ []) h = to_few 0 t h.0
+    results_few (t ∷ u ∷ more) h =
+        let a = to_few 0 t h.0 in
+        let b = to_few 1 u h.1.0 in
+        omega (arith, a, b, to_front t (u ∷ more), to_front u more, weigh_append v (result_far_code count size far aligned 0 t) (result_far_code count size far aligned 1 u))
+
+    action_few : (a : Action) → IsFit count size a → weigh v (action_far_code count size far aligned a) ≤ from_arrays a.sources + to_arrays a.to
+    action_few a h =
+        let loads = sources_far_code count size far (first_register a.to) (second_register a.to) a.sources in
+        let stores = results_far_code count size far aligned a.to in
+        omega (
+          arith,
+          weigh_append v loads (sum_code a.to ++ (rule_code a ++ stores)),
+          weigh_append v (sum_code a.to) (rule_code a ++ stores),
+          weigh_append v (rule_code a) stores,
+          sources_few (first_register a.to) (second_register a.to) a.sources h.sources,
+          sum_free a.to,
+          rule_free count a h.rule,
+          results_few a.to h.to,
+        )
+
+    pub actions_few : (actions : List Action) → Each (IsFit count size) actions → weigh v (actions_far_code count size far aligned actions) ≤ arrays_of actions
+    actions_few [] h = omega arith
+    actions_few (a ∷ rest) h = (let x = action_few a h.0 in let y = actions_few rest h.1 in omega (arith, x, y, weigh_append v (action_far_code count size far aligned a) (actions_far_code count size far aligned rest)))
+
+  -- ---- turns
+
+  advance_free : (size : ℕ → ℕ) (count first n : ℕ) → weigh v (advance_code size count first n) ≡ 0
+  advance_free size count first zero = refl
+  advance_free size count first (suc n) = omega (arith, weigh_append v (advance_code size count first n) (AluImm Add (pointer (first + n)) (pos (count * size (first + n))) ∷ []), advance_free size count first n)
+
+  move_free : (p : Plan) (by_many : ℕ) (code : List Ins) (k : ℕ) → weigh v code ≤ k → weigh v (code ++ (advance_code p.size by_many 0 p.dests ++ (advance_code p.size by_many 4 p.sources ++ AluImm Sub 1 (pos by_many) ∷ []))) ≤ k
+  move_free p by_many code k l =
+      let a = advance_code p.size by_many 0 p.dests in
+      let b = advance_code p.size by_many 4 p.sources in
+      let c = AluImm Sub 1 (pos by_many) ∷ [] in
+      omega (arith, l, weigh_append v code (a ++ (b ++ c)), weigh_append v a (b ++ c), weigh_append v b c, advance_free p.size by_many 0 p.dests, advance_free p.size by_many 4 p.sources)
+
+  -- a turn touches cells at most once for each operand that is an array
+  pub turn_few : (p : Plan) (count : ℕ) → Each (IsFit count p.size) p.actions → weigh v (turn_code p count) ≤ arrays_of p.actions
+  turn_few p count h = move_free p count (actions_far_code count p.size at_pointer unaligned p.actions) (arrays_of p.actions) (actions_few count p.size at_pointer unaligned p.actions h)
+
+  blocks_few : (p : Plan) (aligned : ℕ → Bool) (count b : ℕ) → Each (IsFit count p.size) p.actions → weigh v (blocks_code p aligned count b) ≤ b * arrays_of p.actions
+  blocks_few p aligned count zero h = omega arith
+  blocks_few p aligned count (suc b) h =
+      let x = blocks_few p aligned count b h in
+      let y = actions_few count p.size (block_far p (b * count)) aligned p.actions h in
+      omega (arith, x, y, suc-mul b (arrays_of p.actions), weigh_append v (blocks_code p aligned count b) (actions_far_code count p.size (block_far p (b * count)) aligned p.actions))
+
+  -- and a turn of several blocks so many times that
+  pub blocks_turn_few : (p : Plan) (aligned : ℕ → Bool) (count b : ℕ) → Each (IsFit count p.size) p.actions → weigh v (blocks_turn_code p aligned count b) ≤ b * arrays_of p.actions
+  blocks_turn_few p aligned count b h = move_free p (b * count) (blocks_code p aligned count b) (b * arrays_of p.actions) (blocks_few p aligned count b h)

@@ -1,0 +1,357 @@
+-- The code of a function: the compiler's plan.
+use Rattle.std.specs.Prelude.{◌≡◌, ℕ, zero, suc, ◌+◌, ◌*◌, ◌/◌, ◌<◌, ◌≤◌, ◌==◌, ◌&&◌, nat_lt, Bool, true, false, if◌then◌else◌, pos, List, [], ◌∷◌, ◌++◌, length, map, slice_index}
+use Rattle.x86_ins.specs.declared.ins.AluOp.TheVariants.{Add, Sub}
+use Rattle.x86_ins.specs.declared.ins.Ins.{Ins}
+use Rattle.x86_ins.specs.declared.ins.Ins.TheVariants.{AluImm, Vec, VecLoad, VecStore}
+use Rattle.x86_ins.specs.declared.ins.MoveOp.TheVariants.{Movdqu}
+use Rattle.x86_ins.specs.declared.ins.VecOp.TheVariants.{Movdqa}
+use Rattle.x86_ins.specs.Renaming.{renamed}
+use Rattle.x86_ins.specs.Spelling.{IsIns}
+use Rattle.x86_ins.specs.Way.{Each}
+use Rattle.orc_ops.specs.declared.opcode.Op.{Op}
+use Rattle.orc_ops.specs.Table.{row, size_of_result}
+use Rattle.orc_program.specs.declared.program.VarKind.TheVariants as kind
+use Rattle.orc_program.specs.declared.program.Pattern.{Pattern}
+use Rattle.orc_program.specs.Program.{FunctionValue, count_of}
+use Rattle.orc_program.specs.Checks.{patterns_of}
+use Rattle.orc_program.specs.Need.{lanes}
+use Rattle.orc_program.specs.Slots.{size_of_slot}
+use Rattle.orc_plan.specs.declared.steps.Item.{Item}
+use Rattle.orc_plan.specs.declared.steps.Item.TheVariants as item
+use Rattle.orc_plan.specs.declared.steps.Step.{Step}
+use Rattle.orc_plan.specs.Places.{GoodPlaces}
+use Rattle.orc_plan.specs.Lowered.{steps_of}
+use Rattle.orc_region.specs.declared.span.Span.{Span}
+use Rattle.orc_region.specs.Regions.{aligned_row, plain_row}
+use Rattle.x86_ins.specs.declared.ins.Cond.TheVariants.{Ns}
+use Rattle.x86_flow.specs.declared.tree.Flow.{Flow as Tree}
+use Rattle.x86_flow.specs.Flow.{Flow, Plain, Repeat, flat}
+use Rattle.x86_flow.specs.Moves.{IsWidth, away, load_far_code, store_either_code}
+use Rattle.x86_flow.specs.Tree.{flat_of}
+use Rattle.orc_frame.specs.declared.frame.Layout.{Layout}
+use Rattle.orc_frame.specs.Layout.{pattern_slot, sum_slot}
+use Rattle.sse_laws.specs.Meets.{Meets, is_sum}
+use Rattle.sse_acc.specs.Sums.{AddsUp}
+
+-- where a source comes from: the elements of an array's slot, a pattern, or the place of a value
+pub data Source : Type 0 where
+  FromArray : ℕ → Source
+  FromPattern : ℕ → Source
+  FromPlace : ℕ → Source
+
+-- where a result goes: the elements of an array's slot, a running sum, or the place of a value
+pub data Target : Type 0 where
+  ToArray : ℕ → Target
+  ToSum : ℕ → Target
+  ToPlace : ℕ → Target
+
+-- what an instruction's code does
+pub record Action : Type 0 where
+  pub op : Op
+  -- how many adjacent sub-lanes of an element it works on
+  pub prefix : ℕ
+  -- one or two arrays or places, or one sum
+  pub to : List Target
+  -- one or two
+  pub sources : List Source
+  -- computes the opcode in XMM0 to XMM5
+  pub rule : List Ins
+
+-- the opcode has a rule for so many elements: those that a running sum takes at once, where it adds to one
+abbrev pub HasRule : ℕ → Op → Type 0
+HasRule count op = is_sum (row op).kind ≡ true → (1 ≤ count) × (count ≤ 16) × (count ≤ 16 / size_of_result op 0)
+
+-- the list computes the opcode, or adds its numbers of so many elements to a running sum, in at most as many instructions as its class says
+pub record IsRule (count : ℕ) (op : Op) (rule : List Ins) : Type 0 where
+  pub meets : is_sum (row op).kind ≡ false → Meets op rule
+  pub adds : is_sum (row op).kind ≡ true → AddsUp op count rule
+  pub few : length rule ≤ (row op).class
+  pub short : length rule ≤ 100
+  pub known : Each IsIns rule
+
+-- what the code of a function depends on
+pub record Plan : Type 0 where
+  pub dests : ℕ
+  pub sources : ℕ
+  -- the bytes of an element of an array slot
+  pub size : ℕ → ℕ
+  pub actions : List Action
+
+-- ---- registers: RAX is scratch, RCX counts the elements that are left, RDI points at the block
+
+-- the register that points at the next element of an array slot: RDX, RBX, RBP, RSI, R8 to R15
+abbrev pub pointer : ℕ → ℕ
+pointer zero = 2
+pointer (suc zero) = 3
+pointer (suc (suc zero)) = 5
+pointer (suc (suc (suc zero))) = 6
+pointer (suc (suc (suc (suc k)))) = 8 + k
+
+-- the vector register of a place: XMM6 to XMM15
+abbrev pub place_register : ℕ → ℕ
+place_register p = 6 + p
+
+-- the register in which a result is made that the rule makes in register x: the place's own, where it goes to a place
+abbrev pub made_in : ℕ → Target → ℕ
+made_in x (ToArray k) = x
+made_in x (ToSum g) = x
+made_in x (ToPlace p) = place_register p
+
+-- the register of the first source and of the first result
+abbrev pub first_register : List Target → ℕ
+first_register [] = 0
+first_register (t ∷ more) = made_in 0 t
+
+-- that of a second source and of a second result
+abbrev pub second_register : List Target → ℕ
+second_register [] = 1
+second_register (t ∷ []) = 1
+second_register (t ∷ u ∷ more) = made_in 1 u
+
+-- a and b change places
+abbrev pub exchange : ℕ → ℕ → ℕ → ℕ
+exchange a b r = if r == a then b else (if r == b then a else r)
+
+-- the register that stands for register r of a rule: results are made where they go
+abbrev pub rule_register : List Target → ℕ → ℕ
+rule_register ts r = exchange 0 (first_register ts) (exchange 1 (second_register ts) r)
+
+-- ---- so many elements at once
+
+-- a source goes to a vector register; the cells of slot k are `far k` bytes behind its pointer
+abbrev pub source_far_code : ℕ → (ℕ → ℕ) → (ℕ → ℕ) → ℕ → Source → List Ins
+source_far_code count size far x (FromArray k) = load_far_code (count * size k) x (pointer k) (far k)
+source_far_code count size far x (FromPattern j) = VecLoad Movdqu x (away 4 (pattern_slot j)) ∷ []
+source_far_code count size far x (FromPlace p) = Vec Movdqa x (place_register p) ∷ []
+
+-- the first source goes to register x, and the second to register y
+abbrev pub sources_far_code : ℕ → (ℕ → ℕ) → (ℕ → ℕ) → ℕ → ℕ → List Source → List Ins
+sources_far_code count size far x y [] = []
+sources_far_code count size far x y (s ∷ []) = source_far_code count size far x s
+sources_far_code count size far x y (s ∷ t ∷ more) = source_far_code count size far x s ++ source_far_code count size far y t
+
+-- a running sum goes to XMM2
+abbrev pub sum_code : List Target → List Ins
+sum_code (ToSum g ∷ more) = VecLoad Movdqu 2 (away 4 (sum_slot g)) ∷ []
+sum_code other = []
+
+-- the rule, in the registers that its results go to
+abbrev pub rule_code : Action → List Ins
+rule_code a = map (renamed (rule_register a.to)) a.rule
+
+-- a result comes from a vector register, for some slots by aligned stores, and a running sum from XMM2; that of a place is there
+abbrev pub result_far_code : ℕ → (ℕ → ℕ) → (ℕ → ℕ) → (ℕ → Bool) → ℕ → Target → List Ins
+result_far_code count size far aligned x (ToArray k) = store_either_code (aligned k) (count * size k) x (pointer k) (far k)
+result_far_code count size far aligned x (ToSum g) = VecStore Movdqu 2 (away 4 (sum_slot g)) ∷ []
+result_far_code count size far aligned x (ToPlace p) = []
+
+-- the first result comes from XMM0, and after it a second one from XMM1
+abbrev pub results_far_code : ℕ → (ℕ → ℕ) → (ℕ → ℕ) → (ℕ → Bool) → List Target → List Ins
+results_far_code count size far aligned [] = []
+results_far_code count size far aligned (t ∷ []) = result_far_code count size far aligned 0 t
+results_far_code count size far aligned (t ∷ u ∷ more) = result_far_code count size far aligned 0 t ++ result_far_code count size far aligned 1 u
+
+abbrev pub action_far_code : ℕ → (ℕ → ℕ) → (ℕ → ℕ) → (ℕ → Bool) → Action → List Ins
+action_far_code count size far aligned a =
+    sources_far_code count size far (first_register a.to) (second_register a.to) a.sources ++ (sum_code a.to ++ (rule_code a ++ results_far_code count size far aligned a.to))
+
+abbrev pub actions_far_code : ℕ → (ℕ → ℕ) → (ℕ → ℕ) → (ℕ → Bool) → List Action → List Ins
+actions_far_code count size far aligned [] = []
+actions_far_code count size far aligned (a ∷ rest) = action_far_code count size far aligned a ++ actions_far_code count size far aligned rest
+
+-- the same where the cells are at the pointers
+abbrev pub at_pointer : ℕ → ℕ
+at_pointer k = 0
+
+abbrev pub unaligned : ℕ → Bool
+unaligned k = false
+
+-- where they are so many elements behind the pointers
+abbrev pub far_by : ℕ → (ℕ → ℕ) → ℕ → ℕ
+far_by first size k = first * size k
+
+-- aligned stores for the first dest alone, or for none
+abbrev pub aligned_first : Bool → ℕ → Bool
+aligned_first false = unaligned
+aligned_first true = λ k. k == 0
+
+abbrev pub source_code : ℕ → (ℕ → ℕ) → ℕ → Source → List Ins
+source_code count size = source_far_code count size at_pointer
+
+abbrev pub sources_code : ℕ → (ℕ → ℕ) → ℕ → ℕ → List Source → List Ins
+sources_code count size = sources_far_code count size at_pointer
+
+abbrev pub result_code : ℕ → (ℕ → ℕ) → ℕ → Target → List Ins
+result_code count size = result_far_code count size at_pointer unaligned
+
+abbrev pub results_code : ℕ → (ℕ → ℕ) → List Target → List Ins
+results_code count size = results_far_code count size at_pointer unaligned
+
+abbrev pub action_code : ℕ → (ℕ → ℕ) → Action → List Ins
+action_code count size = action_far_code count size at_pointer unaligned
+
+abbrev pub actions_code : ℕ → (ℕ → ℕ) → List Action → List Ins
+actions_code count size = actions_far_code count size at_pointer unaligned
+
+-- ---- a turn
+
+-- the pointers of so many slots from a first one go on by so many elements
+abbrev pub advance_code : (ℕ → ℕ) → ℕ → ℕ → ℕ → List Ins
+advance_code size count first zero = []
+advance_code size count first (suc n) = advance_code size count first n ++ AluImm Add (pointer (first + n)) (pos (count * size (first + n))) ∷ []
+
+-- so many blocks of `count` elements each, one behind another, with the pointers at the first
+abbrev pub block_far : Plan → ℕ → ℕ → ℕ
+block_far p lag = far_by lag p.size
+
+abbrev pub blocks_code : Plan → (ℕ → Bool) → ℕ → ℕ → List Ins
+blocks_code p aligned count zero = []
+blocks_code p aligned count (suc b) = blocks_code p aligned count b ++ actions_far_code count p.size (block_far p (b * count)) aligned p.actions
+
+abbrev pub turn_code : Plan → ℕ → List Ins
+turn_code p count = actions_code count p.size p.actions ++ (advance_code p.size count 0 p.dests ++ (advance_code p.size count 4 p.sources ++ AluImm Sub 1 (pos count) ∷ []))
+
+-- a turn of so many blocks: the pointers and the counter go on once
+abbrev pub blocks_turn_code : Plan → (ℕ → Bool) → ℕ → ℕ → List Ins
+blocks_turn_code p aligned count b = blocks_code p aligned count b ++ (advance_code p.size (b * count) 0 p.dests ++ (advance_code p.size (b * count) 4 p.sources ++ AluImm Sub 1 (pos (b * count)) ∷ []))
+
+-- ---- from steps with places to a plan
+
+-- where an item of a step comes from as a source; no source is a sum
+abbrev pub source_of : List ℕ → Item → Source
+source_of at (item.Value v) = FromPlace (slice_index at v)
+source_of at (item.Array slot) = FromArray slot
+source_of at (item.Acc slot size) = FromArray slot
+source_of at (item.Pattern j) = FromPattern j
+
+-- where it goes as a result; no result is a pattern
+abbrev pub target_of : List ℕ → Item → Target
+target_of at (item.Value v) = ToPlace (slice_index at v)
+target_of at (item.Array slot) = ToArray slot
+target_of at (item.Acc slot size) = ToSum slot
+target_of at (item.Pattern j) = ToArray j
+
+-- the action is the step's, by some list that computes its opcode; `at` are the places of values
+pub record IsAction (at : List ℕ) (count : ℕ) (step : Step) (a : Action) : Type 0 where
+  pub op : a.op ≡ step.op
+  pub prefix : a.prefix ≡ step.prefix
+  pub to : a.to ≡ map (target_of at) step.results.items
+  pub sources : a.sources ≡ map (source_of at) step.sources.items
+  pub rule : IsRule count a.op a.rule
+
+abbrev pub AreActions : List ℕ → ℕ → List Step → List Action → Type 0
+AreActions at count [] [] = Unit {0}
+AreActions at count (s ∷ steps) (a ∷ rest) = IsAction at count s a × AreActions at count steps rest
+AreActions at count [] (a ∷ rest) = ⊥
+AreActions at count (s ∷ steps) [] = ⊥
+
+-- a function's patterns
+abbrev pub patterns_in : FunctionValue → List Pattern
+patterns_in f = patterns_of f.vars f.insns
+
+abbrev pub plan_with : FunctionValue → List Action → Plan
+plan_with f actions = record {
+  dests = count_of kind.Dest f.vars;
+  sources = count_of kind.Source f.vars;
+  size = size_of_slot f.vars;
+  actions = actions;
+}
+
+-- ---- code by some lists that compute the opcodes
+
+abbrev pub AddsRule : ℕ → Op → List Target → List Ins → List Ins → Type 0
+AddsRule count op to old new = (rule : List Ins) × IsRule count op rule × (new ≡ old ++ map (renamed (rule_register to)) rule)
+
+-- `size` has the bytes of an element of each array slot
+abbrev pub AddsAction : List ℕ → (ℕ → ℕ) → Span → Step → List Ins → List Ins → Type 0
+AddsAction at size span step old new =
+    (a : Action) × IsAction at span.count step a × (new ≡ old ++ action_far_code span.count size (far_by span.first size) (aligned_first span.aligned) a)
+
+abbrev pub AddsActions : List ℕ → (ℕ → ℕ) → Span → List Step → List Ins → List Ins → Type 0
+AddsActions at size span steps old new =
+    (actions : List Action) × AreActions at span.count steps actions × (new ≡ old ++ actions_far_code span.count size (far_by span.first size) (aligned_first span.aligned) actions)
+
+-- a turn of steps with these places, by the sizes of array slots
+abbrev pub IsTurnBy : List ℕ → List ℕ → List Step → ℕ → ℕ → Span → List Ins → Type 0
+IsTurnBy at sizes steps dests sources span list =
+    (actions : List Action) × AreActions at span.count steps actions
+    × (list ≡ actions_far_code span.count (slice_index sizes) (far_by span.first (slice_index sizes)) (aligned_first span.aligned) actions ++ (advance_code (slice_index sizes) span.count 0 dests ++ (advance_code (slice_index sizes) span.count 4 sources ++ AluImm Sub 1 (pos span.count) ∷ [])))
+
+-- so many elements from the one that the pointers are at, with aligned stores to the first dest or without
+abbrev pub span_of : ℕ → Bool → Span
+span_of count aligned = record { first = 0; count = count; aligned = aligned }
+
+-- a turn of so many elements of a function's code, by these places of its values
+abbrev pub IsTurn : FunctionValue → List ℕ → ℕ → List Ins → Type 0
+IsTurn f at count list = (actions : List Action) × AreActions at count (steps_of f) actions × (list ≡ turn_code (plan_with f actions) count)
+
+-- and one that stores the first dest aligned
+abbrev pub IsAlignedTurn : FunctionValue → List ℕ → ℕ → List Ins → Type 0
+IsAlignedTurn f at count list = (actions : List Action) × AreActions at count (steps_of f) actions × (list ≡ blocks_turn_code (plan_with f actions) (aligned_first true) count 1)
+
+-- the one that is wanted
+abbrev pub IsTurnOf : FunctionValue → List ℕ → ℕ → Bool → List Ins → Type 0
+IsTurnOf f at count false = IsTurn f at count
+IsTurnOf f at count true = IsAlignedTurn f at count
+
+-- ---- the elements of a row
+
+-- the size of an element as a power of two
+abbrev pub shift_of : ℕ → ℕ
+shift_of size = if size == 8 then 3 else (if size == 4 then 2 else (if size == 2 then 1 else 0))
+
+-- there is a first dest, of which so many elements fill a register
+abbrev pub is_filled : ℕ → ℕ → ℕ → Bool
+is_filled dests lanes size = nat_lt 0 dests && lanes * size == 16
+
+-- the loops over a row's elements, by turns of one element, of `lanes` and of `lanes` with aligned stores
+abbrev pub elements_flow : Bool → ℕ → ℕ → List Ins → List Ins → List Ins → Flow
+elements_flow true shift lanes single wide aligned = aligned_row shift lanes (Plain single) (Repeat Ns (Plain wide)) (Repeat Ns (Plain aligned))
+elements_flow false shift lanes single wide aligned = plain_row lanes (Plain single) (Repeat Ns (Plain wide))
+
+-- the turns of a function's code by some good places of its values
+pub record Turns (f : FunctionValue) (single wide aligned : List Ins) : Type 0 where
+  pub at : List ℕ
+  pub good : GoodPlaces (steps_of f) at
+  pub one : IsTurn f at 1 single
+  pub more : IsTurn f at (lanes f) wide
+  -- where a register of the first dest is filled
+  pub stored : is_filled (count_of kind.Dest f.vars) (lanes f) (size_of_slot f.vars 0) ≡ true → IsAlignedTurn f at (lanes f) aligned
+
+abbrev pub elements_of : FunctionValue → List Ins → List Ins → List Ins → Flow
+elements_of f single wide aligned =
+    elements_flow (is_filled (count_of kind.Dest f.vars) (lanes f) (size_of_slot f.vars 0)) (shift_of (size_of_slot f.vars 0)) (lanes f) single wide aligned
+
+-- the tree does the elements of a row
+abbrev pub IsElements : FunctionValue → Tree → Type 0
+IsElements f tree =
+    (single : List Ins) × (wide : List Ins) × (aligned : List Ins) × Turns f single wide aligned × (flat_of tree ≡ flat (elements_of f single wide aligned))
+
+-- ---- steps whose code can be given for so many elements
+
+-- a slot's elements can be moved
+abbrev pub IsMoved : (ℕ → ℕ) → ℕ → ℕ → Type 0
+IsMoved size count k = (k < 12) × IsWidth (count * size k)
+
+-- a result that goes to a place goes to one that there is
+abbrev pub InPlaces : Target → Type 0
+InPlaces (ToArray k) = Unit {0}
+InPlaces (ToSum g) = Unit {0}
+InPlaces (ToPlace p) = p < 10
+
+-- a source can be loaded, where the function has this layout
+abbrev pub IsLoaded : Layout → (ℕ → ℕ) → ℕ → Source → Type 0
+IsLoaded l size count (FromArray k) = IsMoved size count k
+IsLoaded l size count (FromPattern j) = j < length l.patterns.items
+IsLoaded l size count (FromPlace p) = p < 10
+
+-- a result can be stored
+abbrev pub IsStored : Layout → (ℕ → ℕ) → ℕ → Target → Type 0
+IsStored l size count (ToArray k) = IsMoved size count k
+IsStored l size count (ToSum g) = g < length l.acc_sizes.items
+IsStored l size count (ToPlace p) = p < 10
+
+pub record IsReady (l : Layout) (at : List ℕ) (size : ℕ → ℕ) (count : ℕ) (step : Step) : Type 0 where
+  pub has_rule : HasRule count step.op
+  pub sources : Each (IsLoaded l size count) (map (source_of at) step.sources.items)
+  pub to : Each (IsStored l size count) (map (target_of at) step.results.items)

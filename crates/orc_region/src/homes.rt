@@ -1,0 +1,90 @@
+//! The vector registers in which results are made and values stand.
+
+ghost use Rattle.std.specs.Prelude.{◌≡◌, ◌≢◌, ◌<◌, ◌≤◌, ℕ, map, length, slice_index};
+ghost use Rattle.x86_ins.specs.Way.{Each};
+ghost use Rattle.x86_ins.specs.Renaming.{IsPermutation, renaming};
+ghost use Rattle.orc_region.specs.Code.{target_of, place_register, made_in, first_register, second_register, exchange, InPlaces};
+
+use orc_plan::{Item, place_of};
+use x86_ins::Xmm;
+
+/// The registers in which an instruction's results are made, which are also those of its sources.
+#[derive(Clone, Copy)]
+pub struct Homes {
+    /// Of the first source and result.
+    pub first: Xmm,
+    /// Of the second ones.
+    pub second: Xmm,
+}
+
+/// The register of a place: XMM6 to XMM15.
+pub fn place_register(place: u8) -> Xmm
+    requires { place < 10 }
+    ensures { result ≡ place_register place }
+{
+    Xmm { number: 6 + place }
+}
+
+/// The register in which a result is made that a rule makes in XMM `number`: that of its place, where it goes to one.
+fn made_in(at: &[u8], number: u8, item: Item) -> Xmm
+    requires few { number < 6 }
+    requires places { InPlaces (target_of at.now item) }
+    ensures { result ≡ made_in number (target_of at.now item) }
+{
+    match item {
+        Item::Value(value) => place_register(place_of(at, value)),
+        Item::Array(_) | Item::Acc { .. } | Item::Pattern(_) => Xmm { number },
+    }
+}
+
+/// The registers of an instruction with these results.
+pub fn homes_of(at: &[u8], results: &[Item]) -> Homes
+    requires { Each InPlaces (map (target_of at.now) results.now) }
+    ensures first { result.first ≡ first_register (map (target_of at.now) results.now) }
+    ensures second { result.second ≡ second_register (map (target_of at.now) results.now) }
+{
+    let first = match results {
+        [item, ..] => made_in(at, 0, *item),
+        [] => Xmm { number: 0 },
+    };
+    let second = match results {
+        [_, item, ..] => made_in(at, 1, *item),
+        _ => Xmm { number: 1 },
+    };
+    Homes { first, second }
+}
+
+/// Register `r` where registers `a` and `b` change places.
+fn exchange(a: u8, b: u8, r: u8) -> u8
+    ensures { result ≡ exchange a b r }
+{
+    if r == a {
+        b
+    } else if r == b {
+        a
+    } else {
+        r
+    }
+}
+
+/// The names of a rule's registers where XMM0 and XMM1 change places with registers `first` and `second`.
+fn names(first: u8, second: u8) -> [u8; 16]
+    requires first { first < 16 }
+    requires second { second < 16 }
+    ensures is { (r : ℕ) → r < 16 → renaming result r ≡ exchange 0 first (exchange 1 second r) }
+    ensures permutation { IsPermutation result }
+{
+    let mut names = [0; 16];
+    for r in 0..16 {
+        names[r] = exchange(0, first, exchange(1, second, r as u8));
+    }
+    names
+}
+
+/// The names of a rule's registers where XMM0 and XMM1 change places with those of the results.
+pub fn names_of(homes: &Homes) -> [u8; 16]
+    ensures is { (r : ℕ) → r < 16 → renaming result r ≡ exchange 0 homes.now.first (exchange 1 homes.now.second r) }
+    ensures permutation { IsPermutation result }
+{
+    names(homes.first.number, homes.second.number)
+}

@@ -1,0 +1,16 @@
+//! What does the elements of a row: blocks of instructions, turns of one element and of several, and the loops around them.
+//!
+//! [`elements`] gives the loops over the elements of one row, as a tree without jumps. Code around rows takes from here the registers that
+//! it shares with the loops, as [`pointer`] and [`COUNTER`]. `specs/Code` says what blocks and turns are made of, and `specs/Regions` what the
+//! loops are.
+#![tactic(auto)]
+
+mod homes;
+mod lists;
+mod loops;
+mod rules;
+mod span;
+mod turns;
+
+pub use lists::{BLOCK, COUNTER, STACK, pointer};
+pub use turns::{Counts, counts_of, elements};

@@ -1,0 +1,359 @@
+//! The lists of instructions of a function's blocks and turns.
+
+ghost use Rattle.std.specs.Prelude.{◌≡◌, ◌≢◌, ◌<◌, ◌≤◌, ◌+◌, ◌*◌, ◌++◌, ◌∷◌, [], All, OnOk, length, map, slice_index, true, pos};
+ghost use Rattle.x86_ins.specs.declared.ins.AluOp.TheVariants.{Add};
+ghost use Rattle.x86_ins.specs.declared.ins.Ins.TheVariants.{AluImm, VecLoad, VecStore};
+ghost use Rattle.x86_ins.specs.declared.ins.MoveOp.TheVariants.{Movdqu};
+ghost use Rattle.x86_ins.specs.Renaming.{IsPermutation, renamed, renaming};
+ghost use Rattle.x86_ins.specs.Spelling.{IsIns};
+ghost use Rattle.x86_ins.specs.Way.{Each};
+ghost use Rattle.x86_flow.specs.Moves.{IsWidth, away, load_far_code, store_either_code};
+ghost use Rattle.orc_frame.specs.Frame.{IsLayout};
+ghost use Rattle.orc_frame.specs.Layout.{pattern_slot, sum_slot};
+ghost use Rattle.orc_region.specs.Code.{HasRule, pointer, place_register, aligned_first, far_by, source_of, target_of, source_far_code, sources_far_code, sum_code, result_far_code, results_far_code, advance_code, first_register, second_register, AddsRule, AddsAction, AddsActions, IsMoved, IsLoaded, IsStored, IsReady};
+
+use crate::homes::{Homes, homes_of, names_of, place_register};
+use crate::rules::rule;
+use crate::span::Span;
+use orc_frame::{Layout, pattern_at, sum_at};
+use orc_ops::Op;
+use orc_plan::{Item, Step, place_of};
+use std::alloc::AllocError;
+use x86_flow::{push_aligned_store, push_load_far, push_store_far};
+use x86_ins::{Addr, AluOp, Gpr, Ins, InsList, MoveOp, VecOp, Xmm, allowed, rename};
+
+/// Counts the elements that are left: RCX.
+pub const COUNTER: Gpr = Gpr { number: 1 };
+
+/// RSP.
+pub const STACK: Gpr = Gpr { number: 4 };
+
+/// Points at the argument block: RDI.
+pub const BLOCK: Gpr = Gpr { number: 7 };
+
+/// Holds a first result that is stored: XMM0.
+const FIRST: Xmm = Xmm { number: 0 };
+
+/// Holds a second result that is stored: XMM1.
+const SECOND: Xmm = Xmm { number: 1 };
+
+/// Holds a running sum: XMM2.
+const SUM: Xmm = Xmm { number: 2 };
+
+/// The register that points at the next element of an array slot: RDX, RBX, RBP, RSI, R8 to R15.
+pub fn pointer(slot: usize) -> Gpr
+    requires { slot < 12 }
+    ensures { result ≡ pointer slot }
+{
+    let number = match slot {
+        0 => 2,
+        1 => 3,
+        2 => 5,
+        3 => 6,
+        _ => slot as u8 + 4,
+    };
+    Gpr { number }
+}
+
+/// Adds what loads elements of a slot.
+fn load_cells(
+    list: &mut InsList,
+    sizes: &[u8; 12],
+    slot: usize,
+    dst: Xmm,
+    span: Span,
+) -> Result<(), AllocError>
+    requires moved { IsMoved (slice_index sizes.now) span.count slot }
+    requires near { span.first ≤ 64 }
+    ensures { OnOk result (list.new ≡ list.old ++ load_far_code (span.count * slice_index sizes.now slot) dst (pointer slot) (far_by span.first (slice_index sizes.now) slot)) }
+{
+    let size = sizes[slot] as usize;
+    push_load_far(
+        list,
+        span.count * size,
+        dst,
+        pointer(slot),
+        span.first * size,
+    )
+}
+
+/// Adds what stores elements of a slot, which for the first dest may be an aligned store.
+fn store_cells(
+    list: &mut InsList,
+    sizes: &[u8; 12],
+    slot: usize,
+    src: Xmm,
+    span: Span,
+) -> Result<(), AllocError>
+    requires moved { IsMoved (slice_index sizes.now) span.count slot }
+    requires near { span.first ≤ 64 }
+    ensures { OnOk result (list.new ≡ list.old ++ store_either_code (aligned_first span.aligned slot) (span.count * slice_index sizes.now slot) src (pointer slot) (far_by span.first (slice_index sizes.now) slot)) }
+{
+    let size = sizes[slot] as usize;
+    let far = span.first * size;
+    if span.aligned && slot == 0 {
+        push_aligned_store(list, src, pointer(slot), far)
+    } else {
+        push_store_far(list, span.count * size, src, pointer(slot), far)
+    }
+}
+
+/// Adds what moves 16 bytes of the frame to a vector register.
+fn load_slot(list: &mut InsList, dst: Xmm, disp: i32) -> Result<(), AllocError>
+    ensures { OnOk result (list.new ≡ list.old ++ VecLoad Movdqu dst (record { base = 4; disp = disp }) ∷ []) }
+{
+    list.push(Ins::VecLoad {
+        op: MoveOp::Movdqu,
+        dst,
+        at: Addr { base: STACK, disp },
+    })
+}
+
+/// Adds what moves a vector register to 16 bytes of the frame.
+fn store_slot(list: &mut InsList, src: Xmm, disp: i32) -> Result<(), AllocError>
+    ensures { OnOk result (list.new ≡ list.old ++ VecStore Movdqu src (record { base = 4; disp = disp }) ∷ []) }
+{
+    list.push(Ins::VecStore {
+        op: MoveOp::Movdqu,
+        src,
+        at: Addr { base: STACK, disp },
+    })
+}
+
+/// Adds what brings a source to a register: elements of an array, a pattern, or a value from its place.
+fn push_source(
+    list: &mut InsList,
+    at: &[u8],
+    sizes: &[u8; 12],
+    layout: &Layout,
+    item: Item,
+    dst: Xmm,
+    span: Span,
+) -> Result<(), AllocError>
+    requires layout { IsLayout layout.now }
+    requires loaded { IsLoaded layout.now (slice_index sizes.now) span.count (source_of at.now item) }
+    requires near { span.first ≤ 64 }
+    ensures { OnOk result (list.new ≡ list.old ++ source_far_code span.count (slice_index sizes.now) (far_by span.first (slice_index sizes.now)) dst (source_of at.now item)) }
+{
+    match item {
+        Item::Value(value) => list.push(Ins::Vec {
+            op: VecOp::Movdqa,
+            dst,
+            src: place_register(place_of(at, value)),
+        }),
+        Item::Array(slot) => load_cells(list, sizes, slot as usize, dst, span),
+        Item::Acc { slot, .. } => load_cells(list, sizes, slot as usize, dst, span),
+        Item::Pattern(number) => load_slot(list, dst, pattern_at(layout, number as usize)),
+    }
+}
+
+/// Adds what brings sources to registers.
+fn push_sources(
+    list: &mut InsList,
+    at: &[u8],
+    sizes: &[u8; 12],
+    layout: &Layout,
+    sources: &[Item],
+    homes: &Homes,
+    span: Span,
+) -> Result<(), AllocError>
+    requires layout { IsLayout layout.now }
+    requires loaded { Each (IsLoaded layout.now (slice_index sizes.now) span.count) (map (source_of at.now) sources.now) }
+    requires near { span.first ≤ 64 }
+    ensures { OnOk result (list.new ≡ list.old ++ sources_far_code span.count (slice_index sizes.now) (far_by span.first (slice_index sizes.now)) homes.now.first homes.now.second (map (source_of at.now) sources.now)) }
+{
+    match sources {
+        [] => Ok(()),
+        [first] => push_source(list, at, sizes, layout, *first, homes.first, span),
+        [first, second, ..] => {
+            push_source(list, at, sizes, layout, *first, homes.first, span)?;
+            push_source(list, at, sizes, layout, *second, homes.second, span)
+        }
+    }
+}
+
+/// Adds what loads the running sum that the first result is, if it is one.
+fn push_sum(
+    list: &mut InsList,
+    at: &[u8],
+    sizes: &[u8; 12],
+    layout: &Layout,
+    results: &[Item],
+    count: usize,
+) -> Result<(), AllocError>
+    requires layout { IsLayout layout.now }
+    requires stored { Each (IsStored layout.now (slice_index sizes.now) count) (map (target_of at.now) results.now) }
+    ensures { OnOk result (list.new ≡ list.old ++ sum_code (map (target_of at.now) results.now)) }
+{
+    match results {
+        [Item::Acc { slot, .. }, ..] => load_slot(list, SUM, sum_at(layout, *slot as usize)),
+        _ => Ok(()),
+    }
+}
+
+/// Adds what stores a result: elements of an array, or a running sum. A value is in its place already.
+fn push_result(
+    list: &mut InsList,
+    at: &[u8],
+    sizes: &[u8; 12],
+    layout: &Layout,
+    item: Item,
+    src: Xmm,
+    span: Span,
+) -> Result<(), AllocError>
+    requires layout { IsLayout layout.now }
+    requires stored { IsStored layout.now (slice_index sizes.now) span.count (target_of at.now item) }
+    requires near { span.first ≤ 64 }
+    ensures { OnOk result (list.new ≡ list.old ++ result_far_code span.count (slice_index sizes.now) (far_by span.first (slice_index sizes.now)) (aligned_first span.aligned) src (target_of at.now item)) }
+{
+    match item {
+        Item::Value(_) => Ok(()),
+        Item::Array(slot) => store_cells(list, sizes, slot as usize, src, span),
+        Item::Pattern(slot) => store_cells(list, sizes, slot as usize, src, span),
+        Item::Acc { slot, .. } => store_slot(list, SUM, sum_at(layout, slot as usize)),
+    }
+}
+
+/// Adds what stores results: the first from XMM0, and then a second one from XMM1.
+fn push_results(
+    list: &mut InsList,
+    at: &[u8],
+    sizes: &[u8; 12],
+    layout: &Layout,
+    results: &[Item],
+    span: Span,
+) -> Result<(), AllocError>
+    requires layout { IsLayout layout.now }
+    requires stored { Each (IsStored layout.now (slice_index sizes.now) span.count) (map (target_of at.now) results.now) }
+    requires near { span.first ≤ 64 }
+    ensures { OnOk result (list.new ≡ list.old ++ results_far_code span.count (slice_index sizes.now) (far_by span.first (slice_index sizes.now)) (aligned_first span.aligned) (map (target_of at.now) results.now)) }
+{
+    match results {
+        [] => Ok(()),
+        [first] => push_result(list, at, sizes, layout, *first, FIRST, span),
+        [first, second, ..] => {
+            push_result(list, at, sizes, layout, *first, FIRST, span)?;
+            push_result(list, at, sizes, layout, *second, SECOND, span)
+        }
+    }
+}
+
+/// An instruction as it is. Its fields are always in the ranges of their types, which is known where they are read.
+fn known(ins: &Ins) -> Ins
+    ensures same { result ≡ ins.now }
+    ensures ranges { IsIns ins.now }
+{
+    let _ = allowed(ins);
+    *ins
+}
+
+/// Adds a list of instructions under other names of the vector registers.
+fn push_renamed(list: &mut InsList, more: &[Ins], names: &[u8; 16]) -> Result<(), AllocError>
+    requires { IsPermutation names.now }
+    ensures added { OnOk result (list.new ≡ list.old ++ map (renamed (renaming names.now)) more.now) }
+    ensures ranges { OnOk result (Each IsIns more.now) }
+{
+    for ins in more {
+        list.push(rename(&known(ins), names))?;
+    }
+    Ok(())
+}
+
+/// Adds what computes an opcode in the registers of its results, or adds its numbers of `count` elements to a running sum.
+fn push_rule(
+    list: &mut InsList,
+    at: &[u8],
+    op: Op,
+    results: &[Item],
+    homes: &Homes,
+    count: usize,
+) -> Result<(), AllocError>
+    requires rule { HasRule count op }
+    requires first { homes.now.first ≡ first_register (map (target_of at.now) results.now) }
+    requires second { homes.now.second ≡ second_register (map (target_of at.now) results.now) }
+    ensures { OnOk result (AddsRule count op (map (target_of at.now) results.now) list.old list.new) }
+{
+    let rule = rule(op, count);
+    push_renamed(list, rule.as_slice(), &names_of(homes))
+}
+
+/// Adds what does an instruction on elements.
+fn push_action(
+    list: &mut InsList,
+    at: &[u8],
+    sizes: &[u8; 12],
+    layout: &Layout,
+    step: &Step,
+    span: Span,
+) -> Result<(), AllocError>
+    requires layout { IsLayout layout.now }
+    requires ready { IsReady layout.now at.now (slice_index sizes.now) span.count step.now }
+    requires near { span.first ≤ 64 }
+    ensures { OnOk result (AddsAction at.now (slice_index sizes.now) span step.now list.old list.new) }
+{
+    let results = step.results.as_slice();
+    let homes = homes_of(at, results);
+    push_sources(
+        list,
+        at,
+        sizes,
+        layout,
+        step.sources.as_slice(),
+        &homes,
+        span,
+    )?;
+    push_sum(list, at, sizes, layout, results, span.count)?;
+    push_rule(list, at, step.op, results, &homes, span.count)?;
+    push_results(list, at, sizes, layout, results, span)
+}
+
+/// Adds what does the steps on elements.
+pub fn push_actions(
+    list: &mut InsList,
+    at: &[u8],
+    sizes: &[u8; 12],
+    layout: &Layout,
+    steps: &[Step],
+    span: Span,
+) -> Result<(), AllocError>
+    requires layout { IsLayout layout.now }
+    requires ready { All (IsReady layout.now at.now (slice_index sizes.now) span.count) steps.now }
+    requires near { span.first ≤ 64 }
+    ensures { OnOk result (AddsActions at.now (slice_index sizes.now) span steps.now list.old list.new) }
+{
+    for step in steps {
+        push_action(list, at, sizes, layout, step, span)?;
+    }
+    Ok(())
+}
+
+/// Moves the pointer of a slot on by `count` elements.
+fn advance(sizes: &[u8; 12], slot: usize, count: usize) -> Ins
+    requires slot { slot < 12 }
+    requires count { count ≤ 64 }
+    ensures { result ≡ AluImm Add (pointer slot) (pos (count * slice_index sizes.now slot)) }
+{
+    Ins::AluImm {
+        op: AluOp::Add,
+        dst: pointer(slot),
+        value: count as i32 * sizes[slot] as i32,
+    }
+}
+
+/// Adds what moves the pointers of `n` slots from `first` on by `count` elements.
+pub fn push_advances(
+    list: &mut InsList,
+    sizes: &[u8; 12],
+    count: usize,
+    first: usize,
+    n: usize,
+) -> Result<(), AllocError>
+    requires count { count ≤ 64 }
+    requires slots { first + n ≤ 12 }
+    ensures { OnOk result (list.new ≡ list.old ++ advance_code (slice_index sizes.now) count first n) }
+{
+    for k in 0..n {
+        list.push(advance(sizes, first + k, count))?;
+    }
+    Ok(())
+}

@@ -1,0 +1,289 @@
+//! The loops over a row's elements: single ones until the first dest's cell is at a multiple of 16, several at once, and single ones.
+
+ghost use Rattle.std.specs.Prelude.{◌≡◌, ◌≤◌, ◌++◌, ◌∷◌, [], All, IfOk, IsTrue, pos};
+ghost use Rattle.x86_ins.specs.Spelling.{has_spelling};
+ghost use Rattle.x86_ins.specs.declared.ins.AluOp.TheVariants.{Add};
+ghost use Rattle.x86_ins.specs.declared.ins.Ins.TheVariants.{Alu, AluImm};
+ghost use Rattle.x86_ins.specs.declared.ins.Cond.TheVariants.{Ne};
+ghost use Rattle.x86_flow.specs.Flow.{Plain, flat, loop_code};
+ghost use Rattle.x86_flow.specs.Moves.{away};
+ghost use Rattle.x86_flow.specs.Tree.{flat_of};
+ghost use Rattle.orc_region.specs.Regions.{left_word, gap_code, gap_flow, low_bits_code, behind_code, enter_head_code, leave_head_code, tail_flow, aligned_row, plain_row, wide_loops};
+
+use crate::lists::{COUNTER, STACK, pointer};
+use std::alloc::{AllocError, Global};
+use x86_flow::tree::{Flow, chain, choice, plain, repeat};
+use x86_flow::{Block, SCRATCH, away};
+use x86_ins::{Addr, AluOp, Cond, Ins, InsList, ShiftOp};
+
+/// Where the body's count waits while the head is done, in bytes above RSP.
+const LEFT: usize = 992;
+
+/// More elements than a row has.
+const NEVER: u64 = 1 << 31;
+
+/// The word in which the body's count waits.
+fn left() -> Addr
+    ensures { result ≡ away 4 left_word }
+{
+    away(STACK, LEFT)
+}
+
+/// Leaves in RAX how many elements of `1 << shift` bytes are before the first dest's next multiple of 16.
+#[tactic(auto, using(crate::proofs::Built::Loops::gap_zero, crate::proofs::Built::Loops::gap_more))]
+fn gap_list(alloc: Global, shift: u8) -> Result<InsList, AllocError>
+    requires { shift ≤ 3 }
+    ensures { IfOk result (λ list. list ≡ gap_code shift) }
+{
+    let mut list = InsList::new(alloc);
+    list.push(Ins::MovImm {
+        dst: SCRATCH,
+        value: 0,
+    })?;
+    list.push(Ins::Alu {
+        op: AluOp::Sub,
+        dst: SCRATCH,
+        src: pointer(0),
+    })?;
+    list.push(Ins::AluImm {
+        op: AluOp::And,
+        dst: SCRATCH,
+        value: 15,
+    })?;
+    if shift > 0 {
+        list.push(Ins::Shift {
+            op: ShiftOp::Shr,
+            dst: SCRATCH,
+            count: shift,
+        })?;
+    }
+    Ok(list)
+}
+
+/// Leaves in RAX the first dest's address modulo the size of its elements, and tells whether that is 0.
+fn low_bits_list(alloc: Global, shift: u8) -> Result<InsList, AllocError>
+    requires { shift ≤ 3 }
+    ensures { IfOk result (λ list. list ≡ low_bits_code shift) }
+{
+    let mut list = InsList::new(alloc);
+    list.push(Ins::Move {
+        dst: SCRATCH,
+        src: pointer(0),
+    })?;
+    list.push(Ins::AluImm {
+        op: AluOp::And,
+        dst: SCRATCH,
+        value: (1 << shift) - 1,
+    })?;
+    Ok(list)
+}
+
+/// A flow of instructions that have spellings.
+fn of(list: InsList) -> Flow
+    requires { All (λ i. IsTrue (has_spelling i)) list }
+    ensures { flat_of result ≡ list }
+{
+    plain(Block { list })
+}
+
+/// A list of one instruction.
+fn alone(alloc: Global, ins: Ins) -> Result<InsList, AllocError>
+    ensures { IfOk result (λ list. list ≡ ins ∷ []) }
+{
+    let mut list = InsList::new(alloc);
+    list.push(ins)?;
+    Ok(list)
+}
+
+/// Leaves in RAX how many elements are before the boundary, or, where no number of them reaches one, more than a row has.
+#[tactic(auto, using(crate::proofs::Built::Loops::spelled_gap, crate::proofs::Built::Loops::spelled_low_bits, crate::proofs::Built::Loops::spelled_one, crate::proofs::Built::Loops::gap_alone, crate::proofs::Built::Loops::gap_either))]
+fn gap(alloc: Global, shift: u8) -> Result<Flow, AllocError>
+    requires { shift ≤ 3 }
+    ensures { IfOk result (λ flow. flat_of flow ≡ flat (gap_flow shift)) }
+{
+    let gap = of(gap_list(alloc, shift)?);
+    if shift == 0 {
+        return Ok(gap);
+    }
+    let never = of(alone(
+        alloc,
+        Ins::MovImm {
+            dst: SCRATCH,
+            value: NEVER,
+        },
+    )?);
+    let bits = of(low_bits_list(alloc, shift)?);
+    let either = choice(alloc, Cond::E, gap, never)?;
+    chain(alloc, bits, either)
+}
+
+/// Makes the counter so many elements less than there are behind the gap.
+fn behind_list(alloc: Global, lanes: usize) -> Result<InsList, AllocError>
+    requires { lanes ≤ 64 }
+    ensures { IfOk result (λ list. list ≡ behind_code lanes) }
+{
+    let mut list = InsList::new(alloc);
+    list.push(Ins::Alu {
+        op: AluOp::Sub,
+        dst: COUNTER,
+        src: SCRATCH,
+    })?;
+    list.push(Ins::AluImm {
+        op: AluOp::Sub,
+        dst: COUNTER,
+        value: lanes as i32,
+    })?;
+    Ok(list)
+}
+
+/// Keeps the body's count, and counts the elements of the head.
+fn enter_head_list(alloc: Global) -> Result<InsList, AllocError>
+    ensures { IfOk result (λ list. list ≡ enter_head_code) }
+{
+    let mut list = InsList::new(alloc);
+    list.push(Ins::Store {
+        src: COUNTER,
+        at: left(),
+    })?;
+    list.push(Ins::Move {
+        dst: COUNTER,
+        src: SCRATCH,
+    })?;
+    list.push(Ins::Test {
+        a: COUNTER,
+        b: COUNTER,
+    })?;
+    Ok(list)
+}
+
+/// Takes the body's count again.
+fn leave_head_list(alloc: Global) -> Result<InsList, AllocError>
+    ensures { IfOk result (λ list. list ≡ leave_head_code) }
+{
+    let mut list = InsList::new(alloc);
+    list.push(Ins::Load {
+        dst: COUNTER,
+        at: left(),
+    })?;
+    list.push(Ins::Test {
+        a: COUNTER,
+        b: COUNTER,
+    })?;
+    Ok(list)
+}
+
+/// Changes the counter by so many elements.
+fn counted(alloc: Global, op: AluOp, by: usize) -> Result<InsList, AllocError>
+    requires { by ≤ 64 }
+    ensures { IfOk result (λ list. list ≡ AluImm op 1 (pos by) ∷ []) }
+{
+    alone(
+        alloc,
+        Ins::AluImm {
+            op,
+            dst: COUNTER,
+            value: by as i32,
+        },
+    )
+}
+
+/// Single elements to the boundary, and then several at once.
+#[tactic(auto, using(crate::proofs::Built::Loops::spelled_enter, crate::proofs::Built::Loops::spelled_leave))]
+fn reached(alloc: Global, head: Block, aligned: Flow) -> Result<Flow, AllocError>
+    ensures { IfOk result (λ flow. flat_of flow ≡ enter_head_code ++ (loop_code Ne head.list ++ (leave_head_code ++ flat_of aligned))) }
+{
+    let enter = of(enter_head_list(alloc)?);
+    let leave = of(leave_head_list(alloc)?);
+    let single = repeat(alloc, Cond::Ne, plain(head))?;
+    let body = chain(alloc, leave, aligned)?;
+    let rest = chain(alloc, single, body)?;
+    chain(alloc, enter, rest)
+}
+
+/// Several at once from the first element on.
+#[tactic(auto, using(crate::proofs::Built::Loops::spelled_one))]
+fn unreached(alloc: Global, wide: Flow) -> Result<Flow, AllocError>
+    ensures { IfOk result (λ flow. flat_of flow ≡ Alu Add 1 0 ∷ flat_of wide) }
+{
+    let back = of(alone(
+        alloc,
+        Ins::Alu {
+            op: AluOp::Add,
+            dst: COUNTER,
+            src: SCRATCH,
+        },
+    )?);
+    chain(alloc, back, wide)
+}
+
+/// The single elements that are left.
+#[tactic(auto, using(crate::proofs::Built::Loops::spelled_one))]
+fn rest(alloc: Global, lanes: usize, single: Block) -> Result<Flow, AllocError>
+    requires { lanes ≤ 64 }
+    ensures { IfOk result (λ flow. flat_of flow ≡ flat (tail_flow lanes (Plain single.list))) }
+{
+    let count = of(counted(alloc, AluOp::Add, lanes)?);
+    let turns = repeat(alloc, Cond::Ne, plain(single))?;
+    chain(alloc, count, turns)
+}
+
+/// The loops of a row whose first dest has elements of `1 << shift` bytes, of which `lanes` fill a register: `head` and `tail` do one element, and `wide` and `aligned` do whole turns, without and with aligned stores to the first dest.
+#[tactic(auto, using(crate::proofs::Built::Loops::spelled_behind, crate::proofs::Built::Loops::aligned_whole))]
+pub fn aligned_loops(
+    alloc: Global,
+    shift: u8,
+    lanes: usize,
+    head: Block,
+    wide: Flow,
+    aligned: Flow,
+    tail: Block,
+) -> Result<Flow, AllocError>
+    requires shift { shift ≤ 3 }
+    requires lanes { lanes ≤ 64 }
+    requires same { tail.list ≡ head.list }
+    ensures { IfOk result (λ flow. flat_of flow ≡ flat (aligned_row shift lanes (Plain head.list) (Plain (flat_of wide)) (Plain (flat_of aligned)))) }
+{
+    let gap = gap(alloc, shift)?;
+    let behind = of(behind_list(alloc, lanes)?);
+    let yes = reached(alloc, head, aligned)?;
+    let no = unreached(alloc, wide)?;
+    let either = choice(alloc, Cond::Ns, yes, no)?;
+    let last = rest(alloc, lanes, tail)?;
+    let turns = chain(alloc, either, last)?;
+    let counted = chain(alloc, behind, turns)?;
+    chain(alloc, gap, counted)
+}
+
+/// The loops of a row without aligned stores.
+#[tactic(auto, using(crate::proofs::Built::Loops::spelled_one))]
+pub fn plain_loops(alloc: Global, lanes: usize, wide: Flow, tail: Block) -> Result<Flow, AllocError>
+    requires { lanes ≤ 64 }
+    ensures { IfOk result (λ flow. flat_of flow ≡ flat (plain_row lanes (Plain tail.list) (Plain (flat_of wide)))) }
+{
+    let less = of(counted(alloc, AluOp::Sub, lanes)?);
+    let last = rest(alloc, lanes, tail)?;
+    let turns = chain(alloc, wide, last)?;
+    chain(alloc, less, turns)
+}
+
+/// Turns of `more` elements, and then turns of `lanes`.
+#[tactic(auto, using(crate::proofs::Built::Loops::spelled_one))]
+pub fn wide_loops(
+    alloc: Global,
+    lanes: usize,
+    more: usize,
+    large: Block,
+    turn: Block,
+) -> Result<Flow, AllocError>
+    requires lanes { lanes ≤ more }
+    requires more { more ≤ 64 }
+    ensures { IfOk result (λ flow. flat_of flow ≡ flat (wide_loops lanes more (Plain large.list) (Plain turn.list))) }
+{
+    let down = of(counted(alloc, AluOp::Sub, more - lanes)?);
+    let most = repeat(alloc, Cond::Ns, plain(large))?;
+    let up = of(counted(alloc, AluOp::Add, more - lanes)?);
+    let few = repeat(alloc, Cond::Ns, plain(turn))?;
+    let first = chain(alloc, down, most)?;
+    let second = chain(alloc, up, few)?;
+    chain(alloc, first, second)
+}
