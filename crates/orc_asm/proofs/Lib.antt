@@ -54,4 +54,7 @@ pub mod RegionSizes
 pub mod Counters
 pub mod Rounds
 pub mod RegionSteps
+pub mod Touched
 pub mod Touches
+pub mod Operands
+pub mod WideSteps

@@ -1,3 +1,4 @@
+pub mod Stores
 pub mod RunsAs
 pub mod Function
 pub mod Code
