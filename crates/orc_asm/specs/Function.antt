@@ -17,6 +17,10 @@ RunsAs f bytes = runs.RunsAs (subject_of f) bytes
 abbrev pub RunsQuietly : FunctionValue → List ℕ → Type 0
 RunsQuietly f bytes = runs.RunsQuietly (subject_of f) bytes
 
+-- and besides, at most rows times turns times operands that are arrays of the steps touch cells, and where in every row a register of the first dest can be stored at a multiple of 16, and no other dest is that very array, no movdqu stores to it
+abbrev pub RunsFully : FunctionValue → List ℕ → Type 0
+RunsFully f bytes = runs.RunsFully (subject_of f) bytes
+
 -- ---- functions that need too many values at once
 
 -- of these instructions, the first of which has the number j, the first that needs more values than there are places: its line and its need

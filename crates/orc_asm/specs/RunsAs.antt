@@ -1,14 +1,12 @@
 -- Code that runs as emulation says.
 use Rattle.std.specs.Prelude.{◌≡◌, ℕ, ◌+◌, ◌*◌, ◌%◌, ◌<◌, ◌≤◌, List, length, Some, None}
-use Rattle.x86_ins.specs.declared.ins.Ins.{Ins}
-use Rattle.x86_ins.specs.declared.ins.Ins.TheVariants.{VecStore}
-use Rattle.x86_ins.specs.declared.ins.MoveOp.TheVariants as move
 use Rattle.orc_bits.specs.Memory.{Memory, IsMapped, word}
 use Rattle.x86_ins.specs.Machine.{Core, Point, Touches}
 use Rattle.x86_ins.specs.Way.{Placed, Way, Moment, Each, AtMost, Stop, IsOver}
 use Rattle.orc_frame.specs.Parts.{InFrame, InSums, sum_word}
 use Rattle.orc_frame.specs.Subject.{Call, End, Subject, rows, cell, InArray, InDests, VerySame}
 use Rattle.orc_frame.specs.GoodCall.{GoodCall, lowered}
+use Rattle.orc_region.specs.Stores.{IsMovdquStore}
 
 -- ---- what code promises of a call
 
@@ -88,10 +86,6 @@ RunsQuietly f = RunsInsideWith f (quiet f)
 abbrev pub TouchesCell : Subject → Call → Moment → Type 0
 TouchesCell f call m = (a : ℕ) × f.cells call a × Touches m.ins m.point.core a
 
-abbrev pub IsMovdquStore : Ins → Type 0
-IsMovdquStore (VecStore move.Movdqu src at) = Unit {0}
-IsMovdquStore _ = ⊥
-
 -- a movdqu store to a cell of the first dest
 abbrev pub StoresFirst : Subject → Call → Moment → Type 0
 StoresFirst f call m = IsMovdquStore m.ins × ((a : ℕ) × InArray f call 0 a × Touches m.ins m.point.core a)
@@ -107,6 +101,10 @@ abbrev pub wide : Subject → Promise
 wide f s small call way t =
     AtMost (rows f call * f.turns call.n * f.operands) (TouchesCell f call) way × (Aligned f call → Each (λ m. StoresFirst f call m → ⊥) way)
 
--- all that the compiler's code promises of a good call, over one way
+-- quiet and wide, over one way
+abbrev pub fully : Subject → Promise
+fully f s small call way t = quiet f s small call way t × wide f s small call way t
+
+-- a call whose memory, cut down to the parts, makes a good call returns, and is quiet and wide on its way: all that the compiler's code promises
 abbrev pub RunsFully : Subject → List ℕ → Type 0
-RunsFully f = RunsInsideWith f (λ s small call way t. quiet f s small call way t × wide f s small call way t)
+RunsFully f = RunsInsideWith f (fully f)

@@ -4,7 +4,7 @@ ghost use Rattle.std.specs.Prelude.{◌≡◌, ◌≤◌, IfOk, OnOk, IfErr, Non
 ghost use Rattle.orc_program.specs.Need.{lanes};
 ghost use Rattle.orc_plan.specs.Lowered.{steps_of, sizes_of};
 ghost use Rattle.orc_plan.specs.Places.{GoodPlaces};
-ghost use Rattle.orc_asm.specs.Function.{RunsAs, RunsQuietly, first_pressure, IsRefusal};
+ghost use Rattle.orc_asm.specs.Function.{RunsAs, RunsFully, first_pressure, IsRefusal};
 
 use crate::refusal::AsmError;
 use crate::rows::whole_code;
@@ -16,13 +16,15 @@ use orc_region::{counts_of, elements};
 use std::alloc::{AllocError, Global};
 
 /// Code that does in every good call what the function means, in at most as many steps as are stated. It does so inside any larger memory
-/// too, and on the way changes no byte but those of dests' cells, of accumulators' words and of the frame. It has 1 to 1,048,576 bytes.
+/// too, and on the way changes no byte but those of dests' cells, of accumulators' words and of the frame. Few of its steps touch cells,
+/// at most one in a turn for each operand that is an array, and where the first dest can be stored by aligned stores in every row, and is no
+/// other dest, it is. The code has 1 to 1,048,576 bytes.
 /// A function is refused exactly where some instruction needs more values of temps at once than there are places for them: with the first
 /// such instruction's line and need.
-#[tactic(auto, using(crate::proofs::Calls::Weaker::quietly_as, crate::proofs::Function::Pressed::none_pressed, crate::proofs::Function::Pressed::first_pressed))]
+#[tactic(auto, using(crate::proofs::Calls::Weaker::runs_as, crate::proofs::Function::Pressed::none_pressed, crate::proofs::Function::Pressed::first_pressed))]
 pub fn assemble(alloc: Global, f: &Function) -> Result<Code, AsmError>
     ensures runs { IfOk result (λ code. RunsAs f.now code) }
-    ensures inside { IfOk result (λ code. RunsQuietly f.now code) }
+    ensures inside { IfOk result (λ code. RunsFully f.now code) }
     ensures bytes { IfOk result (λ code. (1 ≤ length code) × (length code ≤ 1048576)) }
     ensures few { OnOk result (first_pressure f.now ≡ None) }
     ensures refusal { IfErr result (λ e. IsRefusal f.now e) }
@@ -46,7 +48,7 @@ fn code_of(alloc: Global, f: &Function, core: &Core, places: &[u8]) -> Result<Co
     requires sizes { core.now.sizes ≡ sizes_of f.now }
     requires lanes { core.now.lanes ≡ lanes f.now }
     requires places { GoodPlaces core.now.steps places.now }
-    ensures inside { IfOk result (λ code. RunsQuietly f.now code) }
+    ensures inside { IfOk result (λ code. RunsFully f.now code) }
     ensures bytes { IfOk result (λ code. (1 ≤ length code) × (length code ≤ 1048576)) }
 {
     let counts = counts_of(f);

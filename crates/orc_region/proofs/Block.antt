@@ -8,3 +8,4 @@ pub mod Keeping
 pub mod Names
 pub mod Registers
 pub mod RuleRegisters
+pub mod Touched

@@ -4,3 +4,4 @@ pub mod Rounds
 pub mod SameSizes
 pub mod Lists
 pub mod Touches
+pub mod Operands

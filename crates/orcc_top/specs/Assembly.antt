@@ -7,7 +7,7 @@ use Rattle.orc_text.specs.Reads.{Reads, text_program}
 use Rattle.orc_plan.specs.declared.steps.Pressure.{Pressure}
 use Rattle.orc_asm.specs.declared.refusal.AsmError.{AsmError}
 use Rattle.orc_asm.specs.declared.refusal.AsmError.TheVariants as asm
-use Rattle.orc_asm.specs.Function.{RunsAs, RunsQuietly, first_pressure}
+use Rattle.orc_asm.specs.Function.{RunsAs, RunsFully, first_pressure}
 use Rattle.orc_image.specs.Spelling as spelling
 use Rattle.orcc_top.specs.Each.{OneForEach}
 use Rattle.orcc_top.specs.declared.refusal.Refusal.{Refusal}
@@ -15,7 +15,7 @@ use Rattle.orcc_top.specs.declared.refusal.Refusal.TheVariants as refusal
 
 -- ---- the image
 
--- an image's function with the name and the counts of a function of the text, and with code whose good calls do what that function means, inside larger memories too, and change nothing on the way but dests' cells, accumulators' words and the frame
+-- an image's function with the name and the counts of a function of the text, and with code whose good calls do what that function means, inside larger memories too, change nothing on the way but dests' cells, accumulators' words and the frame, touch cells at most once a turn for each operand that is an array, and store the first dest aligned wherever that can be done in every row
 pub record EntryOf (f : FunctionValue) (entry : spelling.FunctionValue) : Type 0 where
   pub name : entry.name ≡ f.name
   pub two_d : entry.two_d ≡ f.two_d
@@ -24,7 +24,7 @@ pub record EntryOf (f : FunctionValue) (entry : spelling.FunctionValue) : Type 0
   pub params : entry.params ≡ count_of kind.Param f.vars
   pub accs : entry.accs ≡ count_of kind.Accumulator f.vars
   pub runs : RunsAs f entry.code
-  pub inside : RunsQuietly f entry.code
+  pub inside : RunsFully f entry.code
 
 -- one for each function, in order
 abbrev pub EntriesOf : List FunctionValue → List spelling.FunctionValue → Type 0

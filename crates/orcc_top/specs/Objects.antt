@@ -3,7 +3,7 @@ use Rattle.std.specs.Prelude.{◌≡◌, ℕ, Bool, false, List, ◌∷◌, code
 use Rattle.std.specs.List.{starts_with}
 use Rattle.orc_program.specs.Program.{FunctionValue, ProgramValue}
 use Rattle.orc_text.specs.Reads.{Reads}
-use Rattle.orc_asm.specs.Function.{RunsAs, RunsQuietly}
+use Rattle.orc_asm.specs.Function.{RunsAs, RunsFully}
 use Rattle.orc_elf.specs.Entries.{EntryValue}
 use Rattle.orc_elf.specs.Fields.{ElfGives}
 use Rattle.orc_image.specs.Spelling as spelling
@@ -14,7 +14,7 @@ use Rattle.orcc_top.specs.Each.{OneForEach}
 pub record CompiledOf (f : FunctionValue) (entry : EntryValue) : Type 0 where
   pub name : entry.name ≡ f.name
   pub runs : RunsAs f entry.code
-  pub inside : RunsQuietly f entry.code
+  pub inside : RunsFully f entry.code
 
 -- the bytes are an object with a function for each function of the program that the text reads as, in order
 pub record IsObject (text bytes : List ℕ) : Type 0 where

@@ -40,11 +40,13 @@ use Rattle.x86_ins.specs.declared.ins.Cond.TheVariants.{Ns}
 use Rattle.x86_flow.specs.Flow.{Flow, Plain, Repeat}
 use Rattle.orc_region.specs.Code.{Action, Plan, AreActions, plan_with, turn_code, action_far_code, block_far, blocks_turn_code, aligned_first, shift_of, is_filled, elements_flow, elements_of}
 use Rattle.orc_region.specs.Regions.{plain_row, aligned_row}
+use Rattle.orc_asm.specs.RunsAs.{Aligned}
 use Rattle.orc_region.proofs.Block.Cells.{Numbers, IsOf}
 use Rattle.orc_region.proofs.Block.Frames.{IsFrame, Framed, framed_below, no_sum}
 use Rattle.orc_region.proofs.Block.Emulated.{IsCells, state}
 use Rattle.orc_region.proofs.Block.Elements.{Agrees, Reached, reaches}
 use Rattle.orc_region.proofs.Block.Actions.{IsFit}
+use Rattle.orc_region.proofs.Block.Touched.{TouchesPart}
 use Rattle.orc_region.proofs.Turn.Advancing.{Setting, IsCell, IsDestCell, Inside}
 use Rattle.orc_region.proofs.Turn.Rounds.{Outside, At, plain_done, aligned_done}
 use Rattle.orc_region.proofs.Sizes.Steps.{regions_of}
@@ -59,6 +61,7 @@ use Rattle.orc_asm.proofs.Row.Lines.{InRows}
 use Rattle.orc_asm.proofs.Row.Loop.{rsp, stack_low, Steady, Ready, Ended}
 use Rattle.orc_asm.proofs.Row.Elements.{InFree, RowDone, row_ended}
 use Rattle.orc_asm.proofs.Row.Path.{Still, Gone, Parts, by_pointer, cell_weight}
+use Rattle.orc_asm.proofs.Function.WideSteps.{WideAt, own_wide, part_wide, none_filled, some_reached}
 
 -- what is known of actions that do so many elements at once
 pub record Able (f : FunctionValue) (at : List ℕ) (count : ℕ) (actions : List Action) : Type 0 where
@@ -213,12 +216,11 @@ module _ (f : FunctionValue) (at : List ℕ) (single wide aligned : List Ins) (e
   block_dest : (x : ℕ) → s.core.gpr 7 ≤ x → x < s.core.gpr 7 + 304 → Dests x → ⊥
   block_dest x l u h = (good.disjoint.cells x (dest_cell f known code s args back good x h)).0 (l, u)
 
-  -- nothing more is asked of a step's instruction
-  abbrev pub Any : Core → Ins → Type 0
-  Any u i = Unit {0}
+  abbrev pub Fair : Core → Ins → Type 0
+  Fair = WideAt (subject_of f) args
 
   abbrev Q : Core → Ins → Type 0
-  Q u i = Still f known code s args back good u × Any u i
+  Q u i = Still f known code s args back good u × Fair u i
 
   -- ---- before the rows
 
@@ -243,7 +245,7 @@ module _ (f : FunctionValue) (at : List ℕ) (single wide aligned : List Ins) (e
       stack = ⊎_elim (λ e. inl e) (λ e. inr (omega (arith, e, frame_low))) h.stack;
       quiet = λ a nc nf ns. h.outside a (λ w. nf (w));
     },
-    tt,
+    own_wide f known code s args back good u i (λ a t. ⊎_elim (λ w. inl w) (λ w. inr (inl w)) (h.touches a t)),
   )
 
   first_patterns : (d : Core) → d.gpr 4 ≡ lowered → Prepared (layout_of f) args.param s.core d
@@ -378,9 +380,16 @@ module _ (f : FunctionValue) (at : List ℕ) (single wide aligned : List Ins) (e
         bounded = h.steady.bounded;
       }
 
+      -- where the first dest may be stored a whole register at once by stores that aren't aligned
+      abbrev Free : Type 0
+      Free = Aligned (subject_of f) args → ⊥
+
       -- what holds at each step in a row
-      calmly : (u : Core) (i : Ins) → Outside args.n base Slot numbers lowered first_plan Emul Frame first_setting (s.core.gpr 7) c.memory Q stack_room in_frame u → Q u i
-      calmly u i w = (record { stack = inr w.stack; quiet = λ a nc nf ns. w.quiet a (λ i. nc (row_dest a i)) (λ i. nf (sums_frame a i)) (λ i. nf (free_frame a i)) ∙ h.steady.quiet a nc nf }, tt)
+      calmly : (u : Core) (i : Ins) → Outside args.n base Slot numbers lowered first_plan Emul Frame first_setting (s.core.gpr 7) c.memory Q stack_room in_frame u → TouchesPart args.n base size Slot lowered Free u i → Q u i
+      calmly u i w t = (
+        record { stack = inr w.stack; quiet = λ a nc nf ns. w.quiet a (λ i. nc (row_dest a i)) (λ i. nf (sums_frame a i)) (λ i. nf (free_frame a i)) ∙ h.steady.quiet a nc nf },
+        part_wide f known code s args back good r row u i t,
+      )
 
       abbrev Place : ℕ → Core → Type 0
       Place = At args.n base Slot numbers lowered first_plan Emul Frame first_setting (s.core.gpr 7) c.memory Q stack_room in_frame
@@ -401,15 +410,15 @@ module _ (f : FunctionValue) (at : List ℕ) (single wide aligned : List Ins) (e
 
       -- the loops of a row, by what its turns are
       module _ (short_one : length (turn_code first_plan 1) ≤ each) (short_more : length (turn_code (plan_with f done.more) (lanes f)) ≤ each) (light_one : weigh cell_weight (turn_code first_plan 1) ≤ some) (light_more : weigh cell_weight (turn_code (plan_with f done.more) (lanes f)) ≤ some) where
-        plain : Goes (plain_row (lanes f) (Plain (turn_code first_plan 1)) (Repeat Ns (Plain (turn_code (plan_with f done.more) (lanes f))))) 4
-        plain = plain_done args.n base Slot numbers lowered first_plan Emul Frame first_setting (s.core.gpr 7) c.memory Q stack_room in_frame calmly by_pointer refl done.more (setting (lanes f) done.more done.able_more.are) (lanes f) done.positive done.most
-            done.able_one.fit done.able_one.turn done.able_more.fit done.able_more.turn each some short_one short_more light_one light_more c place_first h.counter
+        plain : fills f ≡ false → Goes (plain_row (lanes f) (Plain (turn_code first_plan 1)) (Repeat Ns (Plain (turn_code (plan_with f done.more) (lanes f))))) 4
+        plain e = plain_done args.n base Slot numbers lowered first_plan Emul Frame first_setting (s.core.gpr 7) c.memory Q stack_room in_frame Free calmly by_pointer refl done.more (setting (lanes f) done.more done.able_more.are) (lanes f) done.positive done.most
+            done.able_one.fit done.able_one.turn done.able_more.fit done.able_more.turn each some short_one short_more light_one light_more (none_filled f args e) c place_first h.counter
 
         filled : (stored : List Action) (x : Stored f at (lanes f) stored) → length (blocks_turn_code (plan_with f stored) (aligned_first true) (lanes f) 1) ≤ each → weigh cell_weight (blocks_turn_code (plan_with f stored) (aligned_first true) (lanes f) 1) ≤ some
             → Goes (aligned_row (shift_of (size 0)) (lanes f) (Plain (turn_code first_plan 1)) (Repeat Ns (Plain (turn_code (plan_with f done.more) (lanes f)))) (Repeat Ns (Plain (blocks_turn_code (plan_with f stored) (aligned_first true) (lanes f) 1)))) 19
-        filled stored x short light = aligned_done args.n base Slot numbers lowered first_plan Emul Frame first_setting (s.core.gpr 7) c.memory Q stack_room in_frame calmly by_pointer refl done.more (setting (lanes f) done.more done.able_more.are) (lanes f) done.positive done.most
+        filled stored x short light = aligned_done args.n base Slot numbers lowered first_plan Emul Frame first_setting (s.core.gpr 7) c.memory Q stack_room in_frame Free calmly by_pointer refl done.more (setting (lanes f) done.more done.able_more.are) (lanes f) done.positive done.most
             done.able_one.fit done.able_one.turn done.able_more.fit done.able_more.turn each some short_one short_more light_one light_more
-            stored (setting (lanes f) stored x.able.are) x.able.fit x.able.turn (shift_of (size 0)) x.shift x.full x.some x.size x.block x.turn short light c place_first h.counter
+            stored (setting (lanes f) stored x.able.are) x.able.fit x.able.turn (shift_of (size 0)) x.shift x.full x.some x.size x.block x.turn short light (some_reached f known code s args back good r row (shift_of (size 0)) x.size) c place_first h.counter
 
       by_turns : (b : Bool) → fills f ≡ b → Goes (elements_flow b (shift_of (size 0)) (lanes f) single wide aligned) (besides_of b)
       by_turns false e =
@@ -418,7 +427,7 @@ module _ (f : FunctionValue) (at : List ℕ) (single wide aligned : List Ins) (e
           let short_more = subst (λ l. length l ≤ each) done.wide_is done.short_wide in
           let light_more = subst (λ l. weigh cell_weight l ≤ some) done.wide_is done.light_wide in
           subst (λ l. Goes (elements_flow false (shift_of (size 0)) (lanes f) l wide aligned) 4) (sym done.single_is)
-          (subst (λ l. Goes (elements_flow false (shift_of (size 0)) (lanes f) (turn_code first_plan 1) l aligned) 4) (sym done.wide_is) (plain short_one short_more light_one light_more))
+          (subst (λ l. Goes (elements_flow false (shift_of (size 0)) (lanes f) (turn_code first_plan 1) l aligned) 4) (sym done.wide_is) (plain short_one short_more light_one light_more e))
       by_turns true e =
           let x = done.stored e in
           let short_one = subst (λ l. length l ≤ each) done.single_is done.short_single in
@@ -499,7 +508,7 @@ module _ (f : FunctionValue) (at : List ℕ) (single wide aligned : List Ins) (e
         stack = inr (w.stack ∙ h.stack);
         quiet = λ a nc nf ns. w.outside a (not_total a ns) ∙ h.quiet a nc nf;
       },
-      tt,
+      own_wide f known code s args back good u i (λ a t. ⊎_elim (λ x. inl (subst (λ b. InFrame b a) h.stack x)) (λ x. inr (inl (subst (λ b. InBlock b a) h.block x))) (w.touches a t)),
     )
 
     -- emulation's sum is that of the lanes
@@ -532,7 +541,7 @@ module _ (f : FunctionValue) (at : List ℕ) (single wide aligned : List Ins) (e
         )
 
   pub parts : (first last : List Ins) → Prepares (layout_of f) first → Finishes (layout_of f) last
-      → Parts f known code s args back good Any first (elements_of f single wide aligned) last (regions_of (besides_of (fills f)) (lanes f) each args.n) (turns (lanes f) args.n * some)
+      → Parts f known code s args back good Fair first (elements_of f single wide aligned) last (regions_of (besides_of (fills f)) (lanes f) each args.n) (turns (lanes f) args.n * some)
   parts first last prepares finishes = record {
     Kept = Kept;
     kept_on = kept_on;

@@ -11,10 +11,11 @@ use Rattle.orc_program.proofs.Apart.{IsSize}
 use Rattle.orc_program.proofs.Sizes.{both, size_kept}
 use Rattle.orc_plan.specs.Lowered.{steps_of}
 use Rattle.orc_plan.specs.Places.{GoodPlaces}
+use Rattle.orc_plan.specs.Standing.{AllStand}
 use Rattle.x86_ins.specs.declared.ins.Ins.{Ins}
 use Rattle.x86_ins.specs.declared.ins.Ins.TheVariants.{Ret}
 use Rattle.x86_ins.specs.Spelling.{IsAllowed, spelling}
-use Rattle.x86_ins.specs.Way.{Each}
+use Rattle.x86_ins.specs.Way.{Each, AtMost}
 use Rattle.x86_flow.specs.declared.tree.Flow.{Flow as Tree}
 use Rattle.x86_flow.specs.Flow.{Flow, Plain, flat, size, spell_all, with_return}
 use Rattle.x86_flow.specs.Tree.{flat_of}
@@ -29,8 +30,11 @@ use Rattle.orc_frame.proofs.Facts.{Facts, facts}
 use Rattle.orc_frame.proofs.Apart.{length-acc_sizes_of}
 use Rattle.orc_frame.proofs.Places.{length-places_of}
 use Rattle.orc_frame.specs.Function.{subject_of}
-use Rattle.orc_asm.specs.RunsAs.{quiet}
-use Rattle.orc_asm.specs.Function.{RunsQuietly}
+use Rattle.orc_frame.specs.Subject.{Call}
+use Rattle.orc_frame.specs.Subject.{rows as rows_of}
+use Rattle.orc_asm.specs.RunsAs.{quiet, fully}
+use Rattle.orc_asm.specs.RunsAs.{wide as wide_promise}
+use Rattle.orc_asm.specs.Function.{RunsFully}
 use Rattle.orc_region.specs.Code.{Action, AreActions, Turns, IsElements, is_filled, shift_of, elements_of}
 use Rattle.orc_asm.specs.Rows.{rows_flow, whole_flow}
 use Rattle.orc_region.proofs.Checked.Several.{IsCount, one_count, lanes_count}
@@ -42,9 +46,11 @@ use Rattle.orc_region.proofs.Turn.Lists.{stand_is, fit_actions, ins_blocks, ins_
 use Rattle.orc_region.proofs.Sizes.Loops.{Fits}
 use Rattle.orc_region.proofs.Built.Turns.{fits_elements}
 use Rattle.orc_asm.proofs.Row.Counts.{rows_bytes, rows_allowed}
-use Rattle.orc_asm.proofs.Row.Path.{cell_weight, own_free}
-use Rattle.orc_asm.proofs.Row.Runs.{AreShort, runs}
-use Rattle.orc_asm.proofs.Calls.Inside.{lift, quiet_lifts}
+use Rattle.orc_asm.proofs.Row.Path.{by_pointer, cell_weight, own_free}
+use Rattle.orc_asm.proofs.Row.Runs.{AreShort, runs_with}
+use Rattle.orc_asm.proofs.Function.WideSteps.{WideAt, own_wide, wide_way}
+use Rattle.orc_region.proofs.Turn.Operands.{turn_light, aligned_light}
+use Rattle.orc_asm.proofs.Calls.Inside.{lift, quiet_lifts, wide_lifts, both_lift}
 use Rattle.orc_asm.proofs.Function.Parts.{Able, Stored, Done, fills, besides_of, parts}
 
 -- ---- what is known of a function whose values have places
@@ -151,18 +157,21 @@ module _ (f : FunctionValue) (h : is_function f ≡ true) (l : Layout) (first la
   abbrev pub flow : Flow
   flow = whole_flow first elements last f.two_d dests sources
 
-  -- the longest turn, and the cells that one touches
+  -- the longest turn, and how often one touches cells
   abbrev each : ℕ
   each = cost f + (dests + sources) + 1
 
   abbrev some : ℕ
-  some = weigh cell_weight single + weigh cell_weight wide + weigh cell_weight aligned
+  some = (subject_of f).operands
+
+  stand : AllStand f.vars (patterns_of f.vars f.insns) turns.at [] f.insns
+  stand = stand_is f h turns.at turns.good
 
   done : Done f turns.at single wide aligned each some
   done = record {
     is = h;
     arrays = record { few = few; small = slot_size f h; some = some_size f h };
-    stand = stand_is f h turns.at turns.good;
+    stand = stand;
     positive = (lanes_count f h).some;
     most = (lanes_count f h).most;
     one = turns.one.0;
@@ -175,9 +184,9 @@ module _ (f : FunctionValue) (h : is_function f ≡ true) (l : Layout) (first la
     short_single = turn_few f h turns.at turns.good 1 (one_count f h) single turns.one;
     short_wide = turn_few f h turns.at turns.good (lanes f) (lanes_count f h) wide turns.more;
     short_aligned = λ e. aligned_few f h turns.at turns.good (lanes f) (lanes_count f h) aligned (turns.stored e);
-    light_single = omega arith;
-    light_wide = omega arith;
-    light_aligned = λ e. omega arith;
+    light_single = turn_light by_pointer refl f h turns.at stand 1 (one_count f h) single turns.one;
+    light_wide = turn_light by_pointer refl f h turns.at stand (lanes f) (lanes_count f h) wide turns.more;
+    light_aligned = λ e. aligned_light by_pointer refl f h turns.at stand (lanes f) (lanes_count f h) aligned (turns.stored e);
   }
 
   fits : Fits 900000 (flat elements)
@@ -214,21 +223,27 @@ module _ (f : FunctionValue) (h : is_function f ≡ true) (l : Layout) (first la
   pub last_free : weigh cell_weight last ≡ 0
   last_free = own_free last x.last_own
 
-  code_runs : RunsQuietly f (spell_all (with_return flow))
+  code_runs : RunsFully f (spell_all (with_return flow))
   code_runs =
-      lift (subject_of f) (quiet (subject_of f)) (quiet_lifts (subject_of f)) (spell_all (with_return flow))
-      (runs f done.arrays first elements last each (besides_of (fills f)) some short (λ s args u i. Unit {0}) (λ code s args back good u i t. tt)
+      let subject = subject_of f in
+      lift subject (fully subject) (both_lift (quiet subject) (wide_promise subject) (quiet_lifts subject) (wide_lifts subject)) (spell_all (with_return flow))
+      (runs_with f done.arrays first elements last each (besides_of (fills f)) some short (λ s args. WideAt subject args) (λ code s args back good. own_wide f done.arrays code s args back good)
       (λ code s args back good. parts f turns.at single wide aligned each some done code s args back good first last (subst (λ y. Prepares y first) x.layout x.prepares) (subst (λ y. Finishes y last) x.layout x.finishes))
+      (fully subject)
+      (λ s args way t q each counted. (q, wide_way subject s args way t each (λ R sees. subst (λ k. AtMost k R way) (bound args) (counted R sees))))
       allowed)
+    where
+      bound : (args : Call) → weigh cell_weight first + rows_of (subject_of f) args * ((subject_of f).turns args.n * some) + weigh cell_weight last ≡ 0 + rows_of (subject_of f) args * ((subject_of f).turns args.n * some) + 0
+      bound args = ap₂ (λ a b. a + rows_of (subject_of f) args * ((subject_of f).turns args.n * some) + b) first_free last_free
 
 -- as the bytes are built from the lists around the rows and the tree that does their elements
 pub whole_runs : (f : FunctionValue) → is_function f ≡ true → (l : Layout) (first last : List Ins) → Lists f l first last → (tree : Tree) → IsElements f tree → (bytes : List ℕ) (two_d : Bool) (d s : ℕ) → two_d ≡ f.two_d → d ≡ count_of kind.Dest f.vars → s ≡ count_of kind.Source f.vars
-    → bytes ≡ spell_all (with_return (whole_flow first (Plain (flat_of tree)) last two_d d s)) → RunsQuietly f bytes × HasCodeLength bytes
+    → bytes ≡ spell_all (with_return (whole_flow first (Plain (flat_of tree)) last two_d d s)) → RunsFully f bytes × HasCodeLength bytes
 whole_runs f h l first last x tree (single, wide, aligned, turns, t) bytes two_d d s a b c e =
     let is : bytes ≡ spell_all (with_return (flow f h l first last x single wide aligned turns)) =
     e ∙ ap (λ r. spell_all (with_return (whole_flow first (Plain (flat_of tree)) last r d s))) a ∙ ap₂ (λ d s. spell_all (with_return (whole_flow first (Plain (flat_of tree)) last f.two_d d s))) b c
     ∙ ap (λ t. spell_all (with_return (whole_flow first (Plain t) last f.two_d (count_of kind.Dest f.vars) (count_of kind.Source f.vars)))) t in
-    (subst (RunsQuietly f) (sym is) (code_runs f h l first last x single wide aligned turns), subst HasCodeLength (sym is) (code_length f h l first last x single wide aligned turns))
+    (subst (RunsFully f) (sym is) (code_runs f h l first last x single wide aligned turns), subst HasCodeLength (sym is) (code_length f h l first last x single wide aligned turns))
 
 -- in whole slices
 pub list_slices : (f : FunctionValue) (l : Layout) (first last a c : List Ins) → a ≡ first → c ≡ last → Lists f l first last → Lists f l a c

@@ -1,5 +1,5 @@
 -- A turn does so many elements: a block, and the pointers and the counter go on.
-use Rattle.std.proofs.Common.{◌≡◌, ◌≢◌, ℕ, zero, suc, ◌+◌, ◌-◌, ◌*◌, ◌%◌, ◌^◌, ◌<◌, ◌≤◌, Bool, true, true≢false, pos, List, [], ◌∷◌, ◌++◌, suc-mul, Some, is_some, refl, sym, ap, ◌∙◌, subst, arith, ◌⊎◌, ⊎_elim}
+use Rattle.std.proofs.Common.{◌≡◌, ◌≢◌, ℕ, zero, suc, ◌+◌, ◌-◌, ◌*◌, ◌%◌, ◌^◌, ◌<◌, ◌≤◌, Bool, true, false, true≢false, pos, List, [], ◌∷◌, ◌++◌, suc-mul, Some, is_some, refl, sym, ap, ◌∙◌, subst, arith, ◌⊎◌, inl, ⊎_elim}
 use Rattle.std.proofs.Math.Nat.{add-mul, mul_assoc}
 use Rattle.std.proofs.lemmas.Bool.{cases_eq}
 use Rattle.orc_bits.specs.Memory.{Memory, IsMapped}
@@ -8,12 +8,13 @@ use Rattle.orc_bits.proofs.Memories.{mapped_value, or_else}
 use Rattle.x86_ins.specs.declared.ins.AluOp.TheVariants.{Add, Sub}
 use Rattle.x86_ins.specs.declared.ins.Ins.{Ins}
 use Rattle.x86_ins.specs.declared.ins.Ins.TheVariants.{AluImm}
-use Rattle.x86_ins.specs.Machine.{Core, Bounded, alu_core, alu_result}
+use Rattle.x86_ins.specs.Machine.{Core, Bounded, span, alu_core, alu_result}
 use Rattle.x86_ins.specs.Spelling.{IsIns}
 use Rattle.x86_ins.specs.Way.{Each}
 use Rattle.orc_bits.specs.Numbers.{wrap}
 use Rattle.x86_flow.specs.Does.{Line}
 use Rattle.x86_flow.proofs.Moves.{line_append}
+use Rattle.x86_flow.proofs.Touching.{touches_none}
 use Rattle.orc_frame.specs.Parts.{InRunning}
 use Rattle.orc_region.specs.Code.{Plan, Action, pointer, at_pointer, unaligned, action_far_code, actions_far_code, actions_code, block_far, blocks_code, blocks_turn_code, advance_code, turn_code}
 use Rattle.orc_region.proofs.Block.Registers.{not_0, not_1, not_4, not_7, pointer_one}
@@ -24,6 +25,7 @@ use Rattle.orc_region.proofs.Arithmetic.Digits.{number_of, digit_of}
 use Rattle.orc_region.proofs.Block.Keeping.{line_bounded}
 use Rattle.orc_region.proofs.Row.Counters.{Tested}
 use Rattle.orc_region.proofs.Block.Actions.{IsFit, Ground, Rest, actions_line}
+use Rattle.orc_region.proofs.Block.Touched.{TouchesPart, Goes, line_with, actions_go, goes_touch}
 
 -- pointers of so many slots from a first one go on, and nothing else
 pub record Advanced (size : ℕ → ℕ) (count first m : ℕ) (c d : Core) : Type 0 where
@@ -32,7 +34,7 @@ pub record Advanced (size : ℕ → ℕ) (count first m : ℕ) (c d : Core) : Ty
   pub memory : d.memory ≡ c.memory
 
 module _ (Q : Core → Ins → Type 0) (size : ℕ → ℕ) (count : ℕ) where
-  pub advance_line : (first m : ℕ) (c : Core) → ((u : Core) (i : Ins) → u.memory ≡ c.memory → u.gpr 4 ≡ c.gpr 4 → Q u i) → (d : Core) × Line Q (advance_code size count first m) c d × Advanced size count first m c d
+  pub advance_line : (first m : ℕ) (c : Core) → ((u : Core) (i : Ins) → u.memory ≡ c.memory → u.gpr 4 ≡ c.gpr 4 → (span i u).1 ≡ 0 → Q u i) → (d : Core) × Line Q (advance_code size count first m) c d × Advanced size count first m c d
   advance_line first zero c keeps = (c, refl, record { moved = λ k l h. absurd (omega (arith, l, h)); others = λ r h. refl; memory = refl })
   advance_line first (suc m) c keeps =
       let a = advance_line first m c keeps in
@@ -42,7 +44,7 @@ module _ (Q : Core → Ins → Type 0) (size : ℕ → ℕ) (count : ℕ) where
       let v = count * size (first + m) in
       let new = alu_result Add (b.gpr r) (wrap 64 (pos v)) in
       let d : Core = alu_core Add b r (wrap 64 (pos v)) in
-      let calm : Q b (AluImm Add r (pos v)) = keeps b _ g.memory (g.others 4 (λ k l h e. not_4 k (sym e))) in
+      let calm : Q b (AluImm Add r (pos v)) = keeps b _ g.memory (g.others 4 (λ k l h e. not_4 k (sym e))) refl in
       let step : Line Q (AluImm Add r (pos v) ∷ []) b d = (calm, (d, refl, refl)) in
       let same : b.gpr r ≡ c.gpr r = g.others r (λ k l h e. omega (arith, pointer_one (first + m) k e, h)) in
       let new_is : new ≡ (c.gpr r + v) % 2 ^ 64 = omega (arith, same) in
@@ -108,7 +110,12 @@ module _ (n : ℕ) (base : ℕ → ℕ) (P : ℕ → Type 0) (numbers : Numbers)
       pub framed : Framed numbers rsp c.memory totals
       pub bounded : Bounded c
 
-    module _ (Q : Core → Ins → Type 0) (calmly : (u : Core) (i : Ins) → Calm u → Q u i) (count : ℕ) (some : 0 < count) (most : count ≤ 16) (fit : Each (IsFit count p.size) p.actions) (ins : Each IsIns (turn_code p count)) where
+    -- Free is what holds where the first dest is stored a whole register at once by stores that aren't aligned
+    module _ (Q : Core → Ins → Type 0) (Free : Type 0) (calmly : (u : Core) (i : Ins) → Calm u → TouchesPart n base p.size P rsp Free u i → Q u i) (count : ℕ) (some : 0 < count) (most : count ≤ 16) (fit : Each (IsFit count p.size) p.actions) (ins : Each IsIns (turn_code p count)) where
+      -- an instruction that touches nothing
+      calm_none : (u : Core) (i : Ins) → Calm u → (span i u).1 ≡ 0 → Q u i
+      calm_none u i h e = calmly u i h (inl (λ a t. absurd (touches_none i u e a t)))
+
       -- the number in a cell
       abbrev number_in : Memory → ℕ → ℕ → ℕ
       number_in m i k = number_of (p.size k) (λ r. or_else 0 (m (base k + i * p.size k + r)))
@@ -144,9 +151,9 @@ module _ (n : ℕ) (base : ℕ → ℕ) (P : ℕ → Type 0) (numbers : Numbers)
           (first, omega (arith, second, blocks, add-mul (b * count) i (p.size k)))
 
       -- a block for the elements so far behind the pointers, which it leaves
-      block_far_line : (far : ℕ → ℕ) (aligned : ℕ → Bool) (lag : ℕ) → ((k : ℕ) → far k ≡ lag * p.size k) → Each (λ a. Each IsIns (action_far_code count p.size far aligned a)) p.actions → (i : ℕ) → Aligns aligned (lag + i) → (e : Memory) (totals : ℕ → ℕ) (c : Core) → lag + i + count ≤ n → Inside i e totals c → Emul (lag + i) e totals
+      block_far_line : (far : ℕ → ℕ) (aligned : ℕ → Bool) → (aligned 0 ≡ false → count * p.size 0 ≡ 16 → Free) → (lag : ℕ) → ((k : ℕ) → far k ≡ lag * p.size k) → Each (λ a. Each IsIns (action_far_code count p.size far aligned a)) p.actions → (i : ℕ) → Aligns aligned (lag + i) → (e : Memory) (totals : ℕ → ℕ) (c : Core) → lag + i + count ≤ n → Inside i e totals c → Emul (lag + i) e totals
           → (end : Memory) × (new : ℕ → ℕ) × (d : Core) × Emul (count + (lag + i)) end new × Line Q (actions_far_code count p.size far aligned p.actions) c d × Inside i end new d × (d.gpr 1 ≡ c.gpr 1)
-      block_far_line far aligned lag far_is ins_all i aligns e totals c w h em =
+      block_far_line far aligned free lag far_is ins_all i aligns e totals c w h em =
           let j = lag + i in
           let sig : ℕ → Local = numbers_in c.memory j in
           let hc : Lanes n base p.size P j count c.memory sig = holds i j e totals c h w in
@@ -154,11 +161,18 @@ module _ (n : ℕ) (base : ℕ → ℕ) (P : ℕ → Type 0) (numbers : Numbers)
           let dest : (a : ℕ) → AtElements n base p.size (OfDests P) j count a → IsDestCell a = λ a at. (at.0, at.1, j + at.2, omega (arith, at.3, w), at.4, at.5, at.6) in
           let at : (k : ℕ) → P k → 0 < p.size k → (c.gpr (pointer k) + far k ≡ base k + j * p.size k) × (aligned k ≡ true → (count * p.size k ≡ 16) × ((base k + j * p.size k) % 16 ≡ 0)) = λ k hk s.
           ((let l = set.ground.low k hk j (omega (arith, w, some)) 0 s in let x = h.pointers k (set.slots k hk) in omega (arith, l, x, far_is k, add-mul lag i (p.size k))), aligns k hk) in
-          let calm : (u : Core) → ((r : ℕ) → r ≢ 0 → u.gpr r ≡ c.gpr r) → Rest n base p.size P numbers rsp set.ground Q far aligned count some j c.memory u.memory → Calm u = λ u g o. record {
+          let Near : Core → Ins → Type 0 = λ u ins. Calm u × ((r : ℕ) → r ≢ 0 → u.gpr r ≡ c.gpr r) in
+          let calm : (u : Core) → ((r : ℕ) → r ≢ 0 → u.gpr r ≡ c.gpr r) → Rest n base p.size P numbers rsp set.ground Near far aligned count some j c.memory u.memory → Calm u = λ u g o. record {
             stack = g 4 (λ x. omega (arith, x)) ∙ h.calm.stack;
             quiet = λ a m s. o a (λ x. m (dest a x)) s ∙ h.calm.quiet a m s;
           } in
-          let b = actions_line n base p.size P numbers rsp set.ground Q far aligned count some j p.actions c c.memory no_values sig totals set.known fit ins_all w at h.calm.stack hc h.framed (λ p l q lq r lr. absurd (omega (arith, lr))) h.bounded (λ a m s. refl) (λ u ins g o. calmly u ins (calm u g o)) in
+          let b = actions_line n base p.size P numbers rsp set.ground Near far aligned count some j p.actions c c.memory no_values sig totals set.known fit ins_all w at h.calm.stack hc h.framed (λ p l q lq r lr. absurd (omega (arith, lr))) h.bounded (λ a m s. refl) (λ u ins g o. (calm u g o, g)) in
+          let frame = set.ground.frame in
+          let whole : (k : ℕ) → P k → aligned k ≡ true → count * p.size k ≡ 16 = λ k hk t. (aligns k hk t).0 in
+          let goes = actions_go n base p.size P numbers frame.few_patterns frame.few_sums far aligned count whole no_values p.actions set.known fit in
+          let touch : (u : Core) (ins : Ins) → Near u ins → Goes n base p.size P numbers frame.few_patterns frame.few_sums far aligned count whole ins → Q u ins = λ u ins q g.
+          calmly u ins q.0 (goes_touch n base p.size P numbers frame.few_patterns frame.few_sums far aligned count whole rsp frame.low set.ground.low some Free free j w u q.0.stack (λ k hk s. ap (λ y. y + far k) (q.1 (pointer k) (not_0 k)) ∙ (at k hk s).0) ins g) in
+          let line : Line Q (actions_far_code count p.size far aligned p.actions) c b.0 = line_with Near Q (Goes n base p.size P numbers frame.few_patterns frame.few_sums far aligned count whole) touch (actions_far_code count p.size far aligned p.actions) goes c b.0 b.1 in
           let m = set.emulates j e totals sig em count w he in
           let d = b.0 in
           let x = b.2 in (
@@ -166,7 +180,7 @@ module _ (n : ℕ) (base : ℕ → ℕ) (P : ℕ → Type 0) (numbers : Numbers)
             (λ g. totals g + sum_below count (λ q. adds n base p.size P numbers p.actions (sig q) g)),
             d,
             m.1,
-            b.1,
+            line,
             record {
               pointers = λ k hk. x.gpr (pointer k) (λ z. not_0 k z) ∙ h.pointers k hk;
               block = x.gpr 7 (λ z. omega (arith, z)) ∙ h.block;
@@ -184,20 +198,20 @@ module _ (n : ℕ) (base : ℕ → ℕ) (P : ℕ → Type 0) (numbers : Numbers)
       at_pointers (a ∷ rest) h = (h.0.known, at_pointers rest h.1)
 
       -- the block does these elements, and leaves the pointers
-      pub block_line : (i : ℕ) (e : Memory) (totals : ℕ → ℕ) (c : Core) → i + count ≤ n → Inside i e totals c → Emul i e totals
+      pub block_line : (count * p.size 0 ≡ 16 → Free) → (i : ℕ) (e : Memory) (totals : ℕ → ℕ) (c : Core) → i + count ≤ n → Inside i e totals c → Emul i e totals
           → (end : Memory) × (new : ℕ → ℕ) × (d : Core) × Emul (count + i) end new × Line Q (actions_code count p.size p.actions) c d × Inside i end new d × (d.gpr 1 ≡ c.gpr 1)
-      block_line i e totals c w h em =
+      block_line free i e totals c w h em =
           let same : i ≡ 0 + i = omega arith in
-          let x = block_far_line at_pointer unaligned 0 (λ k. omega arith) (at_pointers p.actions fit) i (none_aligned (0 + i)) e totals c (omega (arith, w)) h (subst (λ k. Emul k e totals) same em) in
+          let x = block_far_line at_pointer unaligned (λ u. free) 0 (λ k. omega arith) (at_pointers p.actions fit) i (none_aligned (0 + i)) e totals c (omega (arith, w)) h (subst (λ k. Emul k e totals) same em) in
           (x.0, x.1, x.2, subst (λ k. Emul (count + k) x.0 x.1) (sym same) x.3, x.4, x.5, x.6)
 
       -- so many blocks, one behind another
-      pub blocks_line : (aligned : ℕ → Bool) (b : ℕ) → ((k : ℕ) → k < b → Each (λ a. Each IsIns (action_far_code count p.size (block_far p (k * count)) aligned a)) p.actions) → (i : ℕ) → Aligns aligned i → (e : Memory) (totals : ℕ → ℕ) (c : Core) → i + b * count ≤ n → Inside i e totals c → Emul i e totals
+      pub blocks_line : (aligned : ℕ → Bool) → (aligned 0 ≡ false → count * p.size 0 ≡ 16 → Free) → (b : ℕ) → ((k : ℕ) → k < b → Each (λ a. Each IsIns (action_far_code count p.size (block_far p (k * count)) aligned a)) p.actions) → (i : ℕ) → Aligns aligned i → (e : Memory) (totals : ℕ → ℕ) (c : Core) → i + b * count ≤ n → Inside i e totals c → Emul i e totals
           → (end : Memory) × (new : ℕ → ℕ) × (d : Core) × Emul (b * count + i) end new × Line Q (blocks_code p aligned count b) c d × Inside i end new d × (d.gpr 1 ≡ c.gpr 1)
-      blocks_line aligned zero ins_all i aligns e totals c w h em = (let same : i ≡ 0 * count + i = omega arith in (e, totals, c, subst (λ k. Emul k e totals) same em, refl, h, refl))
-      blocks_line aligned (suc b) ins_all i aligns e totals c w h em =
-          let x = blocks_line aligned b (λ k l. ins_all k (omega (arith, l))) i aligns e totals c (omega (arith, w, suc-mul b count)) h em in
-          let y = block_far_line (block_far p (b * count)) aligned (b * count) (λ k. refl) (ins_all b (omega arith)) i (aligns_on aligned i b aligns) x.0 x.1 x.2 (omega (arith, w, suc-mul b count)) x.5 x.3 in
+      blocks_line aligned free zero ins_all i aligns e totals c w h em = (let same : i ≡ 0 * count + i = omega arith in (e, totals, c, subst (λ k. Emul k e totals) same em, refl, h, refl))
+      blocks_line aligned free (suc b) ins_all i aligns e totals c w h em =
+          let x = blocks_line aligned free b (λ k l. ins_all k (omega (arith, l))) i aligns e totals c (omega (arith, w, suc-mul b count)) h em in
+          let y = block_far_line (block_far p (b * count)) aligned free (b * count) (λ k. refl) (ins_all b (omega arith)) i (aligns_on aligned i b aligns) x.0 x.1 x.2 (omega (arith, w, suc-mul b count)) x.5 x.3 in
           let here : count + (b * count + i) ≡ suc b * count + i = omega (arith, suc-mul b count) in (
             y.0,
             y.1,
@@ -217,9 +231,9 @@ module _ (n : ℕ) (base : ℕ → ℕ) (P : ℕ → Type 0) (numbers : Numbers)
           → (d : Core) × Line Q (code ++ (advance_code p.size by 0 p.dests ++ (advance_code p.size by 4 p.sources ++ AluImm Sub 1 (pos by) ∷ []))) c d × Inside (by + i) end new d × (d.gpr 1 ≡ (c.gpr 1 + (2 ^ 64 - by)) % 2 ^ 64) × Tested d
       move_line by few code i end new c b does g kept bounded known =
           let still : (u : Core) → u.memory ≡ b.memory → u.gpr 4 ≡ b.gpr 4 → Calm u = λ u m s. record { stack = s ∙ g.calm.stack; quiet = λ x k s. ap (λ f. f x) m ∙ g.calm.quiet x k s } in
-          let x = advance_line Q p.size by 0 p.dests b (λ u ins m s. calmly u ins (still u m s)) in
+          let x = advance_line Q p.size by 0 p.dests b (λ u ins m s none. calm_none u ins (still u m s) none) in
           let apart : (r : ℕ) → ((k : ℕ) → r ≢ pointer k) → x.0.gpr r ≡ b.gpr r = λ r ne. x.2.others r (λ k l l2. ne k) in
-          let y = advance_line Q p.size by 4 p.sources x.0 (λ u ins m s. calmly u ins (still u (m ∙ x.2.memory) (s ∙ apart 4 (λ k z. not_4 k (sym z))))) in
+          let y = advance_line Q p.size by 4 p.sources x.0 (λ u ins m s none. calm_none u ins (still u (m ∙ x.2.memory) (s ∙ apart 4 (λ k z. not_4 k (sym z)))) none) in
           let u = y.0 in
           let same : (r : ℕ) → ((k : ℕ) → r ≢ pointer k) → u.gpr r ≡ b.gpr r = λ r ne. y.2.others r (λ k l l2. ne k) ∙ apart r ne in
           let memory : u.memory ≡ b.memory = y.2.memory ∙ x.2.memory in
@@ -234,7 +248,7 @@ module _ (n : ℕ) (base : ℕ → ℕ) (P : ℕ → Type 0) (numbers : Numbers)
           let counts : u.gpr 1 ≡ c.gpr 1 = same 1 (λ k z. not_1 k (sym z)) ∙ kept in
           let fewer_is : fewer ≡ (c.gpr 1 + (2 ^ 64 - by)) % 2 ^ 64 = omega (arith, counts, few) in
           let calm = still u memory (same 4 (λ k z. not_4 k (sym z))) in
-          let last : Line Q (AluImm Sub 1 (pos by) ∷ []) u d = (calmly u _ calm, (d, refl, refl)) in
+          let last : Line Q (AluImm Sub 1 (pos by) ∷ []) u d = (calm_none u _ calm refl, (d, refl, refl)) in
           let line : Line Q (code ++ (advance_code p.size by 0 p.dests ++ (advance_code p.size by 4 p.sources ++ AluImm Sub 1 (pos by) ∷ []))) c d =
           line_append Q code _ c b d does
           (line_append Q (advance_code p.size by 0 p.dests) _ b x.0 d x.1
@@ -255,17 +269,17 @@ module _ (n : ℕ) (base : ℕ → ℕ) (P : ℕ → Type 0) (numbers : Numbers)
           )
 
       -- a whole turn
-      pub turn_line : (i : ℕ) (e : Memory) (totals : ℕ → ℕ) (c : Core) → i + count ≤ n → Inside i e totals c → Emul i e totals
+      pub turn_line : (count * p.size 0 ≡ 16 → Free) → (i : ℕ) (e : Memory) (totals : ℕ → ℕ) (c : Core) → i + count ≤ n → Inside i e totals c → Emul i e totals
           → (end : Memory) × (new : ℕ → ℕ) × (d : Core) × Emul (count + i) end new × Line Q (turn_code p count) c d × Inside (count + i) end new d × (d.gpr 1 ≡ (c.gpr 1 + (2 ^ 64 - count)) % 2 ^ 64) × Tested d
-      turn_line i e totals c w h em =
-          let a = block_line i e totals c w h em in
+      turn_line free i e totals c w h em =
+          let a = block_line free i e totals c w h em in
           let m = move_line count (omega (arith, most)) (actions_code count p.size p.actions) i a.0 a.1 c a.2 a.4 a.5 a.6 h.bounded ins in
           (a.0, a.1, m.0, a.3, m.1, m.2, m.3, m.4)
 
       -- a turn of several blocks
-      pub blocks_turn_line : (aligned : ℕ → Bool) (b : ℕ) → b * count ≤ 64 → ((k : ℕ) → k < b → Each (λ a. Each IsIns (action_far_code count p.size (block_far p (k * count)) aligned a)) p.actions) → Each IsIns (blocks_turn_code p aligned count b) → (i : ℕ) → Aligns aligned i → (e : Memory) (totals : ℕ → ℕ) (c : Core) → i + b * count ≤ n → Inside i e totals c → Emul i e totals
+      pub blocks_turn_line : (aligned : ℕ → Bool) → (aligned 0 ≡ false → count * p.size 0 ≡ 16 → Free) → (b : ℕ) → b * count ≤ 64 → ((k : ℕ) → k < b → Each (λ a. Each IsIns (action_far_code count p.size (block_far p (k * count)) aligned a)) p.actions) → Each IsIns (blocks_turn_code p aligned count b) → (i : ℕ) → Aligns aligned i → (e : Memory) (totals : ℕ → ℕ) (c : Core) → i + b * count ≤ n → Inside i e totals c → Emul i e totals
           → (end : Memory) × (new : ℕ → ℕ) × (d : Core) × Emul (b * count + i) end new × Line Q (blocks_turn_code p aligned count b) c d × Inside (b * count + i) end new d × (d.gpr 1 ≡ (c.gpr 1 + (2 ^ 64 - b * count)) % 2 ^ 64) × Tested d
-      blocks_turn_line aligned b few ins_all known i aligns e totals c w h em =
-          let a = blocks_line aligned b ins_all i aligns e totals c w h em in
+      blocks_turn_line aligned free b few ins_all known i aligns e totals c w h em =
+          let a = blocks_line aligned free b ins_all i aligns e totals c w h em in
           let m = move_line (b * count) few (blocks_code p aligned count b) i a.0 a.1 c a.2 a.4 a.5 a.6 h.bounded known in
           (a.0, a.1, m.0, a.3, m.1, m.2, m.3, m.4)

@@ -18,6 +18,7 @@ use Rattle.orc_region.proofs.Block.Cells.{Numbers}
 use Rattle.orc_frame.specs.Parts.{InRunning}
 use Rattle.orc_region.proofs.Block.Frames.{framed_below}
 use Rattle.orc_region.proofs.Block.Actions.{IsFit}
+use Rattle.orc_region.proofs.Block.Touched.{TouchesPart}
 use Rattle.orc_region.proofs.Turn.Advancing.{Setting, IsDestCell, Calm, Inside, turn_line, blocks_turn_line}
 use Rattle.orc_region.proofs.Row.Regions.{InWord, Beside, Ground, IsTurn, wide_region, plain_line, aligned_line}
 use Rattle.orc_region.proofs.Row.Gaps.{AtSixteen, each_size, sixteen_on}
@@ -56,7 +57,8 @@ module _ (n : ℕ) (base : ℕ → ℕ) (P : ℕ → Type 0) (numbers : Numbers)
   free_sum : (a : ℕ) → InFree a → InRunning rsp numbers.sums a → ⊥
   free_sum a w s = (let few = set.ground.frame.few_sums in omega (arith, w.0, s.1, few))
 
-  module _ (calmly : (u : Core) (i : Ins) → Outside u → Q u i) where
+  -- Free is what holds where the first dest is stored a whole register at once by stores that aren't aligned
+  module _ (Free : Type 0) (calmly : (u : Core) (i : Ins) → Outside u → TouchesPart n base p.size P rsp Free u i → Q u i) where
     outside : (i : ℕ) (c u : Core) → At i c → Beside Q rsp stack_low c u → Outside u
     outside i c u h b = record {
       stack = b.gpr 4 (λ e. omega (arith, e)) (λ e. omega (arith, e)) ∙ h.inside.calm.stack;
@@ -93,16 +95,16 @@ module _ (n : ℕ) (base : ℕ → ℕ) (P : ℕ → Type 0) (numbers : Numbers)
       bounded = λ i c h. h.inside.bounded;
       stack = λ i c h. h.inside.calm.stack;
       word = λ i c h. h.there;
-      calm = λ i c h u ins b t. calmly u ins (outside i c u h b);
+      calm = λ i c h u ins b t. calmly u ins (outside i c u h b) (inl (λ a w. (let x = t a w in (omega (arith, x.0), omega (arith, x.1)))));
     }
 
     module _ (by : ℕ → Bool) (by_stack : by 4 ≡ false) (each some : ℕ) where
       -- a turn of so many elements
-      pub turn_is : (count : ℕ) → 0 < count → count ≤ 16 → Each (IsFit count p.size) p.actions → Each IsIns (turn_code p count) → (Pre : ℕ → Type 0)
+      pub turn_is : (count : ℕ) → 0 < count → count ≤ 16 → Each (IsFit count p.size) p.actions → Each IsIns (turn_code p count) → (Pre : ℕ → Type 0) → ((i : ℕ) → Pre i → count * p.size 0 ≡ 16 → Free)
           → IsTurn Q rsp stack_low n At ground by by_stack each some (Plain (turn_code p count)) count Pre (length (turn_code p count)) (weigh (touch_weight by) (turn_code p count))
-      turn_is count positive most fit ins Pre i c within h pre =
-          let calm : (u : Core) (i : Ins) → Calm n base P numbers rsp p Emul F set rdi h.mem u → Q u i = λ u i w. calmly u i (record { stack = w.stack; quiet = λ a k s f. w.quiet a k s ∙ h.near a k s f }) in
-          let t = turn_line n base P numbers rsp p Emul F set rdi h.mem Q calm count positive most fit ins i h.e h.totals c within h.inside h.emulated in
+      turn_is count positive most fit ins Pre free i c within h pre =
+          let calm : (u : Core) (i : Ins) → Calm n base P numbers rsp p Emul F set rdi h.mem u → TouchesPart n base p.size P rsp Free u i → Q u i = λ u i w. calmly u i (record { stack = w.stack; quiet = λ a k s f. w.quiet a k s ∙ h.near a k s f }) in
+          let t = turn_line n base P numbers rsp p Emul F set rdi h.mem Q Free calm count positive most fit ins (free i pre) i h.e h.totals c within h.inside h.emulated in
           let same : (a : ℕ) → InFree a → t.2.memory a ≡ c.memory a = λ a w. t.5.calm.quiet a (free_dest a w) (free_sum a w) ∙ sym (h.inside.calm.quiet a (free_dest a w) (free_sum a w)) in (
             turn_code p count,
             t.2,
@@ -131,11 +133,11 @@ module _ (n : ℕ) (base : ℕ → ℕ) (P : ℕ → Type 0) (numbers : Numbers)
         to_here : (mem : Memory) (i : ℕ) (e : Memory) (totals : ℕ → ℕ) (c : Core) → There mem i e totals c → Here mem i e totals c
         to_here mem i e totals c h = record { pointers = h.pointers; block = h.block; calm = record { stack = h.calm.stack; quiet = h.calm.quiet }; agree = h.agree; mapped = h.mapped; framed = h.framed; bounded = h.bounded }
 
-        pub turn_with : (count : ℕ) → 0 < count → count ≤ 16 → Each (IsFit count p.size) actions → Each IsIns (turn_code q count) → (Pre : ℕ → Type 0)
+        pub turn_with : (count : ℕ) → 0 < count → count ≤ 16 → Each (IsFit count p.size) actions → Each IsIns (turn_code q count) → (Pre : ℕ → Type 0) → ((i : ℕ) → Pre i → count * p.size 0 ≡ 16 → Free)
             → IsTurn Q rsp stack_low n At ground by by_stack each some (Plain (turn_code q count)) count Pre (length (turn_code q count)) (weigh (touch_weight by) (turn_code q count))
-        turn_with count positive most fit ins Pre i c within h pre =
-            let calm : (u : Core) (i : Ins) → Calm n base P numbers rsp q Emul F other rdi h.mem u → Q u i = λ u i w. calmly u i (record { stack = w.stack; quiet = λ a k s f. w.quiet a k s ∙ h.near a k s f }) in
-            let t = turn_line n base P numbers rsp q Emul F other rdi h.mem Q calm count positive most fit ins i h.e h.totals c within (to_there h.mem i h.e h.totals c h.inside) h.emulated in
+        turn_with count positive most fit ins Pre free i c within h pre =
+            let calm : (u : Core) (i : Ins) → Calm n base P numbers rsp q Emul F other rdi h.mem u → TouchesPart n base p.size P rsp Free u i → Q u i = λ u i w. calmly u i (record { stack = w.stack; quiet = λ a k s f. w.quiet a k s ∙ h.near a k s f }) in
+            let t = turn_line n base P numbers rsp q Emul F other rdi h.mem Q Free calm count positive most fit ins (free i pre) i h.e h.totals c within (to_there h.mem i h.e h.totals c h.inside) h.emulated in
             let same : (a : ℕ) → InFree a → t.2.memory a ≡ c.memory a = λ a w. t.5.calm.quiet a (free_dest a w) (free_sum a w) ∙ sym (h.inside.calm.quiet a (free_dest a w) (free_sum a w)) in (
               turn_code q count,
               t.2,
@@ -147,12 +149,12 @@ module _ (n : ℕ) (base : ℕ → ℕ) (P : ℕ → Type 0) (numbers : Numbers)
             )
 
         -- turns of several blocks, with aligned stores for some slots
-        pub blocks_with : (aligned : ℕ → Bool) (count b : ℕ) → 0 < count → count ≤ 16 → b * count ≤ 64 → Each (IsFit count p.size) actions → Each IsIns (turn_code q count)
+        pub blocks_with : (aligned : ℕ → Bool) (count b : ℕ) → (aligned 0 ≡ false → count * p.size 0 ≡ 16 → Free) → 0 < count → count ≤ 16 → b * count ≤ 64 → Each (IsFit count p.size) actions → Each IsIns (turn_code q count)
             → ((k : ℕ) → k < b → Each (λ a. Each IsIns (action_far_code count p.size (block_far q (k * count)) aligned a)) actions) → Each IsIns (blocks_turn_code q aligned count b)
             → IsTurn Q rsp stack_low n At ground by by_stack each some (Plain (blocks_turn_code q aligned count b)) (b * count) (λ i. (k : ℕ) → P k → aligned k ≡ true → (count * p.size k ≡ 16) × ((base k + i * p.size k) % 16 ≡ 0)) (length (blocks_turn_code q aligned count b)) (weigh (touch_weight by) (blocks_turn_code q aligned count b))
-        blocks_with aligned count b positive most few fit ins_one ins_all ins i c within h aligns =
-            let calm : (u : Core) (i : Ins) → Calm n base P numbers rsp q Emul F other rdi h.mem u → Q u i = λ u i w. calmly u i (record { stack = w.stack; quiet = λ a k s f. w.quiet a k s ∙ h.near a k s f }) in
-            let t = blocks_turn_line n base P numbers rsp q Emul F other rdi h.mem Q calm count positive most fit ins_one aligned b few ins_all ins i aligns h.e h.totals c within (to_there h.mem i h.e h.totals c h.inside) h.emulated in
+        blocks_with aligned count b free positive most few fit ins_one ins_all ins i c within h aligns =
+            let calm : (u : Core) (i : Ins) → Calm n base P numbers rsp q Emul F other rdi h.mem u → TouchesPart n base p.size P rsp Free u i → Q u i = λ u i w. calmly u i (record { stack = w.stack; quiet = λ a k s f. w.quiet a k s ∙ h.near a k s f }) in
+            let t = blocks_turn_line n base P numbers rsp q Emul F other rdi h.mem Q Free calm count positive most fit ins_one aligned free b few ins_all ins i aligns h.e h.totals c within (to_there h.mem i h.e h.totals c h.inside) h.emulated in
             let same : (a : ℕ) → InFree a → t.2.memory a ≡ c.memory a = λ a w. t.5.calm.quiet a (free_dest a w) (free_sum a w) ∙ sym (h.inside.calm.quiet a (free_dest a w) (free_sum a w)) in (
               blocks_turn_code q aligned count b,
               t.2,
@@ -166,7 +168,7 @@ module _ (n : ℕ) (base : ℕ → ℕ) (P : ℕ → Type 0) (numbers : Numbers)
 -- a row without aligned stores: the turns of `p` do one element, and those of `actions` several
 module _ (n : ℕ) (base : ℕ → ℕ) (P : ℕ → Type 0) (numbers : Numbers) (rsp : ℕ) (p : Plan) (Emul : ℕ → Memory → (ℕ → ℕ) → Type 0) (F : ℕ → Type 0) (set : Setting n base P numbers rsp p Emul F) (rdi : ℕ) (first : Memory)
     (Q : Core → Ins → Type 0) (stack_low : rsp + 1032 ≤ 2 ^ 47) (framed : (a : ℕ) → rsp ≤ a → a < rsp + 1024 → F a)
-    (calmly : (u : Core) (i : Ins) → Outside n base P numbers rsp p Emul F set rdi first Q stack_low framed u → Q u i)
+    (Free : Type 0) (calmly : (u : Core) (i : Ins) → Outside n base P numbers rsp p Emul F set rdi first Q stack_low framed u → TouchesPart n base p.size P rsp Free u i → Q u i)
     (by : ℕ → Bool) (by_stack : by 4 ≡ false)
     (actions : List Action) (other : Setting n base P numbers rsp (record p { actions = actions }) Emul F) (lanes : ℕ) (positive : 0 < lanes) (most : lanes ≤ 16)
     (fit_one : Each (IsFit 1 p.size) p.actions) (ins_one : Each IsIns (turn_code p 1)) (fit_more : Each (IsFit lanes p.size) actions) (ins_more : Each IsIns (turn_code (record p { actions = actions }) lanes))
@@ -181,12 +183,12 @@ module _ (n : ℕ) (base : ℕ → ℕ) (P : ℕ → Type 0) (numbers : Numbers)
   abbrev pub wide : Flow
   wide = Repeat Ns (Plain (turn_code (record p { actions = actions }) lanes))
 
-  pub plain_done : (c : Core) → Place 0 c → c.gpr 1 ≡ n
+  pub plain_done : Free → (c : Core) → Place 0 c → c.gpr 1 ≡ n
       → (done : List Ins) × (d : Core) × Does Q (plain_row lanes single wide) c done d × Place n d × (length done ≤ 4 + turns lanes n * (2 + each)) × (weigh (touch_weight by) done ≤ turns lanes n * some)
-  plain_done c h counts =
-      let g = ground n base P numbers rsp p Emul F set rdi first Q stack_low framed calmly in
-      let one = turn_is n base P numbers rsp p Emul F set rdi first Q stack_low framed calmly by by_stack each some 1 (omega arith) (omega arith) fit_one ins_one (λ i. Unit {0}) in
-      let more = turn_with n base P numbers rsp p Emul F set rdi first Q stack_low framed calmly by by_stack each some actions other lanes positive most fit_more ins_more (λ i. Unit {0}) in
+  plain_done free c h counts =
+      let g = ground n base P numbers rsp p Emul F set rdi first Q stack_low framed Free calmly in
+      let one = turn_is n base P numbers rsp p Emul F set rdi first Q stack_low framed Free calmly by by_stack each some 1 (omega arith) (omega arith) fit_one ins_one (λ i. Unit {0}) (λ i t e. free) in
+      let more = turn_with n base P numbers rsp p Emul F set rdi first Q stack_low framed Free calmly by by_stack each some actions other lanes positive most fit_more ins_more (λ i. Unit {0}) (λ i t e. free) in
       plain_line Q rsp stack_low n Place g by by_stack each some single wide lanes 1 (λ i. Unit {0}) positive (omega (arith, most))
       (λ i d w a t. let x = one i d w a t in (x.0, x.1, x.2, x.3, x.4, omega (arith, x.5, short_one), omega (arith, x.6, light_one)))
       (wide_region Q rsp stack_low n Place g by by_stack each some (Plain (turn_code (record p { actions = actions }) lanes)) lanes (λ i. Unit {0}) positive (omega (arith, most)) (λ i t. tt)
@@ -220,16 +222,20 @@ module _ (n : ℕ) (base : ℕ → ℕ) (P : ℕ → Type 0) (numbers : Numbers)
     each_block zero l = ins_block
     each_block (suc j) l = absurd (omega (arith, l))
 
+    -- one element is no whole register
+    narrow : 1 * p.size 0 ≡ 16 → ⊥
+    narrow e = each_size (λ k. p.size 0 ≡ 2 ^ k → ⊥) (λ s. omega (arith, e, s)) (λ s. omega (arith, e, s)) (λ s. omega (arith, e, s)) (λ s. omega (arith, e, s)) k small size_is
+
     abbrev pub aligned : Flow
     aligned = Repeat Ns (Plain (blocks_turn_code (record p { actions = stored }) first_only lanes 1))
 
-    pub aligned_done : (c : Core) → Place 0 c → c.gpr 1 ≡ n
+    pub aligned_done : (((j : ℕ) → j + lanes ≤ n → AtSixteen k (base 0) j → ⊥) → Free) → (c : Core) → Place 0 c → c.gpr 1 ≡ n
         → (done : List Ins) × (d : Core) × Does Q (aligned_row k lanes single wide aligned) c done d × Place n d × (length done ≤ 19 + turns lanes n * (2 + each)) × (weigh (touch_weight by) done ≤ turns lanes n * some)
-    aligned_done c h counts =
-        let g = ground n base P numbers rsp p Emul F set rdi first Q stack_low framed calmly in
-        let one = turn_is n base P numbers rsp p Emul F set rdi first Q stack_low framed calmly by by_stack each some 1 (omega arith) (omega arith) fit_one ins_one (λ i. Unit {0}) in
-        let more = turn_with n base P numbers rsp p Emul F set rdi first Q stack_low framed calmly by by_stack each some actions other lanes positive most fit_more ins_more (λ i. (j : ℕ) → j + lanes ≤ n → AtSixteen k (base 0) j → ⊥) in
-        let block = blocks_with n base P numbers rsp p Emul F set rdi first Q stack_low framed calmly by by_stack each some stored still first_only lanes 1 positive most (omega (arith, most)) fit_stored ins_stored each_block ins_aligned in
+    aligned_done free c h counts =
+        let g = ground n base P numbers rsp p Emul F set rdi first Q stack_low framed Free calmly in
+        let one = turn_is n base P numbers rsp p Emul F set rdi first Q stack_low framed Free calmly by by_stack each some 1 (omega arith) (omega arith) fit_one ins_one (λ i. Unit {0}) (λ i t e. absurd (narrow e)) in
+        let more = turn_with n base P numbers rsp p Emul F set rdi first Q stack_low framed Free calmly by by_stack each some actions other lanes positive most fit_more ins_more (λ i. (j : ℕ) → j + lanes ≤ n → AtSixteen k (base 0) j → ⊥) (λ i none e. free none) in
+        let block = blocks_with n base P numbers rsp p Emul F set rdi first Q stack_low framed Free calmly by by_stack each some stored still first_only lanes 1 (λ e. absurd (true≢false e)) positive most (omega (arith, most)) fit_stored ins_stored each_block ins_aligned in
         let same : 1 * lanes ≡ lanes = omega arith in
         let block_turn : IsTurn Q rsp stack_low n Place g by by_stack each some (Plain (blocks_turn_code (record p { actions = stored }) first_only lanes 1)) lanes (AtSixteen k (base 0)) each some =
         (λ i d w a t. let x = block i d (omega (arith, w)) a (aligns i t) in

@@ -2,16 +2,14 @@
 use Rattle.std.proofs.Common.{◌≡◌, ℕ, zero, suc, ◌+◌, ◌*◌, ◌≤◌, ◌&&◌, Bool, true, false, if◌then◌else◌, true≢false, suc-mul, pos, List, [], ◌∷◌, ◌++◌, refl, sym, ap, ◌∙◌, arith}
 use Rattle.x86_ins.specs.declared.ins.AluOp.TheVariants.{Add, Sub}
 use Rattle.x86_ins.specs.declared.ins.Ins.{Ins}
-use Rattle.x86_ins.specs.declared.ins.Ins.TheVariants.{Vec, VecImm, Shuffle, VecLoad, VecStore, FromGpr, ToGpr, Move, Load, Store, Store8, Store16, Load8, Load16, MovImm, Alu, AluImm, Test, Shift, Imul, Lea, Push, Pop, Jump, JumpIf, Ret}
-use Rattle.x86_ins.specs.Vectors.{simd, is_simd, all_simd}
+use Rattle.x86_ins.specs.declared.ins.Ins.TheVariants.{AluImm}
 use Rattle.x86_ins.specs.Way.{Each}
 use Rattle.x86_flow.specs.Moves.{IsWidth, store_either_code}
-use Rattle.x86_flow.specs.Touching.{touch_weight}
+use Rattle.x86_flow.specs.Touching.{weight_by, touch_weight}
 use Rattle.x86_flow.proofs.Plans.{weigh, weigh_append}
 use Rattle.x86_flow.proofs.Moves.{load_weight, store_weight, aligned_store_weight}
 use Rattle.orc_region.specs.Code.{Action, IsRule, Source, FromArray, FromPattern, FromPlace, Target, ToArray, ToSum, ToPlace, Plan, pointer, at_pointer, unaligned, first_register, second_register, rule_register, rule_code, source_far_code, sources_far_code, sum_code, result_far_code, results_far_code, action_far_code, actions_far_code, advance_code, block_far, blocks_code, turn_code, blocks_turn_code}
-use Rattle.x86_ins.proofs.Renamed.{simd_renamed}
-use Rattle.orc_region.proofs.Sizes.Bytes.{vectors_of}
+use Rattle.orc_region.proofs.Block.Touched.{GoesNowhere, rule_nowhere}
 use Rattle.orc_region.proofs.Block.Actions.{IsMovedFrom, IsMovedTo, IsFit}
 
 -- ---- operands that are arrays
@@ -32,6 +30,16 @@ abbrev pub arrays_of : List Action → ℕ
 arrays_of [] = 0
 arrays_of (a ∷ rest) = from_arrays a.sources + to_arrays a.to + arrays_of rest
 
+pub from_front : (s : Source) (more : List Source) → from_arrays (s ∷ more) ≡ from_arrays (s ∷ []) + from_arrays more
+from_front (FromArray k) more = omega arith
+from_front (FromPattern j) more = omega arith
+from_front (FromPlace p) more = omega arith
+
+pub to_front : (t : Target) (more : List Target) → to_arrays (t ∷ more) ≡ to_arrays (t ∷ []) + to_arrays more
+to_front (ToArray k) more = omega arith
+to_front (ToSum g) more = omega arith
+to_front (ToPlace p) more = omega arith
+
 module _ (by : ℕ → Bool) (by_stack : by 4 ≡ false) where
   abbrev v : Ins → ℕ
   v = touch_weight by
@@ -44,44 +52,12 @@ module _ (by : ℕ → Bool) (by_stack : by 4 ≡ false) where
 
   -- ---- rules
 
-  simd_free : (i : Ins) → is_simd (simd i) ≡ true → v i ≡ 0
-  simd_free (Vec op d s) h = refl
-  simd_free (VecImm op d n) h = refl
-  simd_free (Shuffle op d s o) h = refl
-  simd_free (VecLoad op d a) h = absurd (true≢false (sym h))
-  simd_free (VecStore op s a) h = absurd (true≢false (sym h))
-  simd_free (FromGpr wide d s) h = refl
-  simd_free (ToGpr wide d s) h = refl
-  simd_free (Move d s) h = refl
-  simd_free (Load d a) h = absurd (true≢false (sym h))
-  simd_free (Store s a) h = absurd (true≢false (sym h))
-  simd_free (Store8 s a) h = absurd (true≢false (sym h))
-  simd_free (Store16 s a) h = absurd (true≢false (sym h))
-  simd_free (Load8 d a) h = absurd (true≢false (sym h))
-  simd_free (Load16 d a) h = absurd (true≢false (sym h))
-  simd_free (MovImm d n) h = refl
-  simd_free (Alu op d s) h = refl
-  simd_free (AluImm op d n) h = refl
-  simd_free (Test a b) h = refl
-  simd_free (Shift op d n) h = refl
-  simd_free (Imul d s) h = refl
-  simd_free (Lea d a) h = refl
-  simd_free (Push s) h = absurd (true≢false (sym h))
-  simd_free (Pop d) h = absurd (true≢false (sym h))
-  simd_free (Jump rel) h = refl
-  simd_free (JumpIf q rel) h = refl
-  simd_free Ret h = absurd (true≢false (sym h))
-
-  both : (s t : Bool) → (s && t) ≡ true → (s ≡ true) × (t ≡ true)
-  both true t h = (refl, h)
-  both false t h = absurd (true≢false (sym h))
-
-  all_free : (is : List Ins) → all_simd is ≡ true → weigh v is ≡ 0
-  all_free [] h = refl
-  all_free (i ∷ is) h = (let x = both (is_simd (simd i)) (all_simd is) h in omega (arith, simd_free i x.0, all_free is x.1))
+  nowhere_free : (is : List Ins) → Each GoesNowhere is → weigh v is ≡ 0
+  nowhere_free [] h = refl
+  nowhere_free (i ∷ is) h = (let e : v i ≡ 0 = ap (weight_by by) h.0.0 in omega (arith, e, nowhere_free is h.1))
 
   rule_free : (count : ℕ) (a : Action) → IsRule count a.op a.rule → weigh v (rule_code a) ≡ 0
-  rule_free count a is = all_free (rule_code a) (simd_renamed (rule_register a.to) a.rule ∙ vectors_of count a.op a.rule is)
+  rule_free count a is = nowhere_free (rule_code a) (rule_nowhere count a is)
 
   -- ---- blocks
 
@@ -90,11 +66,6 @@ module _ (by : ℕ → Bool) (by_stack : by 4 ≡ false) where
     from_few x (FromArray k) h = load_weight by (count * size k) x (pointer k) (far k) h
     from_few x (FromPattern j) h = omega (arith, none_4)
     from_few x (FromPlace p) h = omega arith
-
-    from_front : (s : Source) (more : List Source) → from_arrays (s ∷ more) ≡ from_arrays (s ∷ []) + from_arrays more
-    from_front (FromArray k) more = omega arith
-    from_front (FromPattern j) more = omega arith
-    from_front (FromPlace p) more = omega arith
 
     sources_few : (x y : ℕ) (ss : List Source) → Each (IsMovedFrom count size) ss → weigh v (sources_far_code count size far x y ss) ≤ from_arrays ss
     sources_few x y [] h = omega arith
@@ -118,11 +89,6 @@ module _ (by : ℕ → Bool) (by_stack : by 4 ≡ false) where
     sum_free (ToArray k ∷ rest) = refl
     sum_free (ToSum g ∷ rest) = omega (arith, none_4)
     sum_free (ToPlace p ∷ rest) = refl
-
-    to_front : (t : Target) (more : List Target) → to_arrays (t ∷ more) ≡ to_arrays (t ∷ []) + to_arrays more
-    to_front (ToArray k) more = omega arith
-    to_front (ToSum g) more = omega arith
-    to_front (ToPlace p) more = omega arith
 
     results_few : (ts : List Target) → Each (IsMovedTo count size) ts → weigh v (results_far_code count size far aligned ts) ≤ to_arrays ts
     results_few [] h = omega arith
