@@ -1,4 +1,4 @@
-# Mixes two stereo signals of 16-bit samples, clamped, and adds up what the first channel holds.
+# Mixes two stereo signals of 16-bit samples, clamped, two samples at once; and adds up numbers of four bytes, modulo 2^32.
 .function mix
 .source 4 s1
 .source 4 s2

@@ -1,7 +1,7 @@
 /* Times a kernel of an object of orcc beside the ORC library's SSE2 code for the same text; scripts/measure.py builds it
  * with KERNEL defined as the function's name, and passes the file of the text.
  *
- * For each number of elements it prints a line of the number, the least cycles of a call of the kernel and of the
+ * With a second word it prints the library's code. Else, for each number of elements, it prints a line of the number, the least cycles of a call of the kernel and of the
  * library's code (0 where it has none), and `same` or `differs` for what both leave of the same data. Cycles are those of
  * the time-stamp counter, less what an empty measurement takes. A function with rows does ROWS of them, and a row's share
  * is printed. All arrays begin 8 bytes behind a multiple of 64.
@@ -173,10 +173,14 @@ static void measure(OrcProgram *program, int compiled, size_t n)
 
 int main(int argc, char **argv)
 {
-    if (argc != 2)
+    if (argc < 2)
         return 2;
     OrcProgram *program = program_of(argv[1]);
     int compiled = compiles(program);
+    if (argc > 2) {
+        puts(compiled ? orc_program_get_asm_code(program) : "");
+        return 0;
+    }
     static const size_t counts[] = {40, 320, 1920, 16384};
     for (size_t k = 0; k < sizeof counts / sizeof *counts; k++)
         measure(program, compiled, counts[k]);

@@ -5,17 +5,20 @@ Usage: python3 scripts/measure.py [ORCC] [FILE.orc ..]
 ORCC is the program, crates/orcc/out/orcc unless given. Without files all of kernels/ are measured. It needs an x86-64
 Linux with a C compiler, pkg-config and the library's headers (Debian: liborc-0.4-dev).
 
-A turn is the innermost loop that does most elements: its instructions are counted in the listing of `orcc dis`.
+A turn is the innermost loop that does most elements: its instructions are counted in the listing of `orcc dis`, and for
+the library in the code that it prints.
 """
 
 import math
 import pathlib
+import re
 import subprocess
 import sys
 import tempfile
 
 TOP = pathlib.Path(__file__).resolve().parent.parent
 COUNTS = (40, 320, 1920, 16384)
+RUNS = 5
 
 
 def listings(orcc, image):
@@ -54,21 +57,37 @@ def turn(lines):
     return best
 
 
+def library_turn(code):
+    """The same of the library's code: it counts turns by a shift of the number of elements, and its loop has the label 2."""
+    lines = [line.strip() for line in code.splitlines()]
+    shift = re.search(r"sar \$(\d+), %ecx", code)
+    if not shift or "2:" not in lines or "jnz 2b" not in lines:
+        return (0, 0)
+    body = lines[lines.index("2:") + 1:lines.index("jnz 2b") + 1]
+    return (2 ** int(shift[1]), sum(1 for line in body if line and line[0] not in ".#"))
+
+
 def words_of(*command):
     return subprocess.run(command, capture_output=True, text=True, check=True).stdout.split()
 
 
 def measured(room, text, name):
-    """Lines of numbers: elements, cycles of the kernel, cycles of the library; and whether both left the same."""
+    """The library's turn, and lines of numbers: elements, cycles of the kernel, cycles of the library; whether both left
+    the same."""
     program = room / "measure"
     subprocess.run(["cc", "-O2", f"-DKERNEL={name}", f"-I{TOP / 'include'}", TOP / "scripts/measure.c", room / "kernel.o",
                     "-o", program, "-Wl,-z,noexecstack", *words_of("pkg-config", "--cflags", "--libs", "orc-0.4")],
                    check=True)
+    runs = []
+    for _ in range(RUNS):
+        lines = subprocess.run([program, text], capture_output=True, text=True, check=True).stdout.splitlines()
+        runs.append([line.split() for line in lines])
     rows = []
-    for line in subprocess.run([program, text], capture_output=True, text=True, check=True).stdout.splitlines():
-        n, ours, theirs, word = line.split()
-        rows.append((int(n), int(ours), int(theirs), word == "same"))
-    return rows
+    for of_count in zip(*runs):
+        ours, theirs = (min(int(row[k]) for row in of_count) for k in (1, 2))
+        rows.append((int(of_count[0][0]), ours, theirs, all(row[3] == "same" for row in of_count)))
+    code = subprocess.run([program, text, "code"], capture_output=True, text=True, check=True).stdout
+    return library_turn(code), rows
 
 
 def main():
@@ -79,7 +98,7 @@ def main():
     files = [pathlib.Path(w).resolve() for w in words] or sorted((TOP / "kernels").glob("*.orc"))
     version = words_of("pkg-config", "--modversion", "orc-0.4")[0]
     print(f"ORC library {version}")
-    print("| function | elements a turn | instructions a turn | " + " | ".join(f"n = {n} | ORC" for n in COUNTS) +
+    print("| function | a turn: elements, instructions | ORC | " + " | ".join(f"n = {n} | ORC" for n in COUNTS) +
           " | cycles an element | ORC |")
     print("|---" * (5 + 2 * len(COUNTS)) + "|")
     ratios = {n: [] for n in COUNTS}
@@ -90,8 +109,7 @@ def main():
             image = subprocess.run([orcc, "asm"], input=text, capture_output=True, check=True).stdout
             (room / "kernel.o").write_bytes(subprocess.run([orcc, "obj"], input=text, capture_output=True, check=True).stdout)
             for name, lines in listings(orcc, image).items():
-                rows = measured(room, path, name)
-                elements, instructions = turn(lines)
+                theirs_turn, rows = measured(room, path, name)
                 cells = []
                 for n, ours, theirs, _ in rows:
                     cells += [f"{ours:,}", f"{theirs:,}" if theirs else "none"]
@@ -99,7 +117,8 @@ def main():
                         ratios[n].append(ours / theirs)
                 n, ours, theirs, _ = rows[-1]
                 cells += [f"{ours / n:.2f}", f"{theirs / n:.2f}" if theirs else "none"]
-                print(f"| `{name}` | {elements} | {instructions} | " + " | ".join(cells) + " |", flush=True)
+                turns = ["{}, {}".format(*turn(lines)), "{}, {}".format(*theirs_turn)]
+                print(f"| `{name}` | " + " | ".join(turns + cells) + " |", flush=True)
                 if not all(same for *_, same in rows):
                     sys.exit(f"{name}: the two leave other bytes")
     for n, all_of in ratios.items():

@@ -1,8 +1,9 @@
 #!/usr/bin/env python3
 """Compiles the C text of kernels with the compilers at hand and compares what it does with `orcc emulate`.
 
-Usage: python3 scripts/try-c.py [--folder FOLDER] [ORCC]
-ORCC is the program, crates/orcc/out/orcc unless given. FOLDER, where given, keeps what was made.
+Usage: python3 scripts/try-c.py [--folder FOLDER] [--only NAME] .. [ORCC]
+ORCC is the program, crates/orcc/out/orcc unless given. FOLDER, where given, keeps what was made. NAME is that of a text:
+a file of kernels/ without its ending, or made-K.
 
 - The texts are those of kernels/, and texts that are made here: each opcode of the table with each prefix that may
   stand before it, on arrays, on temps, with a parameter, a constant or a number; shifts by many counts; functions of
@@ -29,8 +30,9 @@ import tempfile
 
 TOP = pathlib.Path(__file__).resolve().parent.parent
 WARNINGS = ["-std=c11", "-Wall", "-Wextra", "-Werror"]
-# Each function has the parameter m and the four variables of an instruction's cells and results, used or not.
-ALLOWED = ["-Wno-unused-parameter", "-Wno-unused-variable"]
+# Each function has the parameter m and the four variables of an instruction's cells and results, used or not. Where a
+# number of the text is the least or the greatest of its size, a comparison with it may always come out the same.
+ALLOWED = ["-Wno-unused-parameter", "-Wno-unused-variable", "-Wno-type-limits"]
 SANITIZERS = ["-O1", "-g", "-fsanitize=undefined,address", "-fno-sanitize-recover=all"]
 MOST_FUNCTIONS = 64
 COUNTS = (0, 1, 7, 8, 15, 16, 31, 32, 63, 64, 65, 255, 2**63, 2**64 - 1)
@@ -397,6 +399,7 @@ def main():
     words = argparse.ArgumentParser()
     words.add_argument("orcc", nargs="?", default=TOP / "crates/orcc/out/orcc", type=pathlib.Path)
     words.add_argument("--folder", type=pathlib.Path)
+    words.add_argument("--only", action="append")
     given = words.parse_args()
     compilers = [c for c in ("gcc", "clang") if shutil.which(c)]
     if not compilers:
@@ -406,7 +409,8 @@ def main():
         folder.mkdir(parents=True, exist_ok=True)
         trial = Trial(given.orcc.resolve(), folder, compilers)
         for name, parts in texts():
-            trial.text(name, parts)
+            if not given.only or name in given.only:
+                trial.text(name, parts)
     print(f"{trial.functions} functions, {trial.jobs} jobs, by {' and '.join(compilers)}: "
           f"{len(trial.failures) or 'no'} differences")
     sys.exit(1 if trial.failures else 0)
