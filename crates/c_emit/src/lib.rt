@@ -13,6 +13,3 @@ pub use function::emit;
 pub use laws::{means_first, means_second};
 pub use lines::Line;
 pub use printing::print;
-
-#[cfg(test)]
-mod tests;

@@ -1,5 +1,6 @@
 mod failures;
 mod hostile;
+mod meaning;
 
 use crate::{Status, orcc};
 use c_read::read_c;
