@@ -28,7 +28,10 @@ fn parts_that_touch_overlap_or_are_empty(rt: HostRuntime) -> Result<(), Fail> {
         (&[(4096, &[1; 9]), (4098, &[2; 2])], true),
     ];
     for (table, refused) in memories {
-        assert_eq!(rt; overlaps(alloc, parts_of(alloc, table)?.as_slice())?, refused);
+        assert_eq!(rt;
+            overlaps(alloc, parts_of(alloc, table)?.as_slice())?,
+            refused
+        );
         match PartMap::build(alloc, parts_of(alloc, table)?) {
             Ok(map) => assert!(rt; !refused && map.parts().len() == table.len()),
             Err(e) => assert!(rt; refused && e == BuildError::Overlap),
@@ -43,8 +46,17 @@ fn bytes_are_found_and_changed(rt: HostRuntime) -> Result<(), Fail> {
     let table: [(u64, &[u8]); 3] = [(u64::MAX, &[9]), (4096, &[1, 2]), (64, &[])];
     let mut map = PartMap::build(alloc, parts_of(alloc, &table)?)?;
     assert!(rt; map.set(4097, 7) && !map.set(4098, 7) && !map.set(64, 7));
-    assert_eq!(rt; (map.get(4096), map.get(4097), map.get(4098)), (Some(1), Some(7), None));
-    assert_eq!(rt; (map.get(u64::MAX), map.get(0), map.get(64)), (Some(9), None, None));
-    assert_eq!(rt; map.into_parts().as_slice()[1].bytes.as_slice(), [1, 7].as_slice());
+    assert_eq!(rt;
+        (map.get(4096), map.get(4097), map.get(4098)),
+        (Some(1), Some(7), None)
+    );
+    assert_eq!(rt;
+        (map.get(u64::MAX), map.get(0), map.get(64)),
+        (Some(9), None, None)
+    );
+    assert_eq!(rt;
+        map.into_parts().as_slice()[1].bytes.as_slice(),
+        [1, 7].as_slice()
+    );
     Ok(())
 }
