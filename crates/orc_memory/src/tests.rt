@@ -54,9 +54,9 @@ fn bytes_are_found_and_changed(rt: HostRuntime) -> Result<(), Fail> {
         (map.get(u64::MAX), map.get(0), map.get(64)),
         (Some(9), None, None)
     );
-    assert_eq!(rt;
-        map.into_parts().as_slice()[1].bytes.as_slice(),
-        [1, 7].as_slice()
+    let parts = map.into_parts();
+    assert!(rt;
+        matches!(parts.as_slice(), [_, part, ..] if part.bytes.as_slice() == [1, 7].as_slice())
     );
     Ok(())
 }
