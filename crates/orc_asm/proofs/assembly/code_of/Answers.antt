@@ -1,7 +1,8 @@
-use Rattle.std.proofs.Common.{ap}
-use Rattle.orc_program.specs.Program.{FunctionValue}
+use Rattle.std.proofs.Common.{ap, ◌∙◌}
+use Rattle.orc_frame.specs.declared.frame.Layout.{Layout}
 use Rattle.orc_frame.proofs.Counted.{ok_map}
 use Rattle.orc_region.proofs.Built.Turns.{elements_few}
+use Rattle.orc_region.proofs.Checked.Layouts.{two_d_is}
 use Rattle.orc_asm.proofs.Function.Whole.{list_slices, whole_runs}
 use Rattle.orc_asm.proofs.assembly.code_of.Goals as goal
 
@@ -25,7 +26,7 @@ returns-clause-inside c = ok_map c.whole_code.result _ _
       last_bytes = c.in_ok-last.ensures.bytes;
       last_short = c.in_ok-last.ensures.short;
     }))
-    _ c.in_ok-elements.ensures code c.f.inside.two_d c.counts_of-counts.result.dests c.counts_of-counts.result.sources (ap (λ (x : FunctionValue). x.two_d) c.f.view_is) c.counts_of-counts.ensures.dests c.counts_of-counts.ensures.sources e).0)
+    _ c.in_ok-elements.ensures code c.layout-layout.result.two_d c.counts_of-counts.result.dests c.counts_of-counts.result.sources (ap (λ (x : Layout). x.two_d) c.layout-layout.ensures.value ∙ two_d_is c.args.f.now) c.counts_of-counts.ensures.dests c.counts_of-counts.ensures.sources e).0)
     c.whole_code.ensures
 
 pub returns-clause-bytes : goal.returns-clause-bytes
@@ -45,5 +46,5 @@ returns-clause-bytes c = ok_map c.whole_code.result _ _
       last_bytes = c.in_ok-last.ensures.bytes;
       last_short = c.in_ok-last.ensures.short;
     }))
-    _ c.in_ok-elements.ensures code c.f.inside.two_d c.counts_of-counts.result.dests c.counts_of-counts.result.sources (ap (λ (x : FunctionValue). x.two_d) c.f.view_is) c.counts_of-counts.ensures.dests c.counts_of-counts.ensures.sources e).1)
+    _ c.in_ok-elements.ensures code c.layout-layout.result.two_d c.counts_of-counts.result.dests c.counts_of-counts.result.sources (ap (λ (x : Layout). x.two_d) c.layout-layout.ensures.value ∙ two_d_is c.args.f.now) c.counts_of-counts.ensures.dests c.counts_of-counts.ensures.sources e).1)
     c.whole_code.ensures
