@@ -2,6 +2,7 @@
 use Rattle.std.proofs.Common.{Bool, ◌≡◌, ℕ, zero, suc, ◌+◌, ◌≤◌, ℤ, pos, List, [], ◌∷◌, ◌++◌, length, map, sym, subst, ap, ◌∙◌, arith}
 use Rattle.std.specs.Prelude.{◌≤ℤ◌, true}
 use Rattle.std.specs.List.{range_with_len}
+use Rattle.std.proofs.lemmas.List.{length-map}
 use lib.Dec.{le→leb}
 use Rattle.orc_program.specs.declared.program.Pattern.{Pattern}
 use Rattle.orc_program.specs.declared.program.VarKind.TheVariants as kind
@@ -10,7 +11,8 @@ use Rattle.orc_program.specs.Checks.{patterns_of}
 use Rattle.orc_program.specs.Kept.{is_function}
 use Rattle.orc_frame.specs.declared.frame.Layout.{Layout}
 use Rattle.orc_frame.specs.Layout.{frame_size, pattern_slot, sum_slot, saved_slot, row_slot, block_slot, rows_slot, left_slot, acc_sizes_of, layout_of, displacements, with_size, slots_of, LieApart}
-use Rattle.orc_frame.proofs.Places.{limits, length-places_of, length-map}
+use Rattle.orc_program.proofs.Places.{length-places_of}
+use Rattle.orc_frame.proofs.Places.{limits}
 
 pub low : (a b : ℕ) → a ≤ b → pos a ≤ℤ pos b
 low a b h = record { le = le→leb a b h }
@@ -21,7 +23,7 @@ range_apart s w grows rest a (suc n) from l h =
     (low from (s a) l, range_apart s w grows rest (a + 1) n (s a + w) (subst (λ x. s a + w ≤ s x) (let e : suc a ≡ a + 1 = omega arith in e) (grows a)) (λ end m. h end (subst (λ x. end ≤ s x) (let e : a + 1 + n ≡ a + suc n = omega arith in e) m)))
 
 pub length-acc_sizes_of : (f : FunctionValue) → length (acc_sizes_of f.vars) ≡ count_of kind.Accumulator f.vars
-length-acc_sizes_of f = length-map _ (places_of kind.Accumulator f.vars) ∙ length-places_of kind.Accumulator f.vars
+length-acc_sizes_of f = length-map (places_of kind.Accumulator f.vars) _ ∙ length-places_of kind.Accumulator f.vars
 
 pub slots_apart : (f : FunctionValue) → is_function f ≡ true → LieApart (pos 0) (slots_of (layout_of f))
 unfolding layout_of

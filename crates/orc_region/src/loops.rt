@@ -7,7 +7,7 @@ ghost use Rattle.x86_ins.specs.declared.ins.Ins.TheVariants.{Alu, AluImm};
 ghost use Rattle.x86_ins.specs.declared.ins.Cond.TheVariants.{Ne};
 ghost use Rattle.x86_flow.specs.Flow.{Plain, flat, loop_code};
 ghost use Rattle.x86_flow.specs.Tree.{flat_of};
-ghost use Rattle.orc_region.specs.Regions.{gap_code, gap_flow, low_bits_code, behind_code, enter_head_code, leave_head_code, tail_flow, aligned_row, plain_row, wide_loops};
+ghost use Rattle.orc_region.specs.Regions.{gap_code, gap_flow, low_bits_code, behind_code, enter_head_code, leave_head_code, tail_flow, aligned_row, plain_row};
 
 use crate::lists::{COUNTER, pointer};
 use orc_frame::{LEFT_AT, slot};
@@ -254,26 +254,4 @@ pub fn plain_loops(alloc: Global, lanes: usize, wide: Flow, tail: Block) -> Resu
     let last = rest(alloc, lanes, tail)?;
     let turns = chain(alloc, wide, last)?;
     chain(alloc, less, turns)
-}
-
-/// Turns of `more` elements, and then turns of `lanes`.
-#[tactic(auto, using(crate::proofs::Built::Loops::spelled_one))]
-pub fn wide_loops(
-    alloc: Global,
-    lanes: usize,
-    more: usize,
-    large: Block,
-    turn: Block,
-) -> Result<Flow, AllocError>
-    requires lanes { lanes ≤ more }
-    requires more { more ≤ 64 }
-    ensures { IfOk result (λ flow. flat_of flow ≡ flat (wide_loops lanes more (Plain large.list) (Plain turn.list))) }
-{
-    let down = of(counted(alloc, AluOp::Sub, more - lanes)?);
-    let most = repeat(alloc, Cond::Ns, plain(large))?;
-    let up = of(counted(alloc, AluOp::Add, more - lanes)?);
-    let few = repeat(alloc, Cond::Ns, plain(turn))?;
-    let first = chain(alloc, down, most)?;
-    let second = chain(alloc, up, few)?;
-    chain(alloc, first, second)
 }

@@ -28,7 +28,7 @@ use Rattle.orc_frame.specs.Frame.{number_of as held}
 use Rattle.orc_frame.proofs.Facts.{Facts, facts}
 use Rattle.orc_frame.proofs.Fills.{IsKnown}
 use Rattle.orc_frame.proofs.Apart.{length-acc_sizes_of}
-use Rattle.orc_frame.proofs.Places.{length-places_of}
+use Rattle.orc_program.proofs.Places.{length-places_of}
 use Rattle.orc_frame.specs.Subject.{Call as Arguments, InDests, rows}
 use Rattle.orc_frame.specs.Parts.{InFrame, InRunning, InBlock, InSums, param_word, sum_word, block_size}
 use Rattle.orc_frame.specs.GoodCall.{GoodCall}
