@@ -50,10 +50,12 @@ pattern_near l k h lk = let few = (facts l h).few_patterns in Fits-of_lt {w = w6
 pub sum_near : (l : Layout) (k : ℕ) → IsLayout l → k < length l.acc_sizes.items → Fits w64 (k * 4)
 sum_near l k h lk = let few = (facts l h).few_sums in Fits-of_lt {w = w64} (let n : k * 4 < 2 ^ 64 = omega (arith, lk, few) in n)
 
-pub row_is : (l : Layout) (k : ℕ) → IsLayout l → k < 12 → slice_index_or l.row_at k (pos 0) ≡ pos (row_slot k)
+pub row_is : (l : Layout) (k : ℕ) → IsLayout l → k < 12 → to_z w32 (of_z w32 (slice_index_or l.row_at k (pos 0))) ≡ pos (row_slot k)
 unfolding layout_of
-row_is l k h lk = subst (λ (y : Layout). slice_index_or y.row_at k (pos 0) ≡ pos (row_slot k)) (sym h.2) (there row_slot 12 k (pos 0) lk)
+row_is l k h lk =
+    read (row_slot k) (slice_index_or l.row_at k (pos 0)) (omega (arith, lk))
+    (subst (λ (y : Layout). slice_index_or y.row_at k (pos 0) ≡ pos (row_slot k)) (sym h.2) (there row_slot 12 k (pos 0) lk))
 
-pub rows_is : (l : Layout) → IsLayout l → l.rows_at ≡ pos rows_slot
+pub rows_is : (l : Layout) → IsLayout l → to_z w32 (of_z w32 l.rows_at) ≡ pos rows_slot
 unfolding layout_of
-rows_is l h = ap (λ (y : Layout). y.rows_at) h.2
+rows_is l h = read rows_slot l.rows_at (omega arith) (ap (λ (y : Layout). y.rows_at) h.2)
