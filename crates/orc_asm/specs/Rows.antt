@@ -9,7 +9,7 @@ use Rattle.x86_flow.specs.Moves.{away}
 use Rattle.orc_asm.specs.declared.rows.SlotCode.{SlotCode}
 use Rattle.orc_asm.specs.declared.rows.SlotCode.TheVariants as for_slot
 use Rattle.orc_frame.specs.Layout.{row_slot, rows_slot}
-use Rattle.orc_frame.specs.Parts.{base_word, stride_word}
+use Rattle.orc_frame.specs.Parts.{elements_word, rows_word, base_word, stride_word}
 use Rattle.orc_region.specs.Code.{pointer}
 
 -- ---- lists
@@ -31,7 +31,7 @@ base_code k = Load 0 (away 7 (base_word k)) ∷ Store 0 (away 4 (row_slot k)) �
 
 -- the number of rows: the block's where the function has rows, and else 1
 abbrev pub number_code : Bool → Ins
-number_code two_d = if two_d then Load 0 (away 7 8) else MovImm 0 1
+number_code two_d = if two_d then Load 0 (away 7 rows_word) else MovImm 0 1
 
 abbrev pub count_code : Bool → List Ins
 count_code two_d = number_code two_d ∷ Store 0 (away 4 rows_slot) ∷ Test 0 0 ∷ []
@@ -47,7 +47,7 @@ pointer_code k = Load (pointer k) (away 4 (row_slot k)) ∷ []
 
 -- the counter is loaded, and whether there are elements
 abbrev pub counter_code : List Ins
-counter_code = Load 1 (away 7 0) ∷ Test 1 1 ∷ []
+counter_code = Load 1 (away 7 elements_word) ∷ Test 1 1 ∷ []
 
 abbrev pub row_entry_code : ℕ → ℕ → List Ins
 row_entry_code dests sources = arrays_code pointer_code dests sources ++ counter_code

@@ -58,10 +58,10 @@ fn code_of(alloc: Global, f: &Function, core: &Core, places: &[u8]) -> Result<Co
     let last = epilogue(alloc, &layout)?;
     whole_code(
         alloc,
+        &layout,
         first.as_slice(),
         &elements,
         last.as_slice(),
-        f.two_d,
         counts.dests,
         counts.sources,
     )

@@ -5,19 +5,18 @@ ghost use Rattle.x86_ins.specs.Spelling.{has_spelling};
 ghost use Rattle.x86_flow.specs.Flow.{Plain, flat, size, spell_all, with_return};
 ghost use Rattle.x86_flow.specs.Moves.{away};
 ghost use Rattle.x86_flow.specs.Tree.{flat_of};
-ghost use Rattle.orc_frame.specs.Layout.{row_slot};
+ghost use Rattle.orc_frame.specs.Frame.{IsLayout};
+ghost use Rattle.orc_frame.specs.Layout.{row_slot, rows_slot};
 ghost use Rattle.orc_asm.specs.Rows.{slot_code, slots_code, arrays_code, base_code, stride_code, number_code, rows_code, row_entry_code, row_step_code, row_flow, whole_flow};
 
 use orc_bits::Code;
-use orc_region::{BLOCK, COUNTER, STACK, pointer};
+use orc_frame::{BLOCK, ELEMENTS_WORD, Layout, ROWS_WORD, base_word, row_at, rows_at, stride_word};
+use orc_region::{COUNTER, pointer};
 use sqlite_items::Items;
 use std::alloc::{AllocError, Global};
 use x86_flow::tree::{Flow, put_flow};
 use x86_flow::{SCRATCH, away, put, put_list, put_loop};
 use x86_ins::{Addr, AluOp, Cond, Ins, InsList};
-
-/// Where the number of rows that are left stands, in bytes above RSP.
-const ROWS: usize = 984;
 
 /// What is done for each array.
 #[derive(Clone, Copy)]
@@ -30,41 +29,52 @@ pub enum SlotCode {
     Stride,
 }
 
-/// The word of an array slot in the frame, which holds the base of its row.
-fn base_at(slot: usize) -> Addr
-    requires { slot < 12 }
+/// The word of the frame that holds the base of an array slot's row.
+fn base_at(layout: &Layout, slot: usize) -> Addr
+    requires layout { IsLayout layout.now }
+    requires slot { slot < 12 }
     ensures { result ≡ away 4 (row_slot slot) }
 {
-    away(STACK, 880 + 8 * slot)
+    orc_frame::slot(row_at(layout, slot))
+}
+
+/// The word of the frame that holds the number of rows that are left.
+fn left_at(layout: &Layout) -> Addr
+    requires { IsLayout layout.now }
+    ensures { result ≡ away 4 rows_slot }
+{
+    orc_frame::slot(rows_at(layout))
 }
 
 /// Adds what makes an array's base that of the first row.
-fn push_base(list: &mut InsList, slot: usize) -> Result<(), AllocError>
-    requires { slot < 12 }
+fn push_base(list: &mut InsList, layout: &Layout, slot: usize) -> Result<(), AllocError>
+    requires layout { IsLayout layout.now }
+    requires slot { slot < 12 }
     ensures { OnOk result (list.new ≡ list.old ++ base_code slot) }
 {
     list.push(Ins::Load {
         dst: SCRATCH,
-        at: away(BLOCK, 16 + 16 * slot),
+        at: away(BLOCK, base_word(slot)),
     })?;
     list.push(Ins::Store {
         src: SCRATCH,
-        at: base_at(slot),
+        at: base_at(layout, slot),
     })
 }
 
 /// Adds what moves an array's row on by its stride.
-fn push_stride(list: &mut InsList, slot: usize) -> Result<(), AllocError>
-    requires { slot < 12 }
+fn push_stride(list: &mut InsList, layout: &Layout, slot: usize) -> Result<(), AllocError>
+    requires layout { IsLayout layout.now }
+    requires slot { slot < 12 }
     ensures { OnOk result (list.new ≡ list.old ++ stride_code slot) }
 {
     list.push(Ins::Load {
         dst: SCRATCH,
-        at: base_at(slot),
+        at: base_at(layout, slot),
     })?;
     list.push(Ins::Load {
         dst: COUNTER,
-        at: away(BLOCK, 24 + 16 * slot),
+        at: away(BLOCK, stride_word(slot)),
     })?;
     list.push(Ins::Alu {
         op: AluOp::Add,
@@ -73,33 +83,46 @@ fn push_stride(list: &mut InsList, slot: usize) -> Result<(), AllocError>
     })?;
     list.push(Ins::Store {
         src: SCRATCH,
-        at: base_at(slot),
+        at: base_at(layout, slot),
     })
 }
 
 /// Adds what is done for one array.
-fn push_slot(list: &mut InsList, what: SlotCode, slot: usize) -> Result<(), AllocError>
-    requires { slot < 12 }
+fn push_slot(
+    list: &mut InsList,
+    layout: &Layout,
+    what: SlotCode,
+    slot: usize,
+) -> Result<(), AllocError>
+    requires layout { IsLayout layout.now }
+    requires slot { slot < 12 }
     ensures { OnOk result (list.new ≡ list.old ++ slot_code what slot) }
 {
     match what {
-        SlotCode::Base => push_base(list, slot),
+        SlotCode::Base => push_base(list, layout, slot),
         SlotCode::Pointer => list.push(Ins::Load {
             dst: pointer(slot),
-            at: base_at(slot),
+            at: base_at(layout, slot),
         }),
-        SlotCode::Stride => push_stride(list, slot),
+        SlotCode::Stride => push_stride(list, layout, slot),
     }
 }
 
 /// Adds what is done for `n` slots from `first` on.
 #[tactic(auto, using(crate::proofs::Row::Built::slots_none, crate::proofs::Row::Built::slots_more))]
-fn push_slots(list: &mut InsList, what: SlotCode, first: usize, n: usize) -> Result<(), AllocError>
-    requires { first + n ≤ 12 }
+fn push_slots(
+    list: &mut InsList,
+    layout: &Layout,
+    what: SlotCode,
+    first: usize,
+    n: usize,
+) -> Result<(), AllocError>
+    requires layout { IsLayout layout.now }
+    requires slots { first + n ≤ 12 }
     ensures { OnOk result (list.new ≡ list.old ++ slots_code (slot_code what) first n) }
 {
     for k in 0..n {
-        push_slot(list, what, first + k)?;
+        push_slot(list, layout, what, first + k)?;
     }
     Ok(())
 }
@@ -108,16 +131,18 @@ fn push_slots(list: &mut InsList, what: SlotCode, first: usize, n: usize) -> Res
 #[tactic(auto, using(crate::proofs::Row::Built::arrays_both))]
 fn push_arrays(
     list: &mut InsList,
+    layout: &Layout,
     what: SlotCode,
     dests: usize,
     sources: usize,
 ) -> Result<(), AllocError>
+    requires layout { IsLayout layout.now }
     requires dests { dests ≤ 4 }
     requires sources { sources ≤ 8 }
     ensures { OnOk result (list.new ≡ list.old ++ arrays_code (slot_code what) dests sources) }
 {
-    push_slots(list, what, 0, dests)?;
-    push_slots(list, what, 4, sources)
+    push_slots(list, layout, what, 0, dests)?;
+    push_slots(list, layout, what, 4, sources)
 }
 
 /// Moves the number of rows to RAX: the block's where the function has rows, and else 1.
@@ -127,7 +152,7 @@ fn number(two_d: bool) -> Ins
     if two_d {
         Ins::Load {
             dst: SCRATCH,
-            at: away(BLOCK, 8),
+            at: away(BLOCK, ROWS_WORD),
         }
     } else {
         Ins::MovImm {
@@ -141,20 +166,21 @@ fn number(two_d: bool) -> Ins
 #[tactic(auto, using(crate::proofs::Row::Built::rows_whole))]
 pub fn rows_list(
     alloc: Global,
-    two_d: bool,
+    layout: &Layout,
     dests: usize,
     sources: usize,
 ) -> Result<InsList, AllocError>
+    requires layout { IsLayout layout.now }
     requires dests { dests ≤ 4 }
     requires sources { sources ≤ 8 }
-    ensures { IfOk result (λ list. list ≡ rows_code two_d dests sources) }
+    ensures { IfOk result (λ list. list ≡ rows_code layout.now.two_d dests sources) }
 {
     let mut list = InsList::new(alloc);
-    push_arrays(&mut list, SlotCode::Base, dests, sources)?;
-    list.push(number(two_d))?;
+    push_arrays(&mut list, layout, SlotCode::Base, dests, sources)?;
+    list.push(number(layout.two_d))?;
     list.push(Ins::Store {
         src: SCRATCH,
-        at: away(STACK, ROWS),
+        at: left_at(layout),
     })?;
     list.push(Ins::Test {
         a: SCRATCH,
@@ -165,16 +191,22 @@ pub fn rows_list(
 
 /// What comes before the elements of a row.
 #[tactic(auto, using(crate::proofs::Row::Built::entry_whole))]
-pub fn row_entry_list(alloc: Global, dests: usize, sources: usize) -> Result<InsList, AllocError>
+pub fn row_entry_list(
+    alloc: Global,
+    layout: &Layout,
+    dests: usize,
+    sources: usize,
+) -> Result<InsList, AllocError>
+    requires layout { IsLayout layout.now }
     requires dests { dests ≤ 4 }
     requires sources { sources ≤ 8 }
     ensures { IfOk result (λ list. list ≡ row_entry_code dests sources) }
 {
     let mut list = InsList::new(alloc);
-    push_arrays(&mut list, SlotCode::Pointer, dests, sources)?;
+    push_arrays(&mut list, layout, SlotCode::Pointer, dests, sources)?;
     list.push(Ins::Load {
         dst: COUNTER,
-        at: away(BLOCK, 0),
+        at: away(BLOCK, ELEMENTS_WORD),
     })?;
     list.push(Ins::Test {
         a: COUNTER,
@@ -185,16 +217,22 @@ pub fn row_entry_list(alloc: Global, dests: usize, sources: usize) -> Result<Ins
 
 /// What comes after the elements of a row.
 #[tactic(auto, using(crate::proofs::Row::Built::step_whole))]
-pub fn row_step_list(alloc: Global, dests: usize, sources: usize) -> Result<InsList, AllocError>
+pub fn row_step_list(
+    alloc: Global,
+    layout: &Layout,
+    dests: usize,
+    sources: usize,
+) -> Result<InsList, AllocError>
+    requires layout { IsLayout layout.now }
     requires dests { dests ≤ 4 }
     requires sources { sources ≤ 8 }
     ensures { IfOk result (λ list. list ≡ row_step_code dests sources) }
 {
     let mut list = InsList::new(alloc);
-    push_arrays(&mut list, SlotCode::Stride, dests, sources)?;
+    push_arrays(&mut list, layout, SlotCode::Stride, dests, sources)?;
     list.push(Ins::Load {
         dst: SCRATCH,
-        at: away(STACK, ROWS),
+        at: left_at(layout),
     })?;
     list.push(Ins::AluImm {
         op: AluOp::Sub,
@@ -203,7 +241,7 @@ pub fn row_step_list(alloc: Global, dests: usize, sources: usize) -> Result<InsL
     })?;
     list.push(Ins::Store {
         src: SCRATCH,
-        at: away(STACK, ROWS),
+        at: left_at(layout),
     })?;
     Ok(list)
 }
@@ -211,16 +249,18 @@ pub fn row_step_list(alloc: Global, dests: usize, sources: usize) -> Result<InsL
 /// The bytes of a row: its start, what does its elements, and its end.
 fn row_bytes(
     alloc: Global,
+    layout: &Layout,
     elements: &Flow,
     dests: usize,
     sources: usize,
 ) -> Result<Vec<u8>, AllocError>
+    requires layout { IsLayout layout.now }
     requires dests { dests ≤ 4 }
     requires sources { sources ≤ 8 }
     ensures { IfOk result (λ bytes. bytes.items ≡ spell_all (flat (row_flow (Plain (flat_of elements.now)) dests sources))) }
 {
-    let enter = row_entry_list(alloc, dests, sources)?;
-    let leave = row_step_list(alloc, dests, sources)?;
+    let enter = row_entry_list(alloc, layout, dests, sources)?;
+    let leave = row_step_list(alloc, layout, dests, sources)?;
     let mut row = Vec::new(alloc);
     put_list(&mut row, enter.as_slice())?;
     put_flow(alloc, &mut row, elements)?;
@@ -231,22 +271,23 @@ fn row_bytes(
 /// Code of rows between two lists, in which a tree does the elements of a row.
 pub fn whole_code(
     alloc: Global,
+    layout: &Layout,
     first: &[Ins],
     elements: &Flow,
     last: &[Ins],
-    two_d: bool,
     dests: usize,
     sources: usize,
 ) -> Result<Code, AllocError>
+    requires layout { IsLayout layout.now }
     requires first_spelled { All (λ i. IsTrue (has_spelling i)) first.now }
     requires last_spelled { All (λ i. IsTrue (has_spelling i)) last.now }
     requires few { size (flat_of elements.now) ≤ 900000 }
     requires dests { dests ≤ 4 }
     requires sources { sources ≤ 8 }
-    ensures { IfOk result (λ code. code ≡ spell_all (with_return (whole_flow first.now (Plain (flat_of elements.now)) last.now two_d dests sources))) }
+    ensures { IfOk result (λ code. code ≡ spell_all (with_return (whole_flow first.now (Plain (flat_of elements.now)) last.now layout.now.two_d dests sources))) }
 {
-    let starts = rows_list(alloc, two_d, dests, sources)?;
-    let row = row_bytes(alloc, elements, dests, sources)?;
+    let starts = rows_list(alloc, layout, dests, sources)?;
+    let row = row_bytes(alloc, layout, elements, dests, sources)?;
     let mut code = Vec::new(alloc);
     put_list(&mut code, first)?;
     put_list(&mut code, starts.as_slice())?;

@@ -2,6 +2,7 @@
 use Rattle.std.proofs.Common.{Bool, ◌≡◌, ℕ, zero, suc, ◌+◌, ◌≤◌, ℤ, pos, List, [], ◌∷◌, ◌++◌, length, map, sym, subst, ap, ◌∙◌, arith}
 use Rattle.std.specs.Prelude.{◌≤ℤ◌, true}
 use Rattle.std.specs.List.{range_with_len}
+use Rattle.std.proofs.lemmas.List.{length-map}
 use lib.Dec.{le→leb}
 use Rattle.orc_program.specs.declared.program.Pattern.{Pattern}
 use Rattle.orc_program.specs.declared.program.VarKind.TheVariants as kind
@@ -9,8 +10,9 @@ use Rattle.orc_program.specs.Program.{FunctionValue, places_of, count_of}
 use Rattle.orc_program.specs.Checks.{patterns_of}
 use Rattle.orc_program.specs.Kept.{is_function}
 use Rattle.orc_frame.specs.declared.frame.Layout.{Layout}
-use Rattle.orc_frame.specs.Layout.{pattern_slot, sum_slot, saved_slot, row_slot, acc_sizes_of, layout_of, displacements, with_size, slots_of, LieApart}
-use Rattle.orc_frame.proofs.Places.{limits, length-places_of, length-map}
+use Rattle.orc_frame.specs.Layout.{frame_size, pattern_slot, sum_slot, saved_slot, row_slot, block_slot, rows_slot, left_slot, acc_sizes_of, layout_of, displacements, with_size, slots_of, LieApart}
+use Rattle.orc_program.proofs.Places.{length-places_of}
+use Rattle.orc_frame.proofs.Places.{limits}
 
 pub low : (a b : ℕ) → a ≤ b → pos a ≤ℤ pos b
 low a b h = record { le = le→leb a b h }
@@ -21,7 +23,7 @@ range_apart s w grows rest a (suc n) from l h =
     (low from (s a) l, range_apart s w grows rest (a + 1) n (s a + w) (subst (λ x. s a + w ≤ s x) (let e : suc a ≡ a + 1 = omega arith in e) (grows a)) (λ end m. h end (subst (λ x. end ≤ s x) (let e : a + 1 + n ≡ a + suc n = omega arith in e) m)))
 
 pub length-acc_sizes_of : (f : FunctionValue) → length (acc_sizes_of f.vars) ≡ count_of kind.Accumulator f.vars
-length-acc_sizes_of f = length-map _ (places_of kind.Accumulator f.vars) ∙ length-places_of kind.Accumulator f.vars
+length-acc_sizes_of f = length-map (places_of kind.Accumulator f.vars) _ ∙ length-places_of kind.Accumulator f.vars
 
 pub slots_apart : (f : FunctionValue) → is_function f ≡ true → LieApart (pos 0) (slots_of (layout_of f))
 unfolding layout_of
@@ -30,14 +32,14 @@ slots_apart f is =
     let n = length (patterns_of f.vars f.insns) in
     let m = length (acc_sizes_of f.vars) in
     let m_few : m ≤ 4 = omega (arith, length-acc_sizes_of f, few.accs) in
-    let words : List (ℤ × ℕ) = (pos 976, 8) ∷ (pos 984, 8) ∷ [] in
+    let words : List (ℤ × ℕ) = (pos block_slot, 8) ∷ (pos rows_slot, 8) ∷ (pos left_slot, 8) ∷ [] in
     let rows : List (ℤ × ℕ) = with_size 8 (displacements row_slot 12) ++ words in
     let kept : List (ℤ × ℕ) = with_size 8 (displacements saved_slot 6) ++ rows in
     let sums : List (ℤ × ℕ) = with_size 16 (displacements sum_slot m) ++ kept in
-    let last : (e : ℕ) → e ≤ 976 → LieApart (pos e) words = λ e j. (low e 976 j, (low 984 984 (omega arith), low 992 1024 (omega arith))) in
-    let from_rows : (d : ℕ) → d ≤ 880 → LieApart (pos d) rows = λ d i. range_apart row_slot 8 (λ k. omega arith) words 0 12 d (omega (arith, i)) (λ e j. last e (omega (arith, j))) in
-    let from_kept : (b : ℕ) → b ≤ 832 → LieApart (pos b) kept = λ b h. range_apart saved_slot 8 (λ k. omega arith) rows 0 6 b (omega (arith, h)) (λ d i. from_rows d (omega (arith, i))) in
-    let from_sums : (a : ℕ) → a ≤ 768 → LieApart (pos a) sums = λ a l. range_apart sum_slot 16 (λ k. omega arith) kept 0 m a (omega (arith, l)) (λ b h. from_kept b (omega (arith, h, m_few))) in
+    let last : (e : ℕ) → e ≤ block_slot → LieApart (pos e) words = λ e j. (low e block_slot j, (low (block_slot + 8) rows_slot (omega arith), (low (rows_slot + 8) left_slot (omega arith), low (left_slot + 8) frame_size (omega arith)))) in
+    let from_rows : (d : ℕ) → d ≤ row_slot 0 → LieApart (pos d) rows = λ d i. range_apart row_slot 8 (λ k. omega arith) words 0 12 d (omega (arith, i)) (λ e j. last e (omega (arith, j))) in
+    let from_kept : (b : ℕ) → b ≤ saved_slot 0 → LieApart (pos b) kept = λ b h. range_apart saved_slot 8 (λ k. omega arith) rows 0 6 b (omega (arith, h)) (λ d i. from_rows d (omega (arith, i))) in
+    let from_sums : (a : ℕ) → a ≤ sum_slot 0 → LieApart (pos a) sums = λ a l. range_apart sum_slot 16 (λ k. omega arith) kept 0 m a (omega (arith, l)) (λ b h. from_kept b (omega (arith, h, m_few))) in
     range_apart pattern_slot 16 (λ k. omega arith) sums 0 n 0 (omega arith) (λ a l. from_sums a (omega (arith, l, few.patterns)))
 
 pub lie_apart : (l : Layout) (f : FunctionValue) → is_function f ≡ true → l ≡ layout_of f → LieApart (pos 0) (slots_of l)
@@ -53,8 +55,8 @@ made two_d patterns sizes params pattern_at sum_at = record {
   sum_at = record { items = sum_at };
   saved_at = displacements saved_slot 6;
   row_at = displacements row_slot 12;
-  block_at = pos 976;
-  rows_at = pos 984;
+  block_at = pos block_slot;
+  rows_at = pos rows_slot;
 }
 
 -- a layout that was put together from its parts

@@ -44,13 +44,13 @@ unfolding reg_form
 form_short pre opcode reg rm p o =
     omega (arith, p, o, rex_short false (top reg) (top rm), length-append pre (rex false reg rm ++ (opcode ++ m_reg reg rm)), length-append (rex false reg rm) (opcode ++ m_reg reg rm), length-append opcode (m_reg reg rm))
 
-fine_vec_imm : (op : VecImmOp) (d n : ℕ) → d < 16 → n < 2 ^ 8 → IsFine (VecImm op d n)
+pub fine_vec_imm : (op : VecImmOp) (d n : ℕ) → d < 16 → n < 2 ^ 8 → IsFine (VecImm op d n)
 unfolding spelling
 fine_vec_imm op d n h g =
     let form = reg_form (0x66 ∷ []) false (0x0f ∷ imm_byte op ∷ []) (imm_digit op) d in
     record { allowed = ((h, g), refl); short = omega (arith, form_short (0x66 ∷ []) (0x0f ∷ imm_byte op ∷ []) (imm_digit op) d (omega arith) (omega arith), length-append form (n ∷ [])) }
 
-fine_shuffle : (op : ShuffleOp) (d s o : ℕ) → d < 16 → s < 16 → o < 2 ^ 8 → IsFine (Shuffle op d s o)
+pub fine_shuffle : (op : ShuffleOp) (d s o : ℕ) → d < 16 → s < 16 → o < 2 ^ 8 → IsFine (Shuffle op d s o)
 unfolding spelling
 fine_shuffle op d s o h g i =
     let form = reg_form (shuffle_prefix op ∷ []) false (0x0f ∷ 0x70 ∷ []) d s in

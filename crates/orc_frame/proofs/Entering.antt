@@ -94,12 +94,12 @@ module _ (l : Layout) (is : IsLayout l) (param : ℕ → ℕ) (s : Core) (en : E
   first = record { stack = inl refl; not_yet = λ e x. (refl, λ t. nothing x t); block = refl; outside = λ x out. refl; touches = λ x t. nothing x t }
 
   -- the registers
-  save_piece : (j : ℕ) → j < 6 → (c : Core) → In c → (d : Core) × Line Go (save_code l j) c d × Wrote (base + 832 + 8 * j) 8 (λ q. s.gpr (saved j) / 256 ^ q % 256) c d × In d
+  save_piece : (j : ℕ) → j < 6 → (c : Core) → In c → (d : Core) × Line Go (save_code l j) c d × Wrote (base + saved_slot 0 + 8 * j) 8 (λ q. s.gpr (saved j) / 256 ^ q % 256) c d × In d
   save_piece j i c h =
       let x = store_line s en.room en.low (saved j) (saved_slot j) c (saved_small j i) (omega (arith, i)) h in (
         x.0,
         subst (λ z. Line Go (Store (saved j) (slot z) ∷ []) c x.0) (sym (known.saved_slots j i)) x.1,
-        again (base + saved_slot j) (base + 832 + 8 * j) 8 _ _ c x.0 (omega arith) (λ q m. ap (λ v. v / 256 ^ q % 256) (h.others (saved j) (saved_not j 0 (omega arith)) (saved_not_4 j))) x.3,
+        again (base + saved_slot j) (base + saved_slot 0 + 8 * j) 8 _ _ c x.0 (omega arith) (λ q m. ap (λ v. v / 256 ^ q % 256) (h.others (saved j) (saved_not j 0 (omega arith)) (saved_not_4 j))) x.3,
         x.4,
       )
 
@@ -122,13 +122,13 @@ module _ (l : Layout) (is : IsLayout l) (param : ℕ → ℕ) (s : Core) (en : E
       zero_over n = grind (arith)
 
   -- the running sums
-  clear_piece : (g : ℕ) → g < length l.acc_sizes.items → (c : Core) → In c → (d : Core) × Line Go (clear_code l g) c d × Wrote (base + 768 + 16 * g) 16 (λ q. 0) c d × In d
+  clear_piece : (g : ℕ) → g < length l.acc_sizes.items → (c : Core) → In c → (d : Core) × Line Go (clear_code l g) c d × Wrote (base + sum_slot 0 + 16 * g) 16 (λ q. 0) c d × In d
   clear_piece g i c h =
       let few = known.few_sums in
       let x = constant_line s en.room en.low (sum_slot g) 0 c (omega (arith, i, few)) (omega arith) h in (
         x.0,
         subst (λ z. Line Go (constant_code 0 z) c x.0) (sym (known.sum_slots g i)) x.1,
-        again (base + sum_slot g) (base + 768 + 16 * g) 16 _ _ c x.0 (omega arith) (λ q m. none (q % 8)) x.2,
+        again (base + sum_slot g) (base + sum_slot 0 + 16 * g) 16 _ _ c x.0 (omega arith) (λ q m. none (q % 8)) x.2,
         x.3,
       )
 
@@ -158,9 +158,9 @@ module _ (l : Layout) (is : IsLayout l) (param : ℕ → ℕ) (s : Core) (en : E
       let m_few = known.few_sums in
       let x = joined_line Go In (base + 0) 16 n (λ k q. pattern_byte (pattern_at l k).way (number_of l.params.items param (pattern_at l k).number) q) (pattern_code l) pattern_piece n (omega arith) c h in
       let u : Core = x.0 in
-      let y = joined_line Go In (base + 768) 16 m (λ g q. 0) (clear_code l) clear_piece m (omega arith) u x.3 in
+      let y = joined_line Go In (base + sum_slot 0) 16 m (λ g q. 0) (clear_code l) clear_piece m (omega arith) u x.3 in
       let d : Core = y.0 in
-      let kept : (a : ℕ) → base + 832 ≤ a → d.memory a ≡ c.memory a = λ a i. y.2.outside a (λ j k. omega (arith, i, k, m_few)) ∙ x.2.outside a (λ j k. omega (arith, i, k, n_few)) in (
+      let kept : (a : ℕ) → base + saved_slot 0 ≤ a → d.memory a ≡ c.memory a = λ a i. y.2.outside a (λ j k. omega (arith, i, k, m_few)) ∙ x.2.outside a (λ j k. omega (arith, i, k, n_few)) in (
         d,
         line_append Go all_patterns all_clears c u d x.1 y.1,
         record {
@@ -168,7 +168,7 @@ module _ (l : Layout) (is : IsLayout l) (param : ℕ → ℕ) (s : Core) (en : E
           saved = λ j i q r. kept (base + saved_slot j + q) (omega arith) ∙ saves j i q r;
           block = λ q r. kept (base + block_slot + q) (omega arith) ∙ block q r;
           patterns = λ k i q r. y.2.outside (base + pattern_slot k + q) (λ j t. omega (arith, i, r, j, n_few)) ∙ ap u.memory (let e : base + pattern_slot k + q ≡ base + 0 + 16 * k + q = omega arith in e) ∙ x.2.bytes k i q r;
-          sums = λ g i q r. ap d.memory (let e : base + sum_slot g + q ≡ base + 768 + 16 * g + q = omega arith in e) ∙ y.2.bytes g i q r;
+          sums = λ g i q r. ap d.memory (let e : base + sum_slot g + q ≡ base + sum_slot 0 + 16 * g + q = omega arith in e) ∙ y.2.bytes g i q r;
         },
       )
 
@@ -186,12 +186,12 @@ module _ (l : Layout) (is : IsLayout l) (param : ℕ → ℕ) (s : Core) (en : E
 
   rest_line : (d : Core) × Line Go rest begin d × Filled d
   rest_line =
-      let x = joined_line Go In (base + 832) 8 6 (λ j q. s.gpr (saved j) / 256 ^ q % 256) (save_code l) save_piece 6 (omega arith) begin begin_in in
+      let x = joined_line Go In (base + saved_slot 0) 8 6 (λ j q. s.gpr (saved j) / 256 ^ q % 256) (save_code l) save_piece 6 (omega arith) begin begin_in in
       let u : Core = x.0 in
       let y = block_line u x.3 in
       let v : Core = y.0 in
       let z = later v y.3
-      (λ j i q r. y.2.outside (base + saved_slot j + q) (λ a b. omega (arith, i, r, a)) ∙ ap u.memory (let e : base + saved_slot j + q ≡ base + 832 + 8 * j + q = omega arith in e) ∙ x.2.bytes j i q r)
+      (λ j i q r. y.2.outside (base + saved_slot j + q) (λ a b. omega (arith, i, r, a)) ∙ ap u.memory (let e : base + saved_slot j + q ≡ base + saved_slot 0 + 8 * j + q = omega arith in e) ∙ x.2.bytes j i q r)
       (λ q r. y.2.bytes q r) in
       let d : Core = z.0 in (
         d,

@@ -26,7 +26,8 @@ use Rattle.orc_frame.specs.declared.frame.Layout.{Layout}
 use Rattle.orc_frame.specs.Layout.{pattern_slot, sum_slot, saved_slot, block_slot, acc_sizes_of, layout_of, displacements, index_in, frame_size}
 use Rattle.orc_frame.specs.Frame.{IsLayout, pattern_at, no_pattern, acc_size}
 use Rattle.orc_frame.specs.Code.{nth, IsWhole}
-use Rattle.orc_frame.proofs.Places.{limits, length-places_of, displacements_count}
+use Rattle.orc_program.proofs.Places.{length-places_of}
+use Rattle.orc_frame.proofs.Places.{limits, displacements_count}
 use Rattle.orc_frame.proofs.Apart.{length-acc_sizes_of, low}
 use Rattle.orc_frame.proofs.Fills.{IsKnown}
 

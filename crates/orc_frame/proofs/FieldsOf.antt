@@ -4,7 +4,7 @@ use Rattle.std.specs.List.{range_with_len}
 use Rattle.std.proofs.lemmas.List.FromFn.{length-range_with_len, get_or-map-range_with_len}
 use Rattle.std.proofs.lemmas.List.{length-map}
 use Rattle.orc_frame.specs.declared.frame.Layout.{Layout}
-use Rattle.orc_frame.specs.Layout.{displacements, pattern_slot, sum_slot, layout_of}
+use Rattle.orc_frame.specs.Layout.{displacements, frame_size, pattern_slot, sum_slot, row_slot, rows_slot, layout_of}
 use Rattle.orc_frame.specs.Frame.{IsLayout}
 use Rattle.orc_frame.proofs.Facts.{facts}
 use Rattle.std.proofs.Math.Facts.{to_z_pos, Fits-of_lt}
@@ -17,7 +17,7 @@ there : (slot : ℕ → ℕ) (n k : ℕ) (d : ℤ) → k < n → get_or (displac
 there slot n k d l = get_or-map-range_with_len (λ j. pos (slot j)) 0 n k k d l (omega arith)
 
 -- a number that a layout holds is read as it is
-read : (n : ℕ) (z : ℤ) → n < 1024 → z ≡ pos n → to_z w32 (of_z w32 z) ≡ pos n
+read : (n : ℕ) (z : ℤ) → n < frame_size → z ≡ pos n → to_z w32 (of_z w32 z) ≡ pos n
 read n z l e = ap (λ x. to_z w32 (of_z w32 x)) e ∙ to_z_pos w32 (let h : n < 2 ^ 31 = omega (arith, l) in h)
 
 pub pattern_there : (l : Layout) (xs : List ℤ) (k : ℕ) → xs ≡ l.pattern_at.items → IsLayout l → k < length l.patterns.items → k < length xs
@@ -49,3 +49,13 @@ pattern_near l k h lk = let few = (facts l h).few_patterns in Fits-of_lt {w = w6
 
 pub sum_near : (l : Layout) (k : ℕ) → IsLayout l → k < length l.acc_sizes.items → Fits w64 (k * 4)
 sum_near l k h lk = let few = (facts l h).few_sums in Fits-of_lt {w = w64} (let n : k * 4 < 2 ^ 64 = omega (arith, lk, few) in n)
+
+pub row_is : (l : Layout) (k : ℕ) → IsLayout l → k < 12 → to_z w32 (of_z w32 (slice_index_or l.row_at k (pos 0))) ≡ pos (row_slot k)
+unfolding layout_of
+row_is l k h lk =
+    read (row_slot k) (slice_index_or l.row_at k (pos 0)) (omega (arith, lk))
+    (subst (λ (y : Layout). slice_index_or y.row_at k (pos 0) ≡ pos (row_slot k)) (sym h.2) (there row_slot 12 k (pos 0) lk))
+
+pub rows_is : (l : Layout) → IsLayout l → to_z w32 (of_z w32 l.rows_at) ≡ pos rows_slot
+unfolding layout_of
+rows_is l h = read rows_slot l.rows_at (omega arith) (ap (λ (y : Layout). y.rows_at) h.2)

@@ -190,16 +190,16 @@ module _ (l : Layout) (is : IsLayout l) (v : ℕ → ℕ) (running : ℕ → Lis
   to_rax size t is w h small = by_size (λ n. lane n 0 (w.xmm 0) ≡ t → Counted t (to_rax_code n) w) (two_to_rax t w h small) (four_to_rax t w h) size is
 
   -- RAX goes to the word
-  store_sum : (g t : ℕ) → g < count → (c : Core) → Out c → c.gpr 0 ≡ t → (d : Core) × Line Q (Store 0 (away 7 (sum_word g)) ∷ []) c d × Wrote (s.gpr 7 + 272 + 8 * g) 8 (λ q. t / 256 ^ q % 256) c d × Out d
+  store_sum : (g t : ℕ) → g < count → (c : Core) → Out c → c.gpr 0 ≡ t → (d : Core) × Line Q (Store 0 (away 7 (sum_word g)) ∷ []) c d × Wrote (s.gpr 7 + sum_word 0 + 8 * g) 8 (λ q. t / 256 ^ q % 256) c d × Out d
   store_sum g t l' c h e =
       let few = known.few_sums in
       let low = en.block_low in
       let at = s.gpr 7 + sum_word g in
-      let at_is : at ≡ s.gpr 7 + 272 + 8 * g = omega arith in
+      let at_is : at ≡ s.gpr 7 + sum_word 0 + 8 * g = omega arith in
       let f = byte_of 8 (c.gpr 0) in
       let d : Core = with_memory c (fill 8 c.memory at f) in
       let does : work (Store 0 (away 7 (sum_word g))) c ≡ Ok d = store_word c 0 7 (s.gpr 7) (sum_word g) (h.gpr 7 (not_0 7 (omega arith))) (omega (arith, low, l', few)) (λ x a b. h.block x (omega (arith, a), omega (arith, b, l', few))) in
-      let w : Wrote (s.gpr 7 + 272 + 8 * g) 8 (λ q. t / 256 ^ q % 256) c d = filled (s.gpr 7 + 272 + 8 * g) 8 f (λ q. t / 256 ^ q % 256) c d (omega (arith, low, l', few)) (ap (λ a. fill 8 c.memory a f) at_is) (λ q m. byte_in (c.gpr 0) q m ∙ ap (λ k. k / 256 ^ q % 256) e) in (
+      let w : Wrote (s.gpr 7 + sum_word 0 + 8 * g) 8 (λ q. t / 256 ^ q % 256) c d = filled (s.gpr 7 + sum_word 0 + 8 * g) 8 f (λ q. t / 256 ^ q % 256) c d (omega (arith, low, l', few)) (ap (λ a. fill 8 c.memory a f) at_is) (λ q m. byte_in (c.gpr 0) q m ∙ ap (λ k. k / 256 ^ q % 256) e) in (
         d,
         (near c h, (d, does, refl)),
         w,
@@ -211,7 +211,7 @@ module _ (l : Layout) (is : IsLayout l) (v : ℕ → ℕ) (running : ℕ → Lis
       )
 
   -- one sum
-  sum_piece : (g : ℕ) → g < count → (c : Core) → Out c → (d : Core) × Line Q (store_code l g) c d × Wrote (s.gpr 7 + 272 + 8 * g) 8 (λ q. value g / 256 ^ q % 256) c d × Out d
+  sum_piece : (g : ℕ) → g < count → (c : Core) → Out c → (d : Core) × Line Q (store_code l g) c d × Wrote (s.gpr 7 + sum_word 0 + 8 * g) 8 (λ q. value g / 256 ^ q % 256) c d × Out d
   sum_piece g l' c h =
       let size = acc_size l g in
       let sized = known.sizes g l' in
@@ -308,7 +308,7 @@ module _ (l : Layout) (is : IsLayout l) (v : ℕ → ℕ) (running : ℕ → Lis
   epilogue_leads =
       let few = known.few_sums in
       let low = en.block_low in
-      let x = joined_line Q Out (s.gpr 7 + 272) 8 count (λ g q. value g / 256 ^ q % 256) (store_code l) sum_piece count (omega arith) s begin in
+      let x = joined_line Q Out (s.gpr 7 + sum_word 0) 8 count (λ g q. value g / 256 ^ q % 256) (store_code l) sum_piece count (omega arith) s begin in
       let u : Core = x.0 in
       let y = restore_all u x.3 in
       let d : Core = y.0 in (
@@ -319,7 +319,7 @@ module _ (l : Layout) (is : IsLayout l) (v : ℕ → ℕ) (running : ℕ → Lis
           restored = y.2.restored;
           others = y.2.others;
           words = λ g i. word_value d.memory (s.gpr 7 + sum_word g) (value g) (omega (arith, low, i, few)) (cut_small (acc_size l g) (sum_of (acc_size l g) (running g)) (known.sizes g i))
-              (λ q m. ap (λ f. f (s.gpr 7 + sum_word g + q)) y.2.memory ∙ ap u.memory (let e : s.gpr 7 + sum_word g + q ≡ s.gpr 7 + 272 + 8 * g + q = omega arith in e) ∙ x.2.bytes g i q m);
+              (λ q m. ap (λ f. f (s.gpr 7 + sum_word g + q)) y.2.memory ∙ ap u.memory (let e : s.gpr 7 + sum_word g + q ≡ s.gpr 7 + sum_word 0 + 8 * g + q = omega arith in e) ∙ x.2.bytes g i q m);
           outside = λ t out. ap (λ f. f t) y.2.memory ∙ x.3.outside t out;
         },
       )

@@ -1,6 +1,6 @@
 -- The places of a function's parameters and accumulators, and how many there are.
 use Rattle.std.proofs.Common.{◌≡◌, ℕ, suc, ◌+◌, ◌<◌, ◌≤◌, ℤ, pos, true, false, List, [], ◌∷◌, ◌++◌, length, map, refl, sym, ap, ◌∙◌, arith}
-use Rattle.std.proofs.lemmas.List.{map-append}
+use Rattle.std.proofs.lemmas.List.{map-append, length-map}
 use Rattle.std.proofs.lemmas.List.FromFn.{map-range_with_len_more, length-map-range_with_len}
 use Rattle.orc_program.specs.declared.program.Var.{Var}
 use Rattle.orc_program.specs.declared.program.VarKind.{VarKind}
@@ -11,12 +11,8 @@ use Rattle.orc_program.specs.Checks.{patterns_of}
 use Rattle.orc_program.proofs.Sizes.{kept_of}
 use Rattle.orc_program.proofs.Counts.{few_vars}
 use Rattle.orc_program.proofs.PatternLaws.{patterns_few}
-use Rattle.orc_program.proofs.Places as lower
 use Rattle.orc_program.proofs.Places.{places_before, places_first, places_last, places_yes, places_no, places_room}
 use Rattle.orc_frame.specs.Layout.{acc_sizes_of, displacements}
-
-pub length-places_of : (k : VarKind) (vars : List Var) → length (places_of k vars) ≡ count_of k vars
-length-places_of k vars = lower.length-places_of k vars
 
 -- ---- sizes
 
@@ -42,13 +38,9 @@ pub sizes_no : (vars : List Var) (i : ℕ) → is_of kind.Accumulator (var_at va
 unfolding sizes_before
 sizes_no vars i h = ap (map (λ p. (var_at vars p).size)) (places_no kind.Accumulator vars i h)
 
-pub length-map : {X Y : Type 0} (f : X → Y) (xs : List X) → length (map f xs) ≡ length xs
-length-map f [] = refl
-length-map f (x ∷ xs) = ap suc (length-map f xs)
-
 pub sizes_room : (vars : List Var) (i : ℕ) → i < length vars → is_of kind.Accumulator (var_at vars i) ≡ true → length (sizes_before vars i) < count_of kind.Accumulator vars
 unfolding sizes_before
-sizes_room vars i l e = omega (arith, places_room kind.Accumulator vars i l e, length-map (λ p. (var_at vars p).size) (places_before kind.Accumulator vars i))
+sizes_room vars i l e = omega (arith, places_room kind.Accumulator vars i l e, length-map (places_before kind.Accumulator vars i) (λ p. (var_at vars p).size))
 
 -- ---- displacements
 

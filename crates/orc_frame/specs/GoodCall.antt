@@ -4,7 +4,7 @@ use Rattle.orc_bits.specs.Memory.{IsMapped, word}
 use Rattle.x86_ins.specs.Machine.{Core, Point, Bounded}
 use Rattle.x86_ins.specs.Way.{Placed}
 use Rattle.orc_frame.specs.Layout.{frame_size}
-use Rattle.orc_frame.specs.Parts.{InFrame, InReturn, InBlock, InCode, block_size, base_word, stride_word, param_word}
+use Rattle.orc_frame.specs.Parts.{InFrame, InReturn, InBlock, InCode, block_size, rows_word, base_word, stride_word, param_word}
 use Rattle.orc_frame.specs.Subject.{Call, Subject, IsArray}
 
 -- RSP, lowered by the bytes of the frame
@@ -14,7 +14,7 @@ lowered c = c.gpr 4 - frame_size
 -- the block has the call's words
 pub record ReadsCall (f : Subject) (c : Core) (call : Call) : Type 0 where
   pub n : word c.memory (c.gpr 7) ≡ Some call.n
-  pub m : word c.memory (c.gpr 7 + 8) ≡ Some call.m
+  pub m : word c.memory (c.gpr 7 + rows_word) ≡ Some call.m
   pub bases : (k : ℕ) → IsArray f k → word c.memory (c.gpr 7 + base_word k) ≡ Some (call.base k)
   pub strides : (k : ℕ) → IsArray f k → word c.memory (c.gpr 7 + stride_word k) ≡ Some (call.stride k)
   pub params : (j : ℕ) → j < f.params → word c.memory (c.gpr 7 + param_word j) ≡ Some (call.param j)

@@ -37,6 +37,10 @@ block_slot = 976
 abbrev pub rows_slot : ℕ
 rows_slot = 984
 
+-- of the word in which the elements that are left in a row's body wait while its head is done
+abbrev pub left_slot : ℕ
+left_slot = 992
+
 -- ---- the layout of a function
 
 -- the first n of such displacements
@@ -73,7 +77,7 @@ abbrev pub with_size : ℕ → List ℤ → List (ℤ × ℕ)
 with_size n at = map (λ z. (z, n)) at
 
 abbrev pub slots_of : Layout → List (ℤ × ℕ)
-slots_of l = with_size 16 l.pattern_at.items ++ (with_size 16 l.sum_at.items ++ (with_size 8 l.saved_at ++ (with_size 8 l.row_at ++ (l.block_at, 8) ∷ (l.rows_at, 8) ∷ [])))
+slots_of l = with_size 16 l.pattern_at.items ++ (with_size 16 l.sum_at.items ++ (with_size 8 l.saved_at ++ (with_size 8 l.row_at ++ (l.block_at, 8) ∷ (l.rows_at, 8) ∷ (pos left_slot, 8) ∷ [])))
 
 -- from a displacement on, each slot ends where or before the next begins, and the last within the frame
 abbrev pub LieApart : ℤ → List (ℤ × ℕ) → Type 0

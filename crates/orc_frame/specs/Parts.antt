@@ -25,7 +25,13 @@ block_size = 304
 abbrev pub InBlock : ℕ → ℕ → Type 0
 InBlock rdi = Between rdi (rdi + block_size)
 
--- the displacements in the block of the words of an array slot's base and stride, of parameter j and of accumulator g
+-- the displacements in the block of the words of n and m, of an array slot's base and stride, of parameter j and of accumulator g
+abbrev pub elements_word : ℕ
+elements_word = 0
+
+abbrev pub rows_word : ℕ
+rows_word = 8
+
 abbrev pub base_word : ℕ → ℕ
 base_word k = 16 + 16 * k
 

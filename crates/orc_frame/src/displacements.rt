@@ -2,7 +2,7 @@
 
 ghost use Rattle.std.specs.Prelude.{◌≡◌, ◌<◌, length, pos};
 ghost use Rattle.orc_frame.specs.Frame.{IsLayout};
-ghost use Rattle.orc_frame.specs.Layout.{pattern_slot, sum_slot};
+ghost use Rattle.orc_frame.specs.Layout.{pattern_slot, sum_slot, row_slot, rows_slot};
 
 use crate::frame::Layout;
 
@@ -22,4 +22,21 @@ pub fn sum_at(layout: &Layout, number: usize) -> i32
     ensures { result ≡ pos (sum_slot number) }
 {
     layout.sum_at.as_slice()[number]
+}
+
+/// Where the word of the base of an array slot's row is.
+pub fn row_at(layout: &Layout, slot: usize) -> i32
+    requires layout { IsLayout layout.now }
+    requires inside { slot < 12 }
+    ensures { result ≡ pos (row_slot slot) }
+{
+    layout.row_at[slot]
+}
+
+/// Where the word of the rows left is.
+pub fn rows_at(layout: &Layout) -> i32
+    requires { IsLayout layout.now }
+    ensures { result ≡ pos rows_slot }
+{
+    layout.rows_at
 }

@@ -12,11 +12,9 @@ ghost use Rattle.orc_frame.specs.Code.{IsWhole, joined, save_code, pattern_code,
 
 use crate::frame::Layout;
 use crate::pushes::{BLOCK, STACK, push_constant, push_pattern, push_sum, saved, slot};
+use crate::slots::FRAME_SIZE;
 use std::alloc::{AllocError, Global};
 use x86_ins::{AluOp, Ins, InsList};
-
-/// The bytes of the frame.
-const FRAME: i32 = 1024;
 
 /// The code that lowers RSP, saves registers and the block's address, fills patterns and clears running sums. It uses RAX and XMM0.
 pub fn prologue(alloc: Global, l: &Layout) -> Result<InsList, AllocError>
@@ -78,7 +76,7 @@ fn moved_stack(op: AluOp) -> Ins
     Ins::AluImm {
         op,
         dst: STACK,
-        value: FRAME,
+        value: FRAME_SIZE as i32,
     }
 }
 

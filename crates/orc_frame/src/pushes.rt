@@ -6,6 +6,7 @@ ghost use Rattle.orc_frame.specs.Layout.{index_in, frame_size};
 ghost use Rattle.orc_frame.specs.Frame.{saved};
 ghost use Rattle.orc_frame.specs.Code.{slot, repeated, twice_code, constant_code, spread_code, spread_to_code, param_code, fill_code, is_narrow, add_down_code, total_code, to_rax_code, sum_code};
 
+use crate::words::{param_word, sum_word};
 use orc_program::{Operand, Pattern};
 use std::alloc::AllocError;
 use x86_flow::{SCRATCH, away};
@@ -23,7 +24,7 @@ const FIRST: Xmm = Xmm { number: 0 };
 /// Takes the lanes that are moved down: XMM1.
 const SECOND: Xmm = Xmm { number: 1 };
 
-/// The address of a slot.
+/// The address of a slot of the frame, by its displacement from RSP.
 pub fn slot(at: i32) -> Addr
     ensures { result ≡ slot at }
 {
@@ -139,7 +140,7 @@ fn push_param(list: &mut InsList, way: u8, number: usize, at: i32) -> Result<(),
 {
     list.push(Ins::Load {
         dst: SCRATCH,
-        at: away(BLOCK, 208 + 8 * number),
+        at: away(BLOCK, param_word(number)),
     })?;
     if matches!(way, 1 | 2 | 4) {
         push_spread_to(list, way, at)
@@ -248,6 +249,6 @@ pub fn push_sum(list: &mut InsList, size: u8, at: i32, number: usize) -> Result<
     push_to_rax(list, size)?;
     list.push(Ins::Store {
         src: SCRATCH,
-        at: away(BLOCK, 272 + 8 * number),
+        at: away(BLOCK, sum_word(number)),
     })
 }

@@ -9,6 +9,12 @@ use arrayvec::ArrayVec;
 use orc_program::variables::same_kind;
 use orc_program::{Function, Var, VarKind, patterns};
 
+/// The bytes of the frame.
+pub const FRAME_SIZE: usize = 1024;
+
+/// The displacement of the word in which the elements that are left in a row's body wait while its head is done.
+pub const LEFT_AT: i32 = 992;
+
 /// Gives each number of a function its slot in the frame.
 #[tactic(auto, using(crate::proofs::Places::limits))]
 pub fn layout(f: &Function) -> Layout

@@ -15,7 +15,8 @@ use Rattle.orc_program.specs.Kept.{is_function}
 use Rattle.orc_program.specs.Meaning.{emulate, start, rows_of, sums_of}
 use Rattle.orc_program.specs.Meaning.{rows as call_rows, ended as ended_call}
 use Rattle.orc_program.proofs.Steps.{go_on_ok, ok_same}
-use Rattle.orc_frame.proofs.Places.{length-places_of, length-map}
+use Rattle.std.proofs.lemmas.List.{length-map}
+use Rattle.orc_program.proofs.Places.{length-places_of}
 use Rattle.orc_program.specs.Cut.{IsCut, IsCell, IsDestCell, AddsUp, rect_at, total}
 use Rattle.orc_program.proofs.Cutting.{parts_add_up}
 use Rattle.orc_frame.specs.Parts.{InBlock, InFrame, InSums, sum_word}
@@ -250,7 +251,7 @@ module _ (f : FunctionValue) (kept : is_function f ≡ true) (call : Call) (rect
     sums_count means =
         let u = go_on_ok (rows_of f call (call_rows f call) (start w.memory)) (ended_call f) total_end means in
         ap (λ (x : Memory × List ℕ). length x.1) (sym (ok_same (u.0.memory, sums_of f u.0) total_end u.2))
-        ∙ length-map u.0.sums (places_of kind.Accumulator f.vars) ∙ length-places_of kind.Accumulator f.vars
+        ∙ length-map (places_of kind.Accumulator f.vars) u.0.sums ∙ length-places_of kind.Accumulator f.vars
 
     as_one : emulate f call w.memory ≡ Ok total_end → PlaysAsOne f call rects schedule w v
     as_one means = record {

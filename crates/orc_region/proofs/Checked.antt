@@ -3,12 +3,10 @@ pub mod Passing
 pub mod Building
 pub mod Sized
 pub mod Several
-pub mod Uses
 pub mod Direct
 pub mod Acts
 pub mod Knows
 pub mod Numbered
 pub mod Slots
-pub mod Places
 pub mod Layouts
 pub mod Fits

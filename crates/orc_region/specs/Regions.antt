@@ -7,12 +7,9 @@ use Rattle.x86_ins.specs.declared.ins.Ins.{Ins}
 use Rattle.x86_ins.specs.declared.ins.Ins.TheVariants.{Load, Store, Move, MovImm, Alu, AluImm, Shift, Test}
 use Rattle.x86_flow.specs.Flow.{Flow, Plain, Chain, Choice, Repeat}
 use Rattle.x86_flow.specs.Moves.{away}
+use Rattle.orc_frame.specs.Layout.{left_slot}
 
 -- ---- RCX counts, RAX is scratch, and RDX is the pointer of the first dest
-
--- the word of the frame in which the count of the body waits while the head is done, so far from RSP
-abbrev pub left_word : ℕ
-left_word = 992
 
 -- more than a row has elements
 abbrev pub never : ℕ
@@ -45,10 +42,10 @@ behind_code lanes = Alu Sub 1 0 ∷ AluImm Sub 1 (pos lanes) ∷ []
 
 -- RCX counts the elements of the gap
 abbrev pub enter_head_code : List Ins
-enter_head_code = Store 1 (away 4 left_word) ∷ Move 1 0 ∷ Test 1 1 ∷ []
+enter_head_code = Store 1 (away 4 left_slot) ∷ Move 1 0 ∷ Test 1 1 ∷ []
 
 abbrev pub leave_head_code : List Ins
-leave_head_code = Load 1 (away 4 left_word) ∷ Test 1 1 ∷ []
+leave_head_code = Load 1 (away 4 left_slot) ∷ Test 1 1 ∷ []
 
 -- single elements to the boundary, and then several at once with aligned stores
 abbrev pub reached_flow : Flow → Flow → Flow

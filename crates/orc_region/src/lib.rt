@@ -12,5 +12,5 @@ mod rules;
 mod span;
 mod turns;
 
-pub use lists::{BLOCK, COUNTER, STACK, pointer};
+pub use lists::{COUNTER, pointer};
 pub use turns::{Counts, counts_of, elements};

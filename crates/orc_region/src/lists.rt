@@ -15,7 +15,7 @@ ghost use Rattle.orc_region.specs.Code.{HasRule, pointer, place_register, aligne
 use crate::homes::{Homes, homes_of, names_of, place_register};
 use crate::rules::rule;
 use crate::span::Span;
-use orc_frame::{Layout, pattern_at, sum_at};
+use orc_frame::{Layout, STACK, pattern_at, sum_at};
 use orc_ops::Op;
 use orc_plan::{Item, Step, place_of};
 use std::alloc::AllocError;
@@ -24,12 +24,6 @@ use x86_ins::{Addr, AluOp, Gpr, Ins, InsList, MoveOp, VecOp, Xmm, allowed, renam
 
 /// Counts the elements that are left: RCX.
 pub const COUNTER: Gpr = Gpr { number: 1 };
-
-/// RSP.
-pub const STACK: Gpr = Gpr { number: 4 };
-
-/// Points at the argument block: RDI.
-pub const BLOCK: Gpr = Gpr { number: 7 };
 
 /// Holds a first result that is stored: XMM0.
 const FIRST: Xmm = Xmm { number: 0 };

@@ -6,28 +6,18 @@ ghost use Rattle.x86_ins.specs.declared.ins.AluOp.TheVariants.{Add};
 ghost use Rattle.x86_ins.specs.declared.ins.Ins.TheVariants.{Alu, AluImm};
 ghost use Rattle.x86_ins.specs.declared.ins.Cond.TheVariants.{Ne};
 ghost use Rattle.x86_flow.specs.Flow.{Plain, flat, loop_code};
-ghost use Rattle.x86_flow.specs.Moves.{away};
 ghost use Rattle.x86_flow.specs.Tree.{flat_of};
-ghost use Rattle.orc_region.specs.Regions.{left_word, gap_code, gap_flow, low_bits_code, behind_code, enter_head_code, leave_head_code, tail_flow, aligned_row, plain_row, wide_loops};
+ghost use Rattle.orc_region.specs.Regions.{gap_code, gap_flow, low_bits_code, behind_code, enter_head_code, leave_head_code, tail_flow, aligned_row, plain_row};
 
-use crate::lists::{COUNTER, STACK, pointer};
+use crate::lists::{COUNTER, pointer};
+use orc_frame::{LEFT_AT, slot};
 use std::alloc::{AllocError, Global};
 use x86_flow::tree::{Flow, chain, choice, plain, repeat};
-use x86_flow::{Block, SCRATCH, away};
-use x86_ins::{Addr, AluOp, Cond, Ins, InsList, ShiftOp};
-
-/// Where the body's count waits while the head is done, in bytes above RSP.
-const LEFT: usize = 992;
+use x86_flow::{Block, SCRATCH};
+use x86_ins::{AluOp, Cond, Ins, InsList, ShiftOp};
 
 /// More elements than a row has.
 const NEVER: u64 = 1 << 31;
-
-/// The word in which the body's count waits.
-fn left() -> Addr
-    ensures { result ≡ away 4 left_word }
-{
-    away(STACK, LEFT)
-}
 
 /// Leaves in RAX how many elements of `1 << shift` bytes are before the first dest's next multiple of 16.
 #[tactic(auto, using(crate::proofs::Built::Loops::gap_zero, crate::proofs::Built::Loops::gap_more))]
@@ -143,7 +133,7 @@ fn enter_head_list(alloc: Global) -> Result<InsList, AllocError>
     let mut list = InsList::new(alloc);
     list.push(Ins::Store {
         src: COUNTER,
-        at: left(),
+        at: slot(LEFT_AT),
     })?;
     list.push(Ins::Move {
         dst: COUNTER,
@@ -163,7 +153,7 @@ fn leave_head_list(alloc: Global) -> Result<InsList, AllocError>
     let mut list = InsList::new(alloc);
     list.push(Ins::Load {
         dst: COUNTER,
-        at: left(),
+        at: slot(LEFT_AT),
     })?;
     list.push(Ins::Test {
         a: COUNTER,
@@ -264,26 +254,4 @@ pub fn plain_loops(alloc: Global, lanes: usize, wide: Flow, tail: Block) -> Resu
     let last = rest(alloc, lanes, tail)?;
     let turns = chain(alloc, wide, last)?;
     chain(alloc, less, turns)
-}
-
-/// Turns of `more` elements, and then turns of `lanes`.
-#[tactic(auto, using(crate::proofs::Built::Loops::spelled_one))]
-pub fn wide_loops(
-    alloc: Global,
-    lanes: usize,
-    more: usize,
-    large: Block,
-    turn: Block,
-) -> Result<Flow, AllocError>
-    requires lanes { lanes ≤ more }
-    requires more { more ≤ 64 }
-    ensures { IfOk result (λ flow. flat_of flow ≡ flat (wide_loops lanes more (Plain large.list) (Plain turn.list))) }
-{
-    let down = of(counted(alloc, AluOp::Sub, more - lanes)?);
-    let most = repeat(alloc, Cond::Ns, plain(large))?;
-    let up = of(counted(alloc, AluOp::Add, more - lanes)?);
-    let few = repeat(alloc, Cond::Ns, plain(turn))?;
-    let first = chain(alloc, down, most)?;
-    let second = chain(alloc, up, few)?;
-    chain(alloc, first, second)
 }

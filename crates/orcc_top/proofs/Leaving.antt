@@ -9,6 +9,7 @@ use Rattle.std.proofs.lemmas.List.{length-replicate}
 use Rattle.orc_bits.specs.declared.parts.Part.{Part}
 use Rattle.orc_bits.specs.Memory.{Memory, IsMapped}
 use Rattle.orc_bits.specs.Parts.{Span, span, layout, covers, memory_of}
+use Rattle.orc_frame.specs.Parts.{block_size, base_word, param_word}
 use Rattle.orc_job.specs.declared.job.Job.{Job}
 use Rattle.orc_job.specs.Forms.{is_within}
 use Rattle.orc_job.specs.Kept.{IsJob}
@@ -68,11 +69,11 @@ segments_mapped dests job k = all_mapped job.memory _ k.within
 padded_long : (size : ℕ) (bytes : List ℕ) → size ≤ length (padded size bytes)
 padded_long size bytes = omega (arith, length-append bytes (replicate (size - length bytes) 0), length-replicate {A = ℕ} (size - length bytes) 0)
 
-block_long : (dests : ℕ) (job : Job) → 304 ≤ length (block_bytes dests job.call)
+block_long : (dests : ℕ) (job : Job) → block_size ≤ length (block_bytes dests job.call)
 unfolding block_bytes
-block_long dests job = padded_long 304 (padded 208 (padded 80 (word_bytes job.call.n ++ (word_bytes job.call.m ++ places_bytes (take dests job.call.arrays.items))) ++ places_bytes (drop dests job.call.arrays.items)) ++ words_bytes job.call.params.items)
+block_long dests job = padded_long block_size (padded (param_word 0) (padded (base_word 4) (word_bytes job.call.n ++ (word_bytes job.call.m ++ places_bytes (take dests job.call.arrays.items))) ++ places_bytes (drop dests job.call.arrays.items)) ++ words_bytes job.call.params.items)
 
-pub block_mapped : (dests : ℕ) (job : Job) (i : ℕ) → i < 304 → IsMapped (memory_of (placed_parts dests job)) (block_at + i)
+pub block_mapped : (dests : ℕ) (job : Job) (i : ℕ) → i < block_size → IsMapped (memory_of (placed_parts dests job)) (block_at + i)
 unfolding placed_parts
 block_mapped dests job i lt = behind_covers job.memory _ _ i (omega (arith, lt, block_long dests job))
 
@@ -138,7 +139,7 @@ segments_kept dests job code stop budget s t e k is h =
     let first : AreMapped s.core.memory job.memory = subst (λ (p : Point). AreMapped p.core.memory job.memory) (sym is) (segments_mapped dests job k) in
     all_kept s.core.memory t.core.memory job.memory (run_keeps code stop budget s t e h) first
 
-pub block_kept : (dests : ℕ) (job : Job) (code : Placed) (stop : Stop) (budget : ℕ) (s t : Point) (e : End) → s ≡ start dests job → EndsAt code stop budget s e t → (i : ℕ) → i < 304 → IsMapped t.core.memory (block_at + i)
+pub block_kept : (dests : ℕ) (job : Job) (code : Placed) (stop : Stop) (budget : ℕ) (s t : Point) (e : End) → s ≡ start dests job → EndsAt code stop budget s e t → (i : ℕ) → i < block_size → IsMapped t.core.memory (block_at + i)
 block_kept dests job code stop budget s t e is h i lt =
     let first : IsMapped s.core.memory (block_at + i) = subst (λ (p : Point). IsMapped p.core.memory (block_at + i)) (sym is) (block_mapped dests job i lt) in
     run_keeps code stop budget s t e h (block_at + i) first

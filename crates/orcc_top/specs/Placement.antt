@@ -6,6 +6,7 @@ use Rattle.orc_bits.specs.Parts.{memory_of}
 use Rattle.orc_program.specs.declared.call.Call.{Call}
 use Rattle.orc_program.specs.declared.call.Place.{Place}
 use Rattle.orc_frame.specs.Layout.{frame_size}
+use Rattle.orc_frame.specs.Parts.{block_size, base_word, param_word}
 use Rattle.orc_image.specs.Spelling.{FunctionValue}
 use Rattle.orc_job.specs.declared.job.Job.{Job}
 use Rattle.x86_ins.specs.declared.state.State.{State}
@@ -56,9 +57,9 @@ places_bytes (p ∷ ps) = place_bytes p ++ places_bytes ps
 abbrev pub padded : ℕ → List ℕ → List ℕ
 padded size bytes = bytes ++ replicate (size - length bytes) 0
 
--- the argument block: n, m, the places of dests from byte 16 on and those of sources from byte 80 on, the parameters from byte 208 on, and 0 elsewhere
+-- the argument block: n, m and the places of dests; the places of sources, whose slots begin with 4, and the parameters, each from their first word on; and 0 elsewhere
 unfoldable pub block_bytes : ℕ → Call → List ℕ
-block_bytes dests call = padded 304 (padded 208 (padded 80 (word_bytes call.n ++ (word_bytes call.m ++ places_bytes (take dests call.arrays.items))) ++ places_bytes (drop dests call.arrays.items)) ++ words_bytes call.params.items)
+block_bytes dests call = padded block_size (padded (param_word 0) (padded (base_word 4) (word_bytes call.n ++ (word_bytes call.m ++ places_bytes (take dests call.arrays.items))) ++ places_bytes (drop dests call.arrays.items)) ++ words_bytes call.params.items)
 
 unfoldable pub frame_bytes : List ℕ
 frame_bytes = replicate frame_size filler

@@ -4,6 +4,7 @@ ghost use Rattle.std.specs.List.{find};
 ghost use Rattle.std.specs.Str.{bytes_eq};
 ghost use Rattle.orc_bits.specs.Memory.{IsMapped, word};
 ghost use Rattle.orc_bits.specs.Parts.{span, memory_of};
+ghost use Rattle.orc_frame.specs.Parts.{block_size};
 ghost use Rattle.orc_image.specs.Spelling.{IsFunction, ImageBegins};
 ghost use Rattle.orc_job.specs.Kept.{IsJob};
 ghost use Rattle.orc_job.specs.Told.{UnlessMemory};
@@ -11,6 +12,7 @@ ghost use Rattle.orcc_top.specs.Emulation.{IsPartOf, AreNow};
 ghost use Rattle.orcc_top.specs.Execution.{AreSums, Ran, RunsTo, end_line, entry_called, refusal_on_image};
 ghost use Rattle.orcc_top.specs.Jobs.{job_refusal};
 ghost use Rattle.orcc_top.specs.Replies.{Replies};
+ghost use Rattle.orcc_top.specs.Placement.{block_at};
 ghost use Rattle.orcc_top.specs.Mapped.{IsMappedPart, AreMapped};
 
 use crate::calling::job_of;
@@ -20,15 +22,13 @@ use crate::refusal::{Refusal, line_of};
 use crate::reply::Reply;
 use orc_bits::{Part, Parts};
 use orc_emul::Accs;
+use orc_frame::sum_word;
 use orc_image::{Image, ImageError, ImageFunction, read_image};
 use orc_job::{EndLine, Field, Job, JobError, Outcome, fit, print_result};
 use sqlite_items::Items;
 use std::alloc::{AllocError, Global};
 use x86_ins::state::Bytes;
 use x86_machine::{End, Segments, run};
-
-/// Where the words of the accumulators begin in the argument block.
-const SUMS: u64 = 272;
 
 /// The byte at an address that is mapped.
 fn byte_at(memory: &Segments, at: u64) -> u8
@@ -62,12 +62,12 @@ fn word_at(memory: &Segments, at: u64) -> u64
 /// The words of so many accumulators.
 fn sums_of(memory: &Segments, count: u8) -> Accs
     requires few { count ≤ 4 }
-    requires mapped { (i : ℕ) → i < 304 → IsMapped (memory_of memory.now) (0x700000000000 + i) }
+    requires mapped { (i : ℕ) → i < block_size → IsMapped (memory_of memory.now) (block_at + i) }
     ensures { AreSums (memory_of memory.now) count result.items }
 {
     let mut sums = Accs::new();
     for g in 0..count {
-        sums.push(word_at(memory, BLOCK + SUMS + 8 * u64::from(g)));
+        sums.push(word_at(memory, BLOCK + sum_word(usize::from(g)) as u64));
     }
     sums
 }

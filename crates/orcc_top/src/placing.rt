@@ -8,6 +8,7 @@ ghost use Rattle.x86_machine.specs.Ends.{code_of, point, stop_of};
 ghost use Rattle.orcc_top.specs.Placement.{stack_at, return_to, word_bytes, frame_bytes, words_bytes, place_bytes, places_bytes, padded, block_bytes, placed_parts, start_state, start, placed_code, stop};
 
 use orc_bits::{Part, Parts};
+use orc_frame::{BLOCK_SIZE, FRAME_SIZE, base_word, param_word};
 use orc_image::ImageFunction;
 use orc_job::Job;
 use orc_program::{Call, Place};
@@ -28,8 +29,8 @@ const STACK: u64 = 0x7000_0001_0000;
 /// The value of the return word.
 const RETURN: u64 = 0x7f00_0000_0000;
 
-/// The bytes of the frame, which ends where the return word begins.
-const FRAME: usize = 1024;
+/// The array slot of the first source.
+const FIRST_SOURCE: usize = 4;
 
 /// A byte of the frame, and of each register that holds nothing else.
 const FILLER: u8 = 0xa5;
@@ -93,11 +94,11 @@ fn block_of(alloc: Global, dests: usize, call: &Call) -> Result<Items<u8>, Alloc
     put_word(&mut out, u64::from(call.n))?;
     put_word(&mut out, u64::from(call.m))?;
     put_places(&mut out, written)?;
-    pad(&mut out, 80)?;
+    pad(&mut out, base_word(FIRST_SOURCE))?;
     put_places(&mut out, read)?;
-    pad(&mut out, 208)?;
+    pad(&mut out, param_word(0))?;
     put_words(&mut out, call.params.as_slice())?;
-    pad(&mut out, 304)?;
+    pad(&mut out, BLOCK_SIZE)?;
     Ok(Items::from_vec(out))
 }
 
@@ -126,12 +127,12 @@ fn word_of(alloc: Global, word: u64) -> Result<Items<u8>, AllocError>
     Ok(Items::from_vec(out))
 }
 
-/// The bytes of the frame.
+/// The bytes of the frame, which ends where the return word begins.
 #[tactic(auto, unfolding(crate::specs::Placement::frame_bytes))]
 fn frame_of(alloc: Global) -> Result<Items<u8>, AllocError>
     ensures { IfOk result (λ bytes. bytes ≡ frame_bytes) }
 {
-    Items::from_slice(alloc, &[FILLER; FRAME])
+    Items::from_slice(alloc, &[FILLER; FRAME_SIZE])
 }
 
 /// The bytes that are mapped at the start of a job.
@@ -150,7 +151,7 @@ fn parts_of(alloc: Global, dests: usize, job: &Job) -> Result<Parts, AllocError>
         bytes: word_of(alloc, RETURN)?,
     })?;
     parts.push(Part {
-        at: STACK - FRAME as u64,
+        at: STACK - FRAME_SIZE as u64,
         bytes: frame_of(alloc)?,
     })?;
     Ok(parts)

@@ -22,15 +22,15 @@ use Rattle.orc_bits.specs.Lanes.{lane}
 use Rattle.orc_bits.proofs.LaneLaws.{lane_of_digits}
 use Rattle.sse_acc.specs.Sums.{sum_of}
 use Rattle.sse_acc.proofs.Totals.{sum_below-same}
-use Rattle.orc_frame.specs.Layout.{layout_of, pattern_slot, sum_slot, saved_slot}
+use Rattle.orc_frame.specs.Layout.{layout_of, pattern_slot, sum_slot, saved_slot, frame_size, row_slot}
 use Rattle.orc_frame.specs.Frame.{IsLayout, Prepares, Finishes, Enters, Prepared, Ends, AfterEntry, AfterRows, acc_size, no_pattern, pattern_at, pattern_byte, saved}
 use Rattle.orc_frame.specs.Frame.{number_of as held}
 use Rattle.orc_frame.proofs.Facts.{Facts, facts}
 use Rattle.orc_frame.proofs.Fills.{IsKnown}
 use Rattle.orc_frame.proofs.Apart.{length-acc_sizes_of}
-use Rattle.orc_frame.proofs.Places.{length-places_of}
+use Rattle.orc_program.proofs.Places.{length-places_of}
 use Rattle.orc_frame.specs.Subject.{Call as Arguments, InDests, rows}
-use Rattle.orc_frame.specs.Parts.{InFrame, InRunning, InBlock, InSums, param_word, sum_word}
+use Rattle.orc_frame.specs.Parts.{InFrame, InRunning, InBlock, InSums, param_word, sum_word, block_size}
 use Rattle.orc_frame.specs.GoodCall.{GoodCall}
 use Rattle.orc_frame.specs.Function.{IsCellByte, subject_of}
 use Rattle.orc_plan.specs.Lowered.{steps_of}
@@ -136,7 +136,7 @@ pub record InSum (rsp sums x : ℕ) : Type 0 where
 
 in_sum : (rsp sums x : ℕ) → InRunning rsp sums x → InSum rsp sums x
 in_sum rsp sums x h =
-    let d = x - (rsp + 768) in
+    let d = x - (rsp + sum_slot 0) in
     record { sum = d / 16; byte = d % 16; few = omega (arith, h.0, h.1); inside = omega arith; here = omega (arith, h.0) }
 
 module _ (f : FunctionValue) (at : List ℕ) (single wide aligned : List Ins) (each some : ℕ) (done : Done f at single wide aligned each some) (code : Placed) (s : Point) (args : Arguments) (back : ℕ) (good : GoodCall (subject_of f) code s args back) where
@@ -171,10 +171,10 @@ module _ (f : FunctionValue) (at : List ℕ) (single wide aligned : List Ins) (e
     pub framed : Framed numbers lowered c.memory totals
     pub agrees : Agrees f e.sums totals
 
-  stack_room : lowered + 1032 ≤ 2 ^ 47
+  stack_room : lowered + (frame_size + 8) ≤ 2 ^ 47
   stack_room = stack_low f known code s args back good
 
-  frame_low : s.core.gpr 4 ≡ lowered + 1024
+  frame_low : s.core.gpr 4 ≡ lowered + frame_size
   frame_low = (let w = good.frame_room in omega (arith, w))
 
   few_patterns : length (patterns_of f.vars f.insns) ≤ 48
@@ -187,13 +187,13 @@ module _ (f : FunctionValue) (at : List ℕ) (single wide aligned : List Ins) (e
   is_frame = record { few_patterns = few_patterns; few_sums = known.few.accs; low = (let a = stack_room in omega (arith, a)) }
 
   -- the frame's slots stay
-  module _ (c d : Core) (same : (x : ℕ) → lowered ≤ x → x < lowered + 880 → (InRunning lowered numbers.sums x → ⊥) → d.memory x ≡ c.memory x) where
+  module _ (c d : Core) (same : (x : ℕ) → lowered ≤ x → x < lowered + row_slot 0 → (InRunning lowered numbers.sums x → ⊥) → d.memory x ≡ c.memory x) where
     words_stay : ((j : ℕ) → j < 6 → word c.memory (lowered + saved_slot j) ≡ Some (s.core.gpr (saved j))) → (j : ℕ) → j < 6 → word d.memory (lowered + saved_slot j) ≡ Some (s.core.gpr (saved j))
     words_stay h j l = word_same d.memory c.memory (lowered + saved_slot j) (omega (arith, stack_room, l)) (λ x a b. same x (omega (arith, a)) (omega (arith, b, l)) (λ i. omega (arith, i.1, a, known.few.accs))) ∙ h j l
 
   kept_on : (e : State) (c d : Core) → Kept e c → ((x : ℕ) → (InRows lowered (s.core.gpr 7) (stack_low f known code s args back good) good.block_low x → ⊥) → d.memory x ≡ c.memory x) → Kept e d
   kept_on e c d h same =
-      let at : (x : ℕ) → lowered ≤ x → x < lowered + 880 → d.memory x ≡ c.memory x = λ x l u. same x (λ i. omega (arith, i.0, u)) in
+      let at : (x : ℕ) → lowered ≤ x → x < lowered + row_slot 0 → d.memory x ≡ c.memory x = λ x l u. same x (λ i. omega (arith, i.0, u)) in
       record {
         saved_words = words_stay c d (λ x l u n. at x l u) h.saved_words;
         totals = h.totals;
@@ -210,10 +210,10 @@ module _ (f : FunctionValue) (at : List ℕ) (single wide aligned : List Ins) (e
   dest_frame : (a : ℕ) → Dests a → Frame a → ⊥
   dest_frame a w h = cell_frame a (dest_cell f known code s args back good a w) h
 
-  block_frame : (x : ℕ) → s.core.gpr 7 ≤ x → x < s.core.gpr 7 + 304 → Frame x → ⊥
+  block_frame : (x : ℕ) → s.core.gpr 7 ≤ x → x < s.core.gpr 7 + block_size → Frame x → ⊥
   block_frame x l u h = (good.disjoint.block x (l, u)).1 h
 
-  block_dest : (x : ℕ) → s.core.gpr 7 ≤ x → x < s.core.gpr 7 + 304 → Dests x → ⊥
+  block_dest : (x : ℕ) → s.core.gpr 7 ≤ x → x < s.core.gpr 7 + block_size → Dests x → ⊥
   block_dest x l u h = (good.disjoint.cells x (dest_cell f known code s args back good x h)).0 (l, u)
 
   abbrev pub Fair : Core → Ins → Type 0
@@ -362,7 +362,7 @@ module _ (f : FunctionValue) (at : List ℕ) (single wide aligned : List Ins) (e
     first_pointer : (b z : ℕ) → b % 2 ^ 64 ≡ (b % 2 ^ 64 + 0 * z) % 2 ^ 64
     first_pointer b z = omega arith
 
-    in_frame : (a : ℕ) → lowered ≤ a → a < lowered + 1024 → Frame a
+    in_frame : (a : ℕ) → lowered ≤ a → a < lowered + frame_size → Frame a
     in_frame a l u = (l, u)
 
     free_frame : (a : ℕ) → InFree f known code s args back good Kept a → Frame a
@@ -481,7 +481,7 @@ module _ (f : FunctionValue) (at : List ℕ) (single wide aligned : List Ins) (e
     ends_here : Ends (layout_of f) words h.kept.framed.running c
     ends_here = record {
       low = (let a = h.stack in omega (arith, a, stack_room));
-      block_low = subst (λ a. a + 304 ≤ 2 ^ 47) (sym h.block) good.block_low;
+      block_low = subst (λ a. a + block_size ≤ 2 ^ 47) (sym h.block) good.block_low;
       block = λ x i. there x (subst (λ a. InBlock a x) h.block i);
       apart = λ x i w. block_in x (subst (λ a. InBlock a x) h.block i) (subst (λ a. InFrame a x) h.stack w);
       saved = λ j l. ap (λ a. word c.memory (a + saved_slot j)) h.stack ∙ h.kept.saved_words j l;

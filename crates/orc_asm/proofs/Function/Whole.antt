@@ -28,7 +28,7 @@ use Rattle.orc_frame.specs.Layout.{layout_of}
 use Rattle.orc_frame.specs.Frame.{Prepares, Finishes}
 use Rattle.orc_frame.proofs.Facts.{Facts, facts}
 use Rattle.orc_frame.proofs.Apart.{length-acc_sizes_of}
-use Rattle.orc_frame.proofs.Places.{length-places_of}
+use Rattle.orc_program.proofs.Places.{length-places_of}
 use Rattle.orc_frame.specs.Function.{subject_of}
 use Rattle.orc_frame.specs.Subject.{Call}
 use Rattle.orc_frame.specs.Subject.{rows as rows_of}

@@ -12,6 +12,7 @@ use Rattle.x86_flow.specs.Moves.{away}
 use Rattle.orc_asm.specs.declared.rows.SlotCode.{SlotCode}
 use Rattle.orc_asm.specs.declared.rows.SlotCode.TheVariants as for_slot
 use Rattle.orc_frame.specs.Layout.{rows_slot}
+use Rattle.orc_frame.specs.Parts.{elements_word}
 use Rattle.orc_asm.specs.Rows.{slot_code, slots_code, arrays_code, number_code, rows_code, row_entry_code, row_step_code, row_flow}
 use Rattle.orc_asm.proofs.Row.Counts.{fine_rows, fine_row_entry, fine_row_step, row_bytes}
 
@@ -36,9 +37,9 @@ pub rows_whole : (base a b c d : List Ins) (two_d : Bool) (dests sources : ℕ) 
 rows_whole base a b c d two_d dests sources n p q r s =
     three a b c d (number_code two_d) (Store 0 (away 4 rows_slot)) (Test 0 0) q r s ∙ ap (λ l. l ++ number_code two_d ∷ Store 0 (away 4 rows_slot) ∷ Test 0 0 ∷ []) (p ∙ ap (λ l. l ++ arrays_code (slot_code for_slot.Base) dests sources) n)
 
-pub entry_whole : (base a b c : List Ins) (dests sources : ℕ) → base ≡ [] → a ≡ base ++ arrays_code (slot_code for_slot.Pointer) dests sources → b ≡ a ++ Load 1 (away 7 0) ∷ [] → c ≡ b ++ Test 1 1 ∷ [] → c ≡ row_entry_code dests sources
+pub entry_whole : (base a b c : List Ins) (dests sources : ℕ) → base ≡ [] → a ≡ base ++ arrays_code (slot_code for_slot.Pointer) dests sources → b ≡ a ++ Load 1 (away 7 elements_word) ∷ [] → c ≡ b ++ Test 1 1 ∷ [] → c ≡ row_entry_code dests sources
 entry_whole base a b c dests sources n p q r =
-    two a b c (Load 1 (away 7 0)) (Test 1 1) q r ∙ ap (λ l. l ++ Load 1 (away 7 0) ∷ Test 1 1 ∷ []) (p ∙ ap (λ l. l ++ arrays_code (slot_code for_slot.Pointer) dests sources) n)
+    two a b c (Load 1 (away 7 elements_word)) (Test 1 1) q r ∙ ap (λ l. l ++ Load 1 (away 7 elements_word) ∷ Test 1 1 ∷ []) (p ∙ ap (λ l. l ++ arrays_code (slot_code for_slot.Pointer) dests sources) n)
 
 pub step_whole : (base a b c d : List Ins) (dests sources : ℕ) → base ≡ [] → a ≡ base ++ arrays_code (slot_code for_slot.Stride) dests sources → b ≡ a ++ Load 0 (away 4 rows_slot) ∷ [] → c ≡ b ++ AluImm Sub 0 (pos 1) ∷ [] → d ≡ c ++ Store 0 (away 4 rows_slot) ∷ [] → d ≡ row_step_code dests sources
 step_whole base a b c d dests sources n p q r s =

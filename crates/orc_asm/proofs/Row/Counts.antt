@@ -14,7 +14,7 @@ use Rattle.x86_flow.specs.Touching.{touch_weight}
 use Rattle.x86_flow.proofs.Spelled.{IsFine, fine_load, fine_store, fine_alu_imm, fine_test, fits_up, fits_down, each_both, all_allowed, size_within}
 use Rattle.orc_region.specs.Code.{pointer}
 use Rattle.orc_frame.specs.Layout.{row_slot, rows_slot}
-use Rattle.orc_frame.specs.Parts.{base_word, stride_word}
+use Rattle.orc_frame.specs.Parts.{rows_word, base_word, stride_word}
 use Rattle.orc_asm.specs.Rows.{slots_code, arrays_code, base_code, number_code, count_code, rows_code, pointer_code, counter_code, row_entry_code, stride_code, one_less_code, row_step_code, row_flow, rows_flow}
 use Rattle.orc_region.proofs.Block.Registers.{pointer_small}
 
@@ -101,7 +101,7 @@ module _ (dests sources : ℕ) where
     arrays_fine code h = each_both IsFine (slots_code code 0 dests) (slots_code code 4 sources) (slots_fine code 0 dests (omega (arith, few_dests)) h) (slots_fine code 4 sources (omega (arith, few_sources)) h)
 
     fine_number : (two_d : Bool) → IsFine (number_code two_d)
-    fine_number true = fine_load 0 (away 7 8) (omega arith) (omega arith) (fits_up 8 (omega arith))
+    fine_number true = fine_load 0 (away 7 rows_word) (omega arith) (omega arith) (fits_up rows_word (omega arith))
     fine_number false = fine_one
 
     pub fine_rows : (two_d : Bool) → Each IsFine (rows_code two_d dests sources)

@@ -6,13 +6,12 @@ use Rattle.orc_program.specs.Program.{FunctionValue}
 use Rattle.orc_program.specs.Meaning.{State, row_of}
 use Rattle.x86_ins.specs.Machine.{Core, Point, Bounded}
 use Rattle.x86_ins.specs.Way.{Placed}
-use Rattle.orc_frame.specs.Layout.{sum_slot}
+use Rattle.orc_frame.specs.Layout.{sum_slot, left_slot}
 use Rattle.orc_frame.specs.Parts.{InRunning}
 use Rattle.orc_frame.specs.Subject.{Call as Arguments, rows}
 use Rattle.orc_frame.specs.GoodCall.{GoodCall}
 use Rattle.orc_frame.specs.Function.{subject_of}
 use Rattle.orc_asm.proofs.Calls.Cells.{Arrays, call, cell_cells, cell_frame, InRow, InRowDests, row_of_dest, row_dests, row_or_not}
-use Rattle.orc_region.specs.Regions.{left_word}
 use Rattle.orc_asm.proofs.Row.Lines.{InRows}
 use Rattle.orc_asm.proofs.Row.Loop.{rsp, Frame, Cell, Dests, stack_low, Ready, Ended}
 
@@ -25,7 +24,7 @@ module _ (f : FunctionValue) (known : Arrays f) (code : Placed) (s : Point) (arg
 
   -- the word of the frame that waits in a row
   abbrev pub InFree : ℕ → Type 0
-  InFree a = (low + left_word ≤ a) × (a < low + left_word + 8)
+  InFree a = (low + left_slot ≤ a) × (a < low + left_slot + 8)
 
   -- what a row's elements do: outside the row's cells of dests, the running sums and that word memory is as before
   pub record RowDone (sums r : ℕ) (row : r < rows (subject_of f) args) (e t : State) (c d : Core) : Type 0 where
@@ -62,7 +61,7 @@ module _ (f : FunctionValue) (known : Arrays f) (code : Placed) (s : Point) (arg
   free_frame a w = (omega (arith, w.0), omega (arith, w.1))
 
   free_or_not : (a : ℕ) → InFree a ⊎ (InFree a → ⊥)
-  free_or_not a = ⊎_elim (λ l. inr (λ h. omega (arith, l, h.0))) (λ l. ⊎_elim (λ u. inl (l, u)) (λ u. inr (λ h. omega (arith, u, h.1))) (cases_lt a (low + left_word + 8))) (cases_lt a (low + left_word))
+  free_or_not a = ⊎_elim (λ l. inr (λ h. omega (arith, l, h.0))) (λ l. ⊎_elim (λ u. inl (l, u)) (λ u. inr (λ h. omega (arith, u, h.1))) (cases_lt a (low + left_slot + 8))) (cases_lt a (low + left_slot))
 
   rows_free : (a : ℕ) → InRows low (s.core.gpr 7) (stack_low f known code s args back good) good.block_low a → InFree a → ⊥
   rows_free a w h = omega (arith, w.1, h.0)

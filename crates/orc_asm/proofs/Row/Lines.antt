@@ -17,9 +17,9 @@ use Rattle.x86_flow.specs.Does.{Line}
 use Rattle.x86_flow.proofs.Moves.{line_append}
 use Rattle.x86_flow.proofs.Words.{load_word, store_word}
 use Rattle.x86_flow.proofs.Frame.{word_same, word_stored}
-use Rattle.orc_frame.specs.Parts.{InBlock, base_word, stride_word}
+use Rattle.orc_frame.specs.Parts.{InBlock, elements_word, base_word, stride_word, block_size}
 use Rattle.orc_region.specs.Code.{pointer}
-use Rattle.orc_frame.specs.Layout.{row_slot, rows_slot}
+use Rattle.orc_frame.specs.Layout.{row_slot, rows_slot, frame_size, left_slot}
 use Rattle.orc_asm.specs.Rows.{slots_code, arrays_code, base_code, number_code, count_code, rows_code, pointer_code, counter_code, row_entry_code, stride_code, one_less_code, row_step_code}
 use Rattle.orc_region.proofs.Block.Registers.{not_1, not_4, not_7, pointer_one}
 use Rattle.orc_region.proofs.Turn.Advancing.{IsSlot}
@@ -28,10 +28,10 @@ both_is : (x : ℕ) → bit_and x x ≡ x
 both_is x = grind (arith, common_steps)
 
 -- rsp is the lowered RSP, and rdi the block's address
-module _ (rsp rdi : ℕ) (stack_low : rsp + 1032 ≤ 2 ^ 47) (block_low : rdi + 304 ≤ 2 ^ 47) where
+module _ (rsp rdi : ℕ) (stack_low : rsp + (frame_size + 8) ≤ 2 ^ 47) (block_low : rdi + block_size ≤ 2 ^ 47) where
   -- the addresses of the words that change: those of the arrays' slots and, as the one of slot 13, that of the rows left
   abbrev pub InRows : ℕ → Type 0
-  InRows x = (rsp + 880 ≤ x) × (x < rsp + 992)
+  InRows x = (rsp + row_slot 0 ≤ x) × (x < rsp + left_slot)
 
   abbrev InSlot : ℕ → ℕ → Type 0
   InSlot k x = (rsp + row_slot k ≤ x) × (x < rsp + row_slot k + 8)
@@ -76,7 +76,7 @@ module _ (rsp rdi : ℕ) (stack_low : rsp + 1032 ≤ 2 ^ 47) (block_low : rdi + 
       let here = byte_in (span i u).0 (rsp + row_slot k) t.0 w at (subst (λ n. t.0 < n) size t.1) in
       inl (in_rows k x l (subst (λ y. rsp + row_slot k ≤ y) (sym t.2) here.0, subst (λ y. y < rsp + row_slot k + 8) (sym t.2) here.1))
 
-  touch_block : (d : ℕ) → d + 8 ≤ 304 → (i : Ins) (u : Core) → u.gpr 7 ≡ rdi → span i u ≡ (address u (away 7 d), 8) → TouchesFew i u
+  touch_block : (d : ℕ) → d + 8 ≤ block_size → (i : Ins) (u : Core) → u.gpr 7 ≡ rdi → span i u ≡ (address u (away 7 d), 8) → TouchesFew i u
   touch_block d l i u s e x t =
       let size : (span i u).1 ≡ 8 = ap (λ p. p.1) e in
       let at : (span i u).0 ≡ rdi + d = ap (λ p. p.0) e ∙ at_away u 7 rdi d s (omega (arith, block_low, l)) in
@@ -239,14 +239,14 @@ module _ (rsp rdi : ℕ) (stack_low : rsp + 1032 ≤ 2 ^ 47) (block_low : rdi + 
     at_slot : (c : Core) → Calmly c → (k : ℕ) → k < 14 → (i : Ins) (u : Core) → OnWay c u → span i u ≡ (address u (away 4 (row_slot k)), 8) → Q u i
     at_slot c calmly k l i u w e = calmly u i w (touch_slot k l i u w.stack e)
 
-    at_block : (c : Core) → Calmly c → (d : ℕ) → d + 8 ≤ 304 → (i : Ins) (u : Core) → OnWay c u → span i u ≡ (address u (away 7 d), 8) → Q u i
+    at_block : (c : Core) → Calmly c → (d : ℕ) → d + 8 ≤ block_size → (i : Ins) (u : Core) → OnWay c u → span i u ≡ (address u (away 7 d), 8) → Q u i
     at_block c calmly d l i u w e = calmly u i w (touch_block d l i u w.block e)
 
     at_none : (c : Core) → Calmly c → (i : Ins) (u : Core) → OnWay c u → (span i u).1 ≡ 0 → Q u i
     at_none c calmly i u w e = calmly u i w (touch_none i u e)
 
     -- a word of the block is as before
-    block_word : (c u : Core) → OnWay c u → (d v : ℕ) → d + 8 ≤ 304 → word c.memory (rdi + d) ≡ Some v → word u.memory (rdi + d) ≡ Some v
+    block_word : (c u : Core) → OnWay c u → (d v : ℕ) → d + 8 ≤ block_size → word c.memory (rdi + d) ≡ Some v → word u.memory (rdi + d) ≡ Some v
     block_word c u h d v w e = word_same u.memory c.memory (rdi + d) (omega (arith, block_low, w)) (λ x l m. h.outside x (λ r. apart x (omega (arith, l), omega (arith, m, w)) r)) ∙ e
 
     base_line : (c : Core) (base : ℕ → ℕ) (k : ℕ) → k < 12 → Calmly c → ((x : ℕ) → InRows x → IsMapped c.memory x) → word c.memory (rdi + base_word k) ≡ Some (base k) → base k < 2 ^ 64
@@ -358,7 +358,7 @@ module _ (rsp rdi : ℕ) (stack_low : rsp + 1032 ≤ 2 ^ 47) (block_low : rdi + 
         let stack : u.gpr 4 ≡ c.gpr 4 = apart_z 4 (λ k e. not_4 k (sym e)) in
         let block : u.gpr 7 ≡ c.gpr 7 = apart_z 7 (λ k e. not_7 k (sym e)) in
         let u1 : Core = with_gpr u 1 n in
-        let counts : work (Load 1 (away 7 0)) u ≡ Ok u1 = load_word u 1 7 rdi 0 n (block ∙ b) (omega (arith, block_low)) (ap (λ m. word m (rdi + 0)) memory ∙ ap (λ t. word c.memory t) (none rdi) ∙ word_n) in
+        let counts : work (Load 1 (away 7 elements_word)) u ≡ Ok u1 = load_word u 1 7 rdi 0 n (block ∙ b) (omega (arith, block_low)) (ap (λ m. word m (rdi + 0)) memory ∙ ap (λ t. word c.memory t) (none rdi) ∙ word_n) in
         let d : Core = with_flags u1 (Some (flags_of false false (bit_and n n))) in
         let last : Line Q counter_code u d = (at_block c calmly 0 (omega arith) _ u (still c u s b memory stack block) refl, (u1, counts, (at_none c calmly _ u1 (still c u1 s b memory stack block) refl, (d, refl, refl)))) in (
           d,

@@ -15,11 +15,11 @@ use Rattle.x86_flow.proofs.Frame.{word_same}
 use Rattle.x86_flow.proofs.Plans.{weigh, weigh_append, counted_loop}
 use Rattle.x86_flow.specs.Touching.{touch_weight}
 use Rattle.orc_frame.specs.Subject.{Call as Arguments, InDests, rows}
-use Rattle.orc_frame.specs.Parts.{InFrame, InBlock, base_word, stride_word}
+use Rattle.orc_frame.specs.Parts.{InFrame, InBlock, base_word, stride_word, block_size}
 use Rattle.orc_frame.specs.GoodCall.{GoodCall, lowered}
 use Rattle.orc_frame.specs.Function.{IsCellByte, subject_of}
 use Rattle.orc_region.specs.Code.{pointer}
-use Rattle.orc_frame.specs.Layout.{row_slot}
+use Rattle.orc_frame.specs.Layout.{row_slot, frame_size}
 use Rattle.orc_asm.specs.Rows.{rows_code, row_entry_code, row_step_code, row_flow}
 use Rattle.orc_region.proofs.Block.Registers.{not_4, not_7}
 use Rattle.orc_region.proofs.Block.Keeping.{line_bounded, ins_of}
@@ -63,7 +63,7 @@ module _ (f : FunctionValue) (known : Arrays f) (code : Placed) (s : Point) (arg
   abbrev pub slot_base : ℕ → ℕ → ℕ
   slot_base = row_base f known code s args back good
 
-  pub stack_low : rsp + 1032 ≤ 2 ^ 47
+  pub stack_low : rsp + (frame_size + 8) ≤ 2 ^ 47
   stack_low = (let a = good.frame_room in let b = good.return_low in omega (arith, a, b))
 
   in_frame : (x : ℕ) → InRows rsp rdi stack_low good.block_low x → Frame x
@@ -123,7 +123,7 @@ module _ (f : FunctionValue) (known : Arrays f) (code : Placed) (s : Point) (arg
       calm e c h u i w t = calmly u i w.stack (λ a nc nf. w.outside a (λ r. nf (in_frame a r)) ∙ h.quiet a nc nf) (λ a o. ⊎_elim (λ r. inl (in_frame a r)) (λ b. inr b) (t a o))
 
       -- a word of the block is the call's
-      block_word : (e : State) (c : Core) → Steady e c → (d v : ℕ) → d + 8 ≤ 304 → word s.core.memory (rdi + d) ≡ Some v → word c.memory (rdi + d) ≡ Some v
+      block_word : (e : State) (c : Core) → Steady e c → (d v : ℕ) → d + 8 ≤ block_size → word s.core.memory (rdi + d) ≡ Some v → word c.memory (rdi + d) ≡ Some v
       block_word e c h d v w q =
           let low = good.block_low in
           word_same c.memory s.core.memory (rdi + d) (omega (arith, low, w))
@@ -159,7 +159,7 @@ module _ (f : FunctionValue) (known : Arrays f) (code : Placed) (s : Point) (arg
             },
           )
         where
-          in_block : (k : ℕ) → k < 12 → base_word k + 8 ≤ 304
+          in_block : (k : ℕ) → k < 12 → base_word k + 8 ≤ block_size
           in_block k l = omega (arith, l)
 
           few_rows : (m : ℕ) → m < 2 ^ 31 → m < 2 ^ 64
@@ -213,7 +213,7 @@ module _ (f : FunctionValue) (known : Arrays f) (code : Placed) (s : Point) (arg
           few_more : (k : ℕ) → k < 12 → k < 14
           few_more k l = omega (arith, l)
 
-          in_block : (k : ℕ) → k < 12 → stride_word k + 8 ≤ 304
+          in_block : (k : ℕ) → k < 12 → stride_word k + 8 ≤ block_size
           in_block k l = omega (arith, l)
 
           few_left : (left r m : ℕ) → suc left + r ≡ m → m < 2 ^ 31 → suc left < 2 ^ 64

@@ -31,7 +31,7 @@ use Rattle.sse_acc.specs.Sums.{AddsUp, sum_below, sum_of}
 use Rattle.sse_acc.specs.Sums.{number_of as adds_number}
 use Rattle.sse_acc.proofs.Totals.{sum_below-same}
 use Rattle.orc_program.specs.Meaning.{sub_lane, pack}
-use Rattle.orc_frame.specs.Layout.{pattern_slot, sum_slot}
+use Rattle.orc_frame.specs.Layout.{pattern_slot, sum_slot, frame_size}
 use Rattle.orc_frame.specs.Parts.{InRunning}
 use Rattle.orc_region.specs.Code.{Action, IsRule, Source, FromArray, FromPattern, FromPlace, Target, ToArray, ToSum, ToPlace, pointer, place_register, made_in, first_register, second_register, rule_register, rule_code, source_far_code, sources_far_code, sum_code, result_far_code, results_far_code, action_code, action_far_code, actions_far_code}
 use Rattle.orc_region.proofs.Block.RuleRegisters.{register_0, register_1, register_one, register_place, adds_renamed}
@@ -119,7 +119,7 @@ pub record Ground (n : ℕ) (base size : ℕ → ℕ) (P : ℕ → Type 0) (numb
   pub low : Low n base size P
   pub frame : IsFrame numbers rsp
   -- arrays lie outside the frame
-  pub apart : (k : ℕ) → P k → (i : ℕ) → i < n → (r : ℕ) → r < size k → rsp ≤ base k + i * size k + r → base k + i * size k + r < rsp + 1024 → ⊥
+  pub apart : (k : ℕ) → P k → (i : ℕ) → i < n → (r : ℕ) → r < size k → rsp ≤ base k + i * size k + r → base k + i * size k + r < rsp + frame_size → ⊥
 
 module _ (n : ℕ) (base size : ℕ → ℕ) (P : ℕ → Type 0) (numbers : Numbers) (rsp : ℕ) (ground : Ground n base size P numbers rsp) (Q : Core → Ins → Type 0) (far : ℕ → ℕ) (aligned : ℕ → Bool) (count : ℕ) (some : 0 < count) where
   separate : Separate n base size P
@@ -442,7 +442,7 @@ module _ (n : ℕ) (base size : ℕ → ℕ) (P : ℕ → Type 0) (numbers : Num
 
   -- stores to cells leave the frame
   frame_kept : (i : ℕ) (c d : Memory) (totals : ℕ → ℕ) → i + count ≤ n → Others n base size (OfDests P) i count c d → Framed numbers rsp c totals → Framed numbers rsp d totals
-  frame_kept i c d totals w o = framed_same numbers rsp ground.frame c d totals (λ x l u. o x (λ at. ground.apart at.0 at.1.0 (i + at.2) (omega (arith, at.3, w)) at.4 at.5 (subst (λ a. rsp ≤ a) at.6 l) (subst (λ a. a < rsp + 1024) at.6 u)))
+  frame_kept i c d totals w o = framed_same numbers rsp ground.frame c d totals (λ x l u. o x (λ at. ground.apart at.0 at.1.0 (i + at.2) (omega (arith, at.3, w)) at.4 at.5 (subst (λ a. rsp ≤ a) at.6 l) (subst (λ a. a < rsp + frame_size) at.6 u)))
 
   nothing_added : (totals : ℕ → ℕ) (mem : Memory) (g : ℕ → ℕ → ℕ) → ((q h : ℕ) → g q h ≡ 0) → Framed numbers rsp mem totals → Framed numbers rsp mem (λ h. totals h + sum_below count (λ q. g q h))
   nothing_added totals mem g none = framed_totals numbers rsp mem totals (λ h. totals h + sum_below count (λ q. g q h)) (λ h. let e = sum_below-same count (λ q. g q h) (λ q. 0) (λ q l. none q h) ∙ no_sum count in omega (arith, e))

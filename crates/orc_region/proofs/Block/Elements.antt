@@ -23,7 +23,7 @@ use Rattle.orc_region.specs.Code.{Action, Source, FromArray, FromPattern, FromPl
 use Rattle.orc_region.proofs.Arithmetic.Digits.{digit}
 use Rattle.orc_region.proofs.Block.Cells.{Numbers, Local, given_by, given, computed, adds_to, results_add, eq_yes, Lanes, Others, IsOf, Separate, Low, set_local, set_target, set_results, value_of, local_act, local, adds, store_lanes, store_others, others_more, cell_apart}
 use Rattle.orc_region.proofs.Block.Emulated.{IsCells, IsDest, IsSum, IsTemp, state, meant, Holds, IsLow, Gives, array_gives, temp_gives, number_gives, array_takes, sum_takes, temp_takes, Writes, act_one, act_two}
-use Rattle.orc_region.proofs.Checked.Places.{place_again}
+use Rattle.orc_program.proofs.Nth.{place_again}
 
 -- ---- what an instruction's operands and an action's say alike; `patterns` are the patterns' numbers
 

@@ -15,7 +15,7 @@ use Rattle.x86_flow.specs.Moves.{away}
 use Rattle.x86_flow.proofs.Moves.{IsFill, fill_is}
 use Rattle.sse_acc.specs.Sums.{sum_below, sum_of}
 use Rattle.sse_acc.proofs.Totals.{sum_below-zero, sum_below-suc, sum_below-same}
-use Rattle.orc_frame.specs.Layout.{pattern_slot, sum_slot}
+use Rattle.orc_frame.specs.Layout.{pattern_slot, sum_slot, frame_size, saved_slot}
 use Rattle.orc_region.specs.Code.{ToSum}
 use Rattle.orc_region.proofs.Arithmetic.Digits.{digit, byte_within}
 use Rattle.orc_region.proofs.Block.Cells.{Numbers, adds_to, eq_yes}
@@ -107,7 +107,7 @@ module _ (numbers : Numbers) (rsp : ℕ) where
   pub record IsFrame : Type 0 where
     pub few_patterns : numbers.patterns ≤ 48
     pub few_sums : numbers.sums ≤ 4
-    pub low : rsp + 1024 ≤ 2 ^ 47
+    pub low : rsp + frame_size ≤ 2 ^ 47
 
   -- the patterns' slots hold their bytes, and the lanes of each running sum add up to its total, modulo what the sum's bytes hold
   pub record Framed (mem : Memory) (totals : ℕ → ℕ) : Type 0 where
@@ -118,7 +118,7 @@ module _ (numbers : Numbers) (rsp : ℕ) where
     pub totals_are : (g : ℕ) → g < numbers.sums → cut (8 * numbers.width g) (sum_of (numbers.width g) (running g)) ≡ cut (8 * numbers.width g) (totals g)
 
   -- the patterns and sums stay where their bytes do
-  pub framed_below : IsFrame → (mem end : Memory) (totals : ℕ → ℕ) → ((x : ℕ) → rsp ≤ x → x < rsp + 832 → end x ≡ mem x) → Framed mem totals → Framed end totals
+  pub framed_below : IsFrame → (mem end : Memory) (totals : ℕ → ℕ) → ((x : ℕ) → rsp ≤ x → x < rsp + saved_slot 0 → end x ≡ mem x) → Framed mem totals → Framed end totals
   framed_below is mem end totals same h = record {
     patterns = λ j l b lb. same (rsp + pattern_slot j + b) (omega arith) (omega (arith, l, lb, is.few_patterns)) ∙ h.patterns j l b lb;
     running = h.running;
@@ -127,7 +127,7 @@ module _ (numbers : Numbers) (rsp : ℕ) where
     totals_are = h.totals_are;
   }
 
-  pub framed_same : IsFrame → (mem end : Memory) (totals : ℕ → ℕ) → ((x : ℕ) → rsp ≤ x → x < rsp + 1024 → end x ≡ mem x) → Framed mem totals → Framed end totals
+  pub framed_same : IsFrame → (mem end : Memory) (totals : ℕ → ℕ) → ((x : ℕ) → rsp ≤ x → x < rsp + frame_size → end x ≡ mem x) → Framed mem totals → Framed end totals
   framed_same is mem end totals same h = record {
     patterns = λ j l b lb. same (rsp + pattern_slot j + b) (omega arith) (omega (arith, l, lb, is.few_patterns)) ∙ h.patterns j l b lb;
     running = h.running;

@@ -29,7 +29,7 @@ use Rattle.orc_region.proofs.Block.Elements.{Follows}
 use Rattle.orc_region.proofs.Checked.Passing.{none_left, Checked, checked}
 use Rattle.orc_region.proofs.Checked.Building.{Shape, shape_of}
 use Rattle.orc_region.proofs.Checked.Sized.{some_sizes, has_sizes, HasPrefix, prefix_ok, sum_ok}
-use Rattle.orc_region.proofs.Checked.Uses.{Has, used, has_uses, first_use, second_use}
+use Rattle.orc_program.proofs.KnownPatterns.{Has, used, has_uses, first_use, second_use}
 use Rattle.orc_region.proofs.Checked.Direct.{IsSourced, IsTargeted, sourced, to_of, targeted, temp_targeted}
 
 -- ---- what is seen of places: the temps of the values that were made, and the steps that are to come

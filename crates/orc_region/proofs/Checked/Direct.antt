@@ -25,7 +25,7 @@ use Rattle.orc_frame.specs.Frame.{no_pattern}
 use Rattle.orc_region.specs.Code.{Source, FromArray, FromPattern, FromPlace, Target, ToArray, ToSum, ToPlace, source_of, target_of, patterns_in}
 use Rattle.orc_region.proofs.Block.Emulated.{IsCells, IsDest, IsSum, IsTemp}
 use Rattle.orc_region.proofs.Checked.Passing.{none_left, unchecked, size_ok, no_sum}
-use Rattle.orc_region.proofs.Checked.Uses.{Has, place_found, used}
+use Rattle.orc_program.proofs.KnownPatterns.{Has, pattern_found, used}
 
 abbrev pub pattern_of : FunctionValue → ℕ → Pattern
 pattern_of f j = get_or (patterns_in f) j no_pattern
@@ -102,7 +102,7 @@ module _ (f : FunctionValue) (at temps : List ℕ) (steps : List Step) (op : Op)
 
   number_sourced : (o m : Operand) → number_in f.vars o ≡ Some m → Used o → Sourced o (source_of at (pattern_item (patterns_in f) m (way_of op position)))
   number_sourced o m e has =
-      let x = place_found (patterns_in f) (used op position m) no_pattern (has m e) in
+      let x = pattern_found (patterns_in f) (used op position m) no_pattern (has m e) in
       (e ∙ ap (λ (q : Pattern). Some q.number) (sym x.1), x.0, ap (λ (q : Pattern). q.way) x.1)
 
   var_sourced : (p : ℕ) → p < length f.vars → has_no_fault (source_kind_fault (row op).kind position (Some (var_at f.vars p).kind)) ≡ true → is_wrong_size f.vars (size_of_source op position * prefix) (operand.Var p) ≡ false

@@ -31,7 +31,8 @@ use Rattle.orc_region.specs.Code.{Action, Source, FromArray, FromPattern, FromPl
 use Rattle.orc_region.proofs.Block.Cells.{Numbers, IsOf, IsTo, IsFrom, IsBeside, AreFrom, IsMade, AreTo, IsKept, IsKnown, AllKnown, live_target, live_targets, live_act, no_values}
 use Rattle.orc_region.proofs.Block.Emulated.{IsCells, IsSum, meant}
 use Rattle.orc_region.proofs.Block.Elements.{IsRead, AreRead, Follows, IsWritten, AreWritten, IsMeant, AreMeant}
-use Rattle.orc_region.proofs.Checked.Places.{place_again, before_less}
+use Rattle.orc_program.proofs.Places.{before_less}
+use Rattle.orc_program.proofs.Nth.{place_again}
 use Rattle.orc_region.proofs.Checked.Slots.{limits}
 use Rattle.orc_region.proofs.Block.Actions.{IsFit}
 use Rattle.orc_region.proofs.Block.Keeping.{ins_of}

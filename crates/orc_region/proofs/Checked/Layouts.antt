@@ -16,3 +16,7 @@ params_are f = refl
 pub sizes_are : (f : FunctionValue) → (layout_of f).acc_sizes.items ≡ acc_sizes_of f.vars
 unfolding layout_of
 sizes_are f = refl
+
+pub two_d_is : (f : FunctionValue) → (layout_of f).two_d ≡ f.two_d
+unfolding layout_of
+two_d_is f = refl

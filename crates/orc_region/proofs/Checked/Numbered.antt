@@ -18,10 +18,9 @@ use Rattle.orc_frame.specs.Layout.{acc_sizes_of, index_in}
 use Rattle.orc_frame.specs.Frame.{number_of}
 use Rattle.orc_frame.proofs.Fills.{IsKnown}
 use Rattle.orc_frame.proofs.Meant.{index_in-places_of}
-use Rattle.orc_frame.proofs.Places.{length-places_of}
 use Rattle.orc_region.proofs.Checked.Knows.{width_of}
 use Rattle.orc_region.proofs.Block.Emulated.{meant}
-use Rattle.orc_region.proofs.Checked.Places.{before_less, count_taken}
+use Rattle.orc_program.proofs.Places.{before_less, count_taken, length-places_of}
 
 -- ---- places that pass a test
 

@@ -14,7 +14,8 @@ use Rattle.orc_program.specs.Slots.{slot_of, slots, size_of_slot, call_of, place
 use Rattle.orc_program.specs.Kept.{is_function, has_few, most_of}
 use Rattle.orc_program.proofs.Sizes.{both, kept_of}
 use Rattle.orc_frame.specs.Subject.{Call}
-use Rattle.orc_region.proofs.Checked.Places.{place_again, before_less}
+use Rattle.orc_program.proofs.Places.{before_less}
+use Rattle.orc_program.proofs.Nth.{place_again}
 use Rattle.orc_region.proofs.Turn.Advancing.{IsSlot}
 
 -- ---- the limits

@@ -28,7 +28,8 @@ use Rattle.x86_flow.proofs.Touching.{touches_none, touches_in}
 use Rattle.x86_flow.proofs.Words.{load_word, store_word, at_away}
 use Rattle.x86_flow.proofs.Frame.{word_same, word_stored}
 use Rattle.orc_program.specs.Need.{turns}
-use Rattle.orc_region.specs.Regions.{left_word, never, gap_code, gap_flow, behind_code, enter_head_code, leave_head_code, reached_flow, unreached_flow, tail_flow, aligned_row, plain_row, wide_loops}
+use Rattle.orc_frame.specs.Layout.{frame_size, left_slot}
+use Rattle.orc_region.specs.Regions.{never, gap_code, gap_flow, behind_code, enter_head_code, leave_head_code, reached_flow, unreached_flow, tail_flow, aligned_row, plain_row, wide_loops}
 use Rattle.orc_region.proofs.Row.Gaps.{each_size, AtSixteen, gap, IsGap, gap_is, no_gap, turns_few}
 use Rattle.orc_region.proofs.Block.Keeping.{line_bounded}
 use Rattle.orc_region.proofs.Row.Counters.{Tested}
@@ -100,9 +101,9 @@ plain_touches v a xs ys m rest some t e x y l =
     omega (arith, few, add-mul m rest some, weigh_append v xs ys, x, y, e)
 
 -- rsp is the lowered RSP
-module _ (Q : Core → Ins → Type 0) (rsp : ℕ) (stack_low : rsp + 1032 ≤ 2 ^ 47) where
+module _ (Q : Core → Ins → Type 0) (rsp : ℕ) (stack_low : rsp + (frame_size + 8) ≤ 2 ^ 47) where
   abbrev pub InWord : ℕ → Type 0
-  InWord x = (rsp + left_word ≤ x) × (x < rsp + left_word + 8)
+  InWord x = (rsp + left_slot ≤ x) × (x < rsp + left_slot + 8)
 
   -- d is c but for RAX, RCX, flags and the word
   pub record Beside (c d : Core) : Type 0 where
@@ -574,19 +575,19 @@ module _ (Q : Core → Ins → Type 0) (rsp : ℕ) (stack_low : rsp + 1032 ≤ 2
 
     -- ---- the head
 
-    touches_word : (u : Core) (i : Ins) → u.gpr 4 ≡ rsp → base_of i ≡ Some 4 → span i u ≡ (address u (away 4 left_word), 8) → (x : ℕ) → Touches i u x → InWord x
-    touches_word u i e r s = touches_in 4 (rsp + left_word) 8 i u (omega (arith, stack_low)) (inr (r, s ∙ ap (λ a. (a, 8)) (at_away u 4 rsp left_word e (omega (arith, stack_low)))))
+    touches_word : (u : Core) (i : Ins) → u.gpr 4 ≡ rsp → base_of i ≡ Some 4 → span i u ≡ (address u (away 4 left_slot), 8) → (x : ℕ) → Touches i u x → InWord x
+    touches_word u i e r s = touches_in 4 (rsp + left_slot) 8 i u (omega (arith, stack_low)) (inr (r, s ∙ ap (λ a. (a, 8)) (at_away u 4 rsp left_slot e (omega (arith, stack_low)))))
 
     -- what enter_head_code leaves
     record Entered (c d : Core) : Type 0 where
       at : At 0 d
       counter : d.gpr 1 ≡ c.gpr 0
       tested : Tested d
-      holds : word d.memory (rsp + left_word) ≡ Some (c.gpr 1)
+      holds : word d.memory (rsp + left_slot) ≡ Some (c.gpr 1)
 
     enter_line : (c : Core) → At 0 c → (d : Core) × Line Q enter_head_code c d × Entered c d
     enter_line c h =
-        let a = rsp + left_word in
+        let a = rsp + left_slot in
         let x = c.gpr 1 in
         let stack = ground.stack 0 c h in
         let small : x < 2 ^ 64 = (ground.bounded 0 c h).gpr 1 in
@@ -602,13 +603,13 @@ module _ (Q : Core → Ins → Type 0) (rsp : ℕ) (stack_low : rsp + 1032 ≤ 2
         } in
         let b2 : Beside c c2 = set_1 c c1 _ _ b1 in
         let b3 : Beside c c3 = set_flags c c2 _ b2 in
-        let stores : work (Store 1 (away 4 left_word)) c ≡ Ok c1 = store_word c 1 4 rsp left_word stack (omega (arith, stack_low)) (λ y l u. ground.word 0 c h y (l, u)) in
+        let stores : work (Store 1 (away 4 left_slot)) c ≡ Ok c1 = store_word c 1 4 rsp left_slot stack (omega (arith, stack_low)) (λ y l u. ground.word 0 c h y (l, u)) in
         let line : Line Q enter_head_code c c3 =
-        (ground.calm 0 c h c (Store 1 (away 4 left_word)) b0 (touches_word c (Store 1 (away 4 left_word)) stack refl refl), (c1, stores, (quiet 0 c h c1 (Move 1 0) b1 refl, (c2, refl, (quiet 0 c h c2 (Test 1 1) b2 refl, (c3, refl, refl)))))) in (
+        (ground.calm 0 c h c (Store 1 (away 4 left_slot)) b0 (touches_word c (Store 1 (away 4 left_slot)) stack refl refl), (c1, stores, (quiet 0 c h c1 (Move 1 0) b1 refl, (c2, refl, (quiet 0 c h c2 (Test 1 1) b2 refl, (c3, refl, refl)))))) in (
           c3,
           line,
           record {
-            at = on_list enter_head_code ((omega arith, (omega arith, fits_up left_word (omega arith))), ((omega arith, omega arith), ((omega arith, omega arith), tt))) 0 c c3 h line b3;
+            at = on_list enter_head_code ((omega arith, (omega arith, fits_up left_slot (omega arith))), ((omega arith, omega arith), ((omega arith, omega arith), tt))) 0 c c3 h line b3;
             counter = refl;
             tested = record { zero = ap (λ y. Some (not (y == 0))) (and_self (c.gpr 0)); sign = ap (λ y. Some (not (nat_le (2 ^ 63) y))) (and_self (c.gpr 0)) };
             holds = word_stored c.memory a x (omega (arith, stack_low)) small;
@@ -621,7 +622,7 @@ module _ (Q : Core → Ins → Type 0) (rsp : ℕ) (stack_low : rsp + 1032 ≤ 2
       counter : d.gpr 1 ≡ x
       tested : Tested d
 
-    leave_line : (i x : ℕ) (c : Core) → At i c → word c.memory (rsp + left_word) ≡ Some x → (d : Core) × Line Q leave_head_code c d × Left i x d
+    leave_line : (i x : ℕ) (c : Core) → At i c → word c.memory (rsp + left_slot) ≡ Some x → (d : Core) × Line Q leave_head_code c d × Left i x d
     leave_line i x c h holds =
         let stack = ground.stack i c h in
         let c1 : Core = with_gpr c 1 x in
@@ -629,13 +630,13 @@ module _ (Q : Core → Ins → Type 0) (rsp : ℕ) (stack_low : rsp + 1032 ≤ 2
         let b0 = beside_same c in
         let b1 : Beside c c1 = set_1 c c _ _ b0 in
         let b2 : Beside c c2 = set_flags c c1 _ b1 in
-        let loads : work (Load 1 (away 4 left_word)) c ≡ Ok c1 = load_word c 1 4 rsp left_word x stack (omega (arith, stack_low)) holds in
+        let loads : work (Load 1 (away 4 left_slot)) c ≡ Ok c1 = load_word c 1 4 rsp left_slot x stack (omega (arith, stack_low)) holds in
         let line : Line Q leave_head_code c c2 =
-        (ground.calm i c h c (Load 1 (away 4 left_word)) b0 (touches_word c (Load 1 (away 4 left_word)) stack refl refl), (c1, loads, (quiet i c h c1 (Test 1 1) b1 refl, (c2, refl, refl)))) in (
+        (ground.calm i c h c (Load 1 (away 4 left_slot)) b0 (touches_word c (Load 1 (away 4 left_slot)) stack refl refl), (c1, loads, (quiet i c h c1 (Test 1 1) b1 refl, (c2, refl, refl)))) in (
           c2,
           line,
           record {
-            at = on_list leave_head_code ((omega arith, (omega arith, fits_up left_word (omega arith))), ((omega arith, omega arith), tt)) i c c2 h line b2;
+            at = on_list leave_head_code ((omega arith, (omega arith, fits_up left_slot (omega arith))), ((omega arith, omega arith), tt)) i c c2 h line b2;
             counter = refl;
             tested = record { zero = ap (λ y. Some (not (y == 0))) (and_self x); sign = ap (λ y. Some (not (nat_le (2 ^ 63) y))) (and_self x) };
           },
@@ -684,7 +685,7 @@ module _ (Q : Core → Ins → Type 0) (rsp : ℕ) (stack_low : rsp + 1032 ≤ 2
               let ended = y.3 in
               let end : ended.i ≡ g = omega (arith, ended.all) in
               let at : At g y.1 = subst (λ i. At i y.1) end ended.at in
-              let holds : word y.1.memory (rsp + left_word) ≡ Some (less lanes g) = word_same y.1.memory u.memory (rsp + left_word) (omega (arith, stack_low)) (λ t l r. ended.word t (l, r)) ∙ x.holds ∙ ap Some count in
+              let holds : word y.1.memory (rsp + left_slot) ≡ Some (less lanes g) = word_same y.1.memory u.memory (rsp + left_slot) (omega (arith, stack_low)) (λ t l r. ended.word t (l, r)) ∙ x.holds ∙ ap Some count in
               last u enters y.0 y.1 y.2 y.4 y.5 (leave_line g (less lanes g) y.1 at holds)
 
       unreached_line : (g : ℕ) (c : Core) → At 0 c → c.gpr 0 ≡ g → g ≤ never → c.gpr 1 ≡ less lanes g → ((j : ℕ) → j + lanes ≤ n → AtSixteen k base j → ⊥) → (m rest : ℕ) → 0 + (m * lanes + rest) ≡ n → rest < lanes → ToTail lanes rest m (1 + fixed) (unreached_flow wide) c

@@ -12,7 +12,8 @@ use Rattle.x86_flow.specs.Flow.{Flow, flat, size, loop_code, choice_code}
 use Rattle.x86_flow.specs.Moves.{away}
 use Rattle.x86_flow.proofs.Spelled.{IsFine, fits_up, fine_zero, fine_alu, fine_alu_imm, fine_move, fine_shift, fine_load, fine_store, fine_test, each_both, all_allowed, size_within}
 use Rattle.x86_flow.proofs.Shapes.{size_both, loop_size, choice_size, loop_fine, choice_fine}
-use Rattle.orc_region.specs.Regions.{left_word, never, gap_code, low_bits_code, never_code, gap_flow, behind_code, enter_head_code, leave_head_code, reached_flow, unreached_flow, tail_flow, aligned_row, plain_row}
+use Rattle.orc_frame.specs.Layout.{left_slot}
+use Rattle.orc_region.specs.Regions.{never, gap_code, low_bits_code, never_code, gap_flow, behind_code, enter_head_code, leave_head_code, reached_flow, unreached_flow, tail_flow, aligned_row, plain_row}
 use Rattle.orc_region.proofs.Row.Gaps.{each_size}
 
 -- instructions that are allowed, of at most so many bytes
@@ -76,9 +77,9 @@ module _ (single wide aligned : Flow) (lanes s w a : ℕ) (most : lanes ≤ 64) 
 
   fits_reached : Fits (s + a + 66) (flat (reached_flow single aligned))
   fits_reached =
-      let far = fits_up left_word (omega arith) in
-      let enter = fits_list enter_head_code 3 (omega arith) (fine_store 1 (away 4 left_word) (omega arith) (omega arith) far, (fine_move 1 0 (omega arith) (omega arith), (fine_test 1 1 (omega arith) (omega arith), tt))) in
-      let leave = fits_list leave_head_code 2 (omega arith) (fine_load 1 (away 4 left_word) (omega arith) (omega arith) far, (fine_test 1 1 (omega arith) (omega arith), tt)) in
+      let far = fits_up left_slot (omega arith) in
+      let enter = fits_list enter_head_code 3 (omega arith) (fine_store 1 (away 4 left_slot) (omega arith) (omega arith) far, (fine_move 1 0 (omega arith) (omega arith), (fine_test 1 1 (omega arith) (omega arith), tt))) in
+      let leave = fits_list leave_head_code 2 (omega arith) (fine_load 1 (away 4 left_slot) (omega arith) (omega arith) far, (fine_test 1 1 (omega arith) (omega arith), tt)) in
       let body = fits_both 22 a leave_head_code (flat aligned) leave is_aligned in
       let turns = fits_both (s + 11) (22 + a) (loop_code Ne (flat single)) (leave_head_code ++ flat aligned) fits_singles body in
       let x = fits_both 33 (s + 11 + (22 + a)) enter_head_code (loop_code Ne (flat single) ++ (leave_head_code ++ flat aligned)) enter turns in

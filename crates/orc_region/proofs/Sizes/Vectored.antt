@@ -1,51 +1,21 @@
 -- Instructions on vector registers have few bytes.
-use Rattle.std.proofs.Common.{◌≡◌, ℕ, ◌≤◌, Bool, true, false, List, [], ◌∷◌, ◌++◌, length, refl, sym, arith, length-append, true≢false}
-use Rattle.x86_ins.specs.declared.ins.VecImmOp.{VecImmOp}
-use Rattle.x86_ins.specs.declared.ins.ShuffleOp.{ShuffleOp}
+use Rattle.std.proofs.Common.{◌≡◌, true, false, List, [], ◌∷◌, sym, true≢false}
 use Rattle.x86_ins.specs.declared.ins.Ins.{Ins}
 use Rattle.x86_ins.specs.declared.ins.Ins.TheVariants.{Vec, VecImm, Shuffle, VecLoad, VecStore, FromGpr, ToGpr, Move, Load, Store, Store8, Store16, Load8, Load16, MovImm, Alu, AluImm, Test, Shift, Imul, Lea, Push, Pop, Jump, JumpIf, Ret}
 use Rattle.x86_ins.specs.Vectors.{simd, is_simd, all_simd}
-use Rattle.x86_ins.specs.Spelling.{IsIns, spelling, rex_bits, rex, m_reg, reg_form, top, imm_byte, imm_digit, shuffle_prefix}
+use Rattle.x86_ins.specs.Spelling.{IsIns}
 use Rattle.x86_ins.specs.Way.{Each}
 use Rattle.orc_program.proofs.Sizes.{both}
 use Rattle.x86_flow.proofs.Spelled.{IsFine, fine_vec}
-
-rex_short : (w r b : Bool) → length (rex_bits w r b) ≤ 1
-rex_short true true true = omega arith
-rex_short true true false = omega arith
-rex_short true false true = omega arith
-rex_short true false false = omega arith
-rex_short false true true = omega arith
-rex_short false true false = omega arith
-rex_short false false true = omega arith
-rex_short false false false = omega arith
-
-form_short : (pre opcode : List ℕ) (reg rm : ℕ) → length pre ≤ 1 → length opcode ≤ 2 → length (reg_form pre false opcode reg rm) ≤ 5
-unfolding reg_form
-form_short pre opcode reg rm p o =
-    omega (arith, p, o, rex_short false (top reg) (top rm), length-append pre (rex false reg rm ++ (opcode ++ m_reg reg rm)), length-append (rex false reg rm) (opcode ++ m_reg reg rm), length-append opcode (m_reg reg rm))
-
-fine_vec_imm : (op : VecImmOp) (d n : ℕ) → IsIns (VecImm op d n) → IsFine (VecImm op d n)
-unfolding spelling
-fine_vec_imm op d n h = record {
-  allowed = (h, refl);
-  short = omega (arith, form_short (0x66 ∷ []) (0x0f ∷ imm_byte op ∷ []) (imm_digit op) d (omega arith) (omega arith), length-append (reg_form (0x66 ∷ []) false (0x0f ∷ imm_byte op ∷ []) (imm_digit op) d) (n ∷ []));
-}
-
-fine_shuffle : (op : ShuffleOp) (d s n : ℕ) → IsIns (Shuffle op d s n) → IsFine (Shuffle op d s n)
-unfolding spelling
-fine_shuffle op d s n h = record {
-  allowed = (h, refl);
-  short = omega (arith, form_short (shuffle_prefix op ∷ []) (0x0f ∷ 0x70 ∷ []) d s (omega arith) (omega arith), length-append (reg_form (shuffle_prefix op ∷ []) false (0x0f ∷ 0x70 ∷ []) d s) (n ∷ []));
-}
+use Rattle.orc_frame.proofs.Counted.{fine_vec_imm, fine_shuffle}
 
 none : {A : Type 0} → false ≡ true → A
 none h = absurd (true≢false (sym h))
 
 fine_one : (i : Ins) → is_simd (simd i) ≡ true → IsIns i → IsFine i
 fine_one (Vec op d s) h g = fine_vec op d s g.0 g.1
-fine_one (VecImm op d n) h g = fine_vec_imm op d n g
-fine_one (Shuffle op d s n) h g = fine_shuffle op d s n g
+fine_one (VecImm op d n) h g = fine_vec_imm op d n g.0 g.1
+fine_one (Shuffle op d s n) h g = fine_shuffle op d s n g.0 g.1.0 g.1.1
 fine_one (VecLoad op d a) h g = none h
 fine_one (VecStore op s a) h g = none h
 fine_one (FromGpr wide d s) h g = none h

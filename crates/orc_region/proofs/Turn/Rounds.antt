@@ -15,6 +15,7 @@ use Rattle.orc_region.specs.Code.{Action, Plan, pointer, action_far_code, block_
 use Rattle.orc_region.specs.Regions.{plain_row, aligned_row}
 use Rattle.orc_region.proofs.Block.Registers.{not_0, not_1}
 use Rattle.orc_region.proofs.Block.Cells.{Numbers}
+use Rattle.orc_frame.specs.Layout.{frame_size}
 use Rattle.orc_frame.specs.Parts.{InRunning}
 use Rattle.orc_region.proofs.Block.Frames.{framed_below}
 use Rattle.orc_region.proofs.Block.Actions.{IsFit}
@@ -26,7 +27,7 @@ use Rattle.orc_bits.proofs.LaneLaws.{eq_false}
 
 -- F are the addresses of the frame; `first` is the memory before the row's elements
 module _ (n : ℕ) (base : ℕ → ℕ) (P : ℕ → Type 0) (numbers : Numbers) (rsp : ℕ) (p : Plan) (Emul : ℕ → Memory → (ℕ → ℕ) → Type 0) (F : ℕ → Type 0) (set : Setting n base P numbers rsp p Emul F) (rdi : ℕ) (first : Memory)
-    (Q : Core → Ins → Type 0) (stack_low : rsp + 1032 ≤ 2 ^ 47) (framed : (a : ℕ) → rsp ≤ a → a < rsp + 1024 → F a) where
+    (Q : Core → Ins → Type 0) (stack_low : rsp + (frame_size + 8) ≤ 2 ^ 47) (framed : (a : ℕ) → rsp ≤ a → a < rsp + frame_size → F a) where
   abbrev pub InFree : ℕ → Type 0
   InFree = InWord Q rsp stack_low
 
@@ -167,7 +168,7 @@ module _ (n : ℕ) (base : ℕ → ℕ) (P : ℕ → Type 0) (numbers : Numbers)
 
 -- a row without aligned stores: the turns of `p` do one element, and those of `actions` several
 module _ (n : ℕ) (base : ℕ → ℕ) (P : ℕ → Type 0) (numbers : Numbers) (rsp : ℕ) (p : Plan) (Emul : ℕ → Memory → (ℕ → ℕ) → Type 0) (F : ℕ → Type 0) (set : Setting n base P numbers rsp p Emul F) (rdi : ℕ) (first : Memory)
-    (Q : Core → Ins → Type 0) (stack_low : rsp + 1032 ≤ 2 ^ 47) (framed : (a : ℕ) → rsp ≤ a → a < rsp + 1024 → F a)
+    (Q : Core → Ins → Type 0) (stack_low : rsp + (frame_size + 8) ≤ 2 ^ 47) (framed : (a : ℕ) → rsp ≤ a → a < rsp + frame_size → F a)
     (Free : Type 0) (calmly : (u : Core) (i : Ins) → Outside n base P numbers rsp p Emul F set rdi first Q stack_low framed u → TouchesPart n base p.size P rsp Free u i → Q u i)
     (by : ℕ → Bool) (by_stack : by 4 ≡ false)
     (actions : List Action) (other : Setting n base P numbers rsp (record p { actions = actions }) Emul F) (lanes : ℕ) (positive : 0 < lanes) (most : lanes ≤ 16)

@@ -1,16 +1,24 @@
-use Rattle.std.proofs.Common.{ap}
-use Rattle.orc_program.specs.Program.{FunctionValue}
+use Rattle.std.proofs.Common.{ap, ◌≡◌, ◌×◌, ◌∙◌, ℕ, List}
+use Rattle.x86_flow.specs.Flow.{Plain, spell_all, with_return}
+use Rattle.x86_flow.specs.Tree.{flat_of}
+use Rattle.orc_frame.specs.declared.frame.Layout.{Layout}
 use Rattle.orc_frame.proofs.Counted.{ok_map}
 use Rattle.orc_region.proofs.Built.Turns.{elements_few}
-use Rattle.orc_asm.proofs.Function.Whole.{list_slices, whole_runs}
+use Rattle.orc_region.proofs.Checked.Layouts.{two_d_is}
+use Rattle.orc_asm.specs.Function.{RunsQuietly}
+use Rattle.orc_asm.specs.Rows.{whole_flow}
+use Rattle.orc_asm.proofs.Function.Whole.{HasCodeLength, list_slices, whole_runs}
 use Rattle.orc_asm.proofs.assembly.code_of.Goals as goal
+use Rattle.orc_asm.proofs.assembly.code_of.Goals.{After-whole_code}
 
 pub whole_code-requires-clause-few : goal.whole_code-requires-clause-few
 whole_code-requires-clause-few c = elements_few c.args.f.now c.counts_of-counts.ensures.kept _ c.in_ok-elements.ensures
 
-pub returns-clause-inside : goal.returns-clause-inside
-returns-clause-inside c = ok_map c.whole_code.result _ _
-    (λ code e. (whole_runs c.args.f.now c.counts_of-counts.ensures.kept c.layout-layout.result c.as_slice.result.now c.as_slice-2.result.now
+-- the bytes of the rows between the frame's lists
+runs : (c : After-whole_code) (code : List ℕ)
+    → code ≡ spell_all (with_return (whole_flow c.as_slice.result.now (Plain (flat_of c.in_ok-elements.elements)) c.as_slice-2.result.now c.layout-layout.result.two_d c.counts_of-counts.result.dests c.counts_of-counts.result.sources))
+    → RunsQuietly c.args.f.now code × HasCodeLength code
+runs c code e = whole_runs c.args.f.now c.counts_of-counts.ensures.kept c.layout-layout.result c.as_slice.result.now c.as_slice-2.result.now
     (list_slices c.args.f.now c.layout-layout.result _ _ c.as_slice.result.now c.as_slice-2.result.now c.as_slice.ensures c.as_slice-2.ensures
     (record {
       layout = c.layout-layout.ensures.value;
@@ -25,25 +33,10 @@ returns-clause-inside c = ok_map c.whole_code.result _ _
       last_bytes = c.in_ok-last.ensures.bytes;
       last_short = c.in_ok-last.ensures.short;
     }))
-    _ c.in_ok-elements.ensures code c.f.inside.two_d c.counts_of-counts.result.dests c.counts_of-counts.result.sources (ap (λ (x : FunctionValue). x.two_d) c.f.view_is) c.counts_of-counts.ensures.dests c.counts_of-counts.ensures.sources e).0)
-    c.whole_code.ensures
+    _ c.in_ok-elements.ensures code c.layout-layout.result.two_d c.counts_of-counts.result.dests c.counts_of-counts.result.sources (ap (λ (x : Layout). x.two_d) c.layout-layout.ensures.value ∙ two_d_is c.args.f.now) c.counts_of-counts.ensures.dests c.counts_of-counts.ensures.sources e
+
+pub returns-clause-inside : goal.returns-clause-inside
+returns-clause-inside c = ok_map c.whole_code.result _ _ (λ code e. (runs (goal.at.returns-clause-inside c).After-whole_code code e).0) c.whole_code.ensures
 
 pub returns-clause-bytes : goal.returns-clause-bytes
-returns-clause-bytes c = ok_map c.whole_code.result _ _
-    (λ code e. (whole_runs c.args.f.now c.counts_of-counts.ensures.kept c.layout-layout.result c.as_slice.result.now c.as_slice-2.result.now
-    (list_slices c.args.f.now c.layout-layout.result _ _ c.as_slice.result.now c.as_slice-2.result.now c.as_slice.ensures c.as_slice-2.ensures
-    (record {
-      layout = c.layout-layout.ensures.value;
-      prepares = c.in_ok-first.ensures.prepares;
-      first_own = c.in_ok-first.ensures.own;
-      first_allowed = c.in_ok-first.ensures.allowed;
-      first_bytes = c.in_ok-first.ensures.bytes;
-      first_short = c.in_ok-first.ensures.short;
-      finishes = c.in_ok-last.ensures.finishes;
-      last_own = c.in_ok-last.ensures.own;
-      last_allowed = c.in_ok-last.ensures.allowed;
-      last_bytes = c.in_ok-last.ensures.bytes;
-      last_short = c.in_ok-last.ensures.short;
-    }))
-    _ c.in_ok-elements.ensures code c.f.inside.two_d c.counts_of-counts.result.dests c.counts_of-counts.result.sources (ap (λ (x : FunctionValue). x.two_d) c.f.view_is) c.counts_of-counts.ensures.dests c.counts_of-counts.ensures.sources e).1)
-    c.whole_code.ensures
+returns-clause-bytes c = ok_map c.whole_code.result _ _ (λ code e. (runs (goal.at.returns-clause-bytes c).After-whole_code code e).1) c.whole_code.ensures
