@@ -1,5 +1,5 @@
 -- What the instructions of a block touch: slots of the frame, and cells by the pointers of their arrays.
-use Rattle.std.proofs.Common.{◌≡◌, ◌≢◌, ℕ, ◌+◌, ◌*◌, ◌-◌, ◌^◌, ◌<◌, ◌≤◌, ◌&&◌, Bool, true, false, true≢false, List, [], ◌∷◌, ◌++◌, Option, Some, None, Ok, refl, sym, ap, ◌∙◌, subst, arith, ◌⊎◌, inl, inr}
+use Rattle.std.proofs.Common.{◌≡◌, ℕ, ◌+◌, ◌*◌, ◌-◌, ◌^◌, ◌<◌, ◌≤◌, ◌&&◌, Bool, true, false, true≢false, List, [], ◌∷◌, ◌++◌, Some, None, refl, sym, ap, ◌∙◌, subst, arith, ◌⊎◌, inl, inr}
 use Rattle.x86_ins.specs.declared.ins.Ins.{Ins}
 use Rattle.x86_ins.specs.declared.ins.Ins.TheVariants.{Vec, VecImm, Shuffle, VecLoad, VecStore, FromGpr, ToGpr, Move, Load, Store, Store8, Store16, Load8, Load16, MovImm, Alu, AluImm, Test, Shift, Imul, Lea, Push, Pop, Jump, JumpIf, Ret}
 use Rattle.x86_ins.specs.Machine.{Core, Touches, address, span}
@@ -18,9 +18,8 @@ use Rattle.orc_ops.specs.declared.opcode.Op.{Op}
 use Rattle.orc_ops.specs.Table.{size_of_result, size_of_source}
 use Rattle.orc_asm.specs.Stores.{IsMovdquStore}
 use Rattle.orc_asm.specs.Code.{Action, IsRule, Source, FromArray, FromPattern, FromPlace, Target, ToArray, ToSum, ToPlace, pointer, first_register, second_register, rule_register, rule_code, source_far_code, sources_far_code, sum_code, result_far_code, results_far_code, action_far_code, actions_far_code}
-use Rattle.orc_asm.proofs.Registers.{not_0}
 use Rattle.orc_asm.proofs.Digits.{byte_split, byte_further}
-use Rattle.orc_asm.proofs.Cells.{Numbers, Low, IsFrom, AreFrom, IsMade, AreMade, AreTo, IsKnown, AllKnown, live_act}
+use Rattle.orc_asm.proofs.Cells.{Numbers, Low, IsFrom, AreFrom, IsMade, AreTo, IsKnown, AllKnown, live_act}
 use Rattle.orc_asm.proofs.Sizes.{vectors_of}
 use Rattle.orc_asm.proofs.Block.{IsMovedFrom, IsMovedTo, IsFit}
 
