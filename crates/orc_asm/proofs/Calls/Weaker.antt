@@ -41,8 +41,5 @@ runs_inside f bytes h = weaker f _ no_promise (λ s small call way t p. tt) byte
 pub runs_quietly : (f : Subject) (bytes : List ℕ) → RunsFully f bytes → RunsQuietly f bytes
 runs_quietly f bytes h = weaker f _ (quiet f) (λ s small call way t p. p.0) bytes h
 
-pub quietly_as : (f : Subject) (bytes : List ℕ) → RunsQuietly f bytes → RunsAs f bytes
-quietly_as f bytes h = runs_with f no_promise bytes (weaker f _ no_promise (λ s small call way t p. tt) bytes h)
-
 pub runs_wide : (f : Subject) (bytes : List ℕ) → RunsFully f bytes → RunsWith f (wide f) bytes
 runs_wide f bytes h = runs_with f (wide f) bytes (weaker f _ (wide f) (λ s small call way t p. p.1) bytes h)

@@ -216,6 +216,7 @@ module _ (f : FunctionValue) (at : List ℕ) (single wide aligned : List Ins) (e
   block_dest : (x : ℕ) → s.core.gpr 7 ≤ x → x < s.core.gpr 7 + block_size → Dests x → ⊥
   block_dest x l u h = (good.disjoint.cells x (dest_cell f known code s args back good x h)).0 (l, u)
 
+  -- what else is asked of a step and of its instruction
   abbrev pub Fair : Core → Ins → Type 0
   Fair = WideAt (subject_of f) args
 

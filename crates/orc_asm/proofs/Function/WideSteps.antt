@@ -1,5 +1,5 @@
 -- What `wide` asks of a way is what it asks of its steps, and a bound on the instructions that go by pointers.
-use Rattle.std.proofs.Common.{◌≡◌, ◌≢◌, ℕ, ◌+◌, ◌*◌, ◌%◌, ◌^◌, ◌<◌, ◌≤◌, ◌==◌, ◌||◌, ◌&&◌, not, nat_lt, Bool, true, false, true≢false, if◌then◌else◌, List, refl, sym, ap, ap₂, ◌∙◌, subst, arith, ◌⊎◌, inl, inr, ⊎_elim}
+use Rattle.std.proofs.Common.{◌≡◌, ◌≢◌, ℕ, ◌+◌, ◌*◌, ◌%◌, ◌^◌, ◌<◌, ◌≤◌, ◌||◌, ◌&&◌, not, true, false, true≢false, if◌then◌else◌, List, sym, ap, ap₂, ◌∙◌, subst, arith, ◌⊎◌, inl, inr, ⊎_elim}
 use Rattle.std.proofs.Math.Nat.{mul_assoc}
 use Rattle.std.proofs.lemmas.Bool.{cases_eq, lt-ltb}
 use Rattle.orc_bits.proofs.LaneLaws.{eq_false}
@@ -11,9 +11,8 @@ use Rattle.x86_ins.specs.declared.ins.Ins.{Ins}
 use Rattle.x86_ins.specs.Machine.{Core, Point, Touches}
 use Rattle.x86_ins.specs.Way.{Placed, Moment, Each, AtMost}
 use Rattle.x86_flow.specs.Touching.{weight_by}
-use Rattle.x86_flow.proofs.Counting.{at_most_more}
 use Rattle.x86_flow.proofs.Returning.{each_map}
-use Rattle.orc_frame.specs.Subject.{Call as Arguments, Subject, InArray, VerySame, rows, cell}
+use Rattle.orc_frame.specs.Subject.{Call as Arguments, Subject, InArray, rows}
 use Rattle.orc_frame.specs.Parts.{InBlock, InFrame, InReturn}
 use Rattle.orc_frame.specs.GoodCall.{GoodCall, lowered}
 use Rattle.orc_frame.specs.Function.{IsCellByte, subject_of}

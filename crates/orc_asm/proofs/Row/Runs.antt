@@ -131,7 +131,3 @@ module _ (f : FunctionValue) (known : Arrays f) (first : List Ins) (elements : F
             (each_map _ _ (λ m q. q.1) b.way b.each)
             (λ R sees. at_most_back cell_weight R Q code s.core done d back (weigh cell_weight first + rows (subject_of f) args * (turns (lanes f) args.n * touches) + weigh cell_weight last) b refl h.light (λ m q. sees m q.1));
       }
-
-  -- and so it is quiet on its way
-  pub runs : Each IsAllowed (with_return flow) → RunsWith (subject_of f) (quiet (subject_of f)) (spell_all (with_return flow))
-  runs allowed = runs_with (quiet (subject_of f)) (λ s args way t q e c. q) allowed

@@ -1,5 +1,5 @@
 -- What the instructions of a block touch: slots of the frame, and cells by the pointers of their arrays.
-use Rattle.std.proofs.Common.{◌≡◌, ◌≢◌, ℕ, ◌+◌, ◌*◌, ◌-◌, ◌^◌, ◌<◌, ◌≤◌, ◌&&◌, Bool, true, false, true≢false, List, [], ◌∷◌, ◌++◌, Option, Some, None, Ok, refl, sym, ap, ◌∙◌, subst, arith, ◌⊎◌, inl, inr}
+use Rattle.std.proofs.Common.{◌≡◌, ℕ, ◌+◌, ◌*◌, ◌-◌, ◌^◌, ◌<◌, ◌≤◌, ◌&&◌, Bool, true, false, true≢false, List, [], ◌∷◌, ◌++◌, Some, None, refl, sym, ap, ◌∙◌, subst, arith, ◌⊎◌, inl, inr}
 use Rattle.x86_ins.specs.declared.ins.Ins.{Ins}
 use Rattle.x86_ins.specs.declared.ins.Ins.TheVariants.{Vec, VecImm, Shuffle, VecLoad, VecStore, FromGpr, ToGpr, Move, Load, Store, Store8, Store16, Load8, Load16, MovImm, Alu, AluImm, Test, Shift, Imul, Lea, Push, Pop, Jump, JumpIf, Ret}
 use Rattle.x86_ins.specs.Machine.{Core, Touches, address, span}
@@ -13,14 +13,13 @@ use Rattle.x86_flow.proofs.Moves.{each_width}
 use Rattle.x86_flow.proofs.Spelled.{each_both}
 use Rattle.x86_flow.proofs.Touching.{touches_none, touches_in}
 use Rattle.x86_flow.proofs.Words.{at_away}
-use Rattle.orc_frame.specs.Layout.{pattern_slot, sum_slot}
+use Rattle.orc_frame.specs.Layout.{frame_size, pattern_slot, sum_slot}
 use Rattle.orc_ops.specs.declared.opcode.Op.{Op}
 use Rattle.orc_ops.specs.Table.{size_of_result, size_of_source}
 use Rattle.orc_region.specs.Stores.{IsMovdquStore}
 use Rattle.orc_region.specs.Code.{Action, IsRule, Source, FromArray, FromPattern, FromPlace, Target, ToArray, ToSum, ToPlace, pointer, first_register, second_register, rule_register, rule_code, source_far_code, sources_far_code, sum_code, result_far_code, results_far_code, action_far_code, actions_far_code}
-use Rattle.orc_region.proofs.Block.Registers.{not_0}
 use Rattle.orc_region.proofs.Arithmetic.Digits.{byte_split, byte_further}
-use Rattle.orc_region.proofs.Block.Cells.{Numbers, Low, IsFrom, AreFrom, IsMade, AreMade, AreTo, IsKnown, AllKnown, live_act}
+use Rattle.orc_region.proofs.Block.Cells.{Numbers, Low, IsFrom, AreFrom, IsMade, AreTo, IsKnown, AllKnown, live_act}
 use Rattle.orc_region.proofs.Sizes.Bytes.{vectors_of}
 use Rattle.orc_region.proofs.Block.Actions.{IsMovedFrom, IsMovedTo, IsFit}
 
@@ -128,7 +127,7 @@ InSlot n base size k a = (i : ℕ) × (i < n) × (r : ℕ) × (r < size k) × (a
 -- bytes of the frame alone, or cells of one array, by its pointer; a movdqu store goes to a dest, and to the first one only where Free holds
 abbrev pub TouchesPart : ℕ → (ℕ → ℕ) → (ℕ → ℕ) → (ℕ → Type 0) → ℕ → Type 0 → Core → Ins → Type 0
 TouchesPart n base size P rsp Free u ins =
-    ((a : ℕ) → Touches ins u a → (rsp ≤ a) × (a < rsp + 1024))
+    ((a : ℕ) → Touches ins u a → (rsp ≤ a) × (a < rsp + frame_size))
     ⊎ ((k : ℕ) × P k × (base_of ins ≡ Some (pointer k)) × ((a : ℕ) → Touches ins u a → InSlot n base size k a) × (IsMovdquStore ins → (k < 4) × (k ≡ 0 → Free)))
 
 -- ---- a block
@@ -209,7 +208,7 @@ module _ (n : ℕ) (base size : ℕ → ℕ) (P : ℕ → Type 0) (numbers : Num
 
   -- ---- what that touches in a core
 
-  module _ (rsp : ℕ) (stack_low : rsp + 1024 ≤ 2 ^ 47) (low : Low n base size P) (some : 0 < count) where
+  module _ (rsp : ℕ) (stack_low : rsp + frame_size ≤ 2 ^ 47) (low : Low n base size P) (some : 0 < count) where
     -- where the pointers of arrays are at element i, the block's instructions touch the frame or cells of one array
     pub goes_touch : (Free : Type 0) → (aligned 0 ≡ false → count * size 0 ≡ 16 → Free) → (i : ℕ) → i + count ≤ n → (u : Core) → u.gpr 4 ≡ rsp → ((k : ℕ) → P k → 0 < size k → u.gpr (pointer k) + far k ≡ base k + i * size k) → (ins : Ins) → Goes ins → TouchesPart n base size P rsp Free u ins
     goes_touch Free free i within u stack at ins (inl h) = inl (λ a t. absurd (touches_none ins u (h.1 u) a t))

@@ -15,7 +15,7 @@ none h = absurd (true≢false (sym h))
 fine_one : (i : Ins) → is_simd (simd i) ≡ true → IsIns i → IsFine i
 fine_one (Vec op d s) h g = fine_vec op d s g.0 g.1
 fine_one (VecImm op d n) h g = fine_vec_imm op d n g.0 g.1
-fine_one (Shuffle op d s n) h g = fine_shuffle op d s n g.0 g.1.0 g.1.1
+fine_one (Shuffle op d s n) h g = fine_shuffle op d s n g.0 g.1 g.2
 fine_one (VecLoad op d a) h g = none h
 fine_one (VecStore op s a) h g = none h
 fine_one (FromGpr wide d s) h g = none h

@@ -1,5 +1,5 @@
 -- Turns of so many elements are what the loops of a row ask for.
-use Rattle.std.proofs.Common.{◌≡◌, ℕ, zero, suc, ◌+◌, ◌/◌, ◌==◌, true≢false, inl, ◌-◌, ◌*◌, ◌%◌, ◌^◌, ◌<◌, ◌≤◌, Bool, true, false, is_some, le_refl, sym, ap, ◌∙◌, subst, arith, refl, List, length}
+use Rattle.std.proofs.Common.{◌≡◌, ℕ, zero, suc, ◌+◌, ◌/◌, true≢false, inl, ◌-◌, ◌*◌, ◌%◌, ◌^◌, ◌<◌, ◌≤◌, Bool, true, false, is_some, le_refl, sym, ap, ◌∙◌, subst, arith, refl, List, length}
 use Rattle.orc_bits.specs.Memory.{Memory, IsMapped}
 use Rattle.x86_ins.specs.declared.ins.Ins.{Ins}
 use Rattle.x86_ins.specs.Machine.{Core, Bounded}
@@ -11,7 +11,7 @@ use Rattle.x86_flow.specs.Touching.{touch_weight}
 use Rattle.x86_flow.specs.Does.{Does}
 use Rattle.x86_flow.proofs.Plans.{weigh}
 use Rattle.orc_program.specs.Need.{turns}
-use Rattle.orc_region.specs.Code.{Action, Plan, pointer, action_far_code, block_far, turn_code, blocks_turn_code}
+use Rattle.orc_region.specs.Code.{Action, Plan, pointer, aligned_first, action_far_code, block_far, turn_code, blocks_turn_code}
 use Rattle.orc_region.specs.Regions.{plain_row, aligned_row}
 use Rattle.orc_region.proofs.Block.Registers.{not_0, not_1}
 use Rattle.orc_region.proofs.Block.Cells.{Numbers}
@@ -23,7 +23,6 @@ use Rattle.orc_region.proofs.Block.Touched.{TouchesPart}
 use Rattle.orc_region.proofs.Turn.Advancing.{Setting, IsDestCell, Calm, Inside, turn_line, blocks_turn_line}
 use Rattle.orc_region.proofs.Row.Regions.{InWord, Beside, Ground, IsTurn, wide_region, plain_line, aligned_line}
 use Rattle.orc_region.proofs.Row.Gaps.{AtSixteen, each_size, sixteen_on}
-use Rattle.orc_bits.proofs.LaneLaws.{eq_false}
 
 -- F are the addresses of the frame; `first` is the memory before the row's elements
 module _ (n : ℕ) (base : ℕ → ℕ) (P : ℕ → Type 0) (numbers : Numbers) (rsp : ℕ) (p : Plan) (Emul : ℕ → Memory → (ℕ → ℕ) → Type 0) (F : ℕ → Type 0) (set : Setting n base P numbers rsp p Emul F) (rdi : ℕ) (first : Memory)
@@ -198,11 +197,10 @@ module _ (n : ℕ) (base : ℕ → ℕ) (P : ℕ → Type 0) (numbers : Numbers)
 
   -- the first dest alone is stored aligned
   abbrev pub first_only : ℕ → Bool
-  first_only k = k == 0
+  first_only = aligned_first true
 
   first_is : (k : ℕ) → first_only k ≡ true → k ≡ 0
-  first_is zero e = refl
-  first_is (suc k) e = absurd (true≢false (sym e ∙ eq_false (suc k) 0 (λ z. omega (arith, z))))
+  first_is k e = grind (arith, e)
 
   -- a row whose first dest has elements of 2 ^ k bytes, of which `lanes` fill a register; the turns of `stored` store it aligned
   module _ (stored : List Action) (still : Setting n base P numbers rsp (record p { actions = stored }) Emul F) (fit_stored : Each (IsFit lanes p.size) stored) (ins_stored : Each IsIns (turn_code (record p { actions = stored }) lanes)) (k : ℕ) (small : k ≤ 3) (full : 16 / 2 ^ k ≡ lanes) (some_dest : 0 < p.dests) (size_is : p.size 0 ≡ 2 ^ k)
