@@ -1,11 +1,11 @@
-use Rattle.std.proofs.Common.{ap, ◌≡◌, ◌×◌, ◌∙◌, ℕ, List}
+use Rattle.std.proofs.Common.{ap, ◌≡◌, ◌∙◌, ℕ, List}
 use Rattle.x86_flow.specs.Flow.{Plain, spell_all, with_return}
 use Rattle.x86_flow.specs.Tree.{flat_of}
 use Rattle.orc_frame.specs.declared.frame.Layout.{Layout}
 use Rattle.orc_frame.proofs.Counted.{ok_map}
 use Rattle.orc_region.proofs.Built.Turns.{elements_few}
 use Rattle.orc_region.proofs.Checked.Layouts.{two_d_is}
-use Rattle.orc_asm.specs.Function.{RunsQuietly}
+use Rattle.orc_asm.specs.Function.{RunsFully}
 use Rattle.orc_asm.specs.Rows.{whole_flow}
 use Rattle.orc_asm.proofs.Function.Whole.{HasCodeLength, list_slices, whole_runs}
 use Rattle.orc_asm.proofs.assembly.code_of.Goals as goal
@@ -17,7 +17,7 @@ whole_code-requires-clause-few c = elements_few c.args.f.now c.counts_of-counts.
 -- the bytes of the rows between the frame's lists
 runs : (c : After-whole_code) (code : List ℕ)
     → code ≡ spell_all (with_return (whole_flow c.as_slice.result.now (Plain (flat_of c.in_ok-elements.elements)) c.as_slice-2.result.now c.layout-layout.result.two_d c.counts_of-counts.result.dests c.counts_of-counts.result.sources))
-    → RunsQuietly c.args.f.now code × HasCodeLength code
+    → RunsFully c.args.f.now code × HasCodeLength code
 runs c code e = whole_runs c.args.f.now c.counts_of-counts.ensures.kept c.layout-layout.result c.as_slice.result.now c.as_slice-2.result.now
     (list_slices c.args.f.now c.layout-layout.result _ _ c.as_slice.result.now c.as_slice-2.result.now c.as_slice.ensures c.as_slice-2.ensures
     (record {
