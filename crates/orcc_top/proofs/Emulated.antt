@@ -1,20 +1,22 @@
 -- What is told of an emulation.
-use Rattle.std.proofs.Common.{◌≡◌, ℕ, List, Some, None, option_map, Result, Err, refl, sym, ap, ◌∙◌, subst}
+use Rattle.std.proofs.Common.{◌≡◌, ◌≤◌, ℕ, List, length, Some, None, option_map, Result, Err, refl, sym, ap, ◌∙◌, subst}
 use Rattle.orc_bits.specs.Memory.{Memory}
 use Rattle.orc_bits.specs.declared.parts.Part.{Part}
 use Rattle.orc_bits.specs.Parts.{layout, memory_of, Overlaps}
-use Rattle.orc_program.specs.declared.fault.Fault.{Fault}
 use Rattle.orc_program.specs.Program.{FunctionValue, ProgramValue}
 use Rattle.orc_program.specs.Meaning.{Gap}
-use Rattle.orc_text.specs.Reads.{Reads, text_fault, text_program}
+use Rattle.orc_text.specs.Reads.{Reads, text_program}
 use Rattle.orc_job.specs.declared.error.JobError.{JobError}
 use Rattle.orc_job.specs.declared.error.JobError.TheVariants as error
 use Rattle.orc_job.specs.declared.outcome.Outcome.{Outcome}
 use Rattle.orc_job.specs.Told.{UnlessMemory}
 use Rattle.orcc_top.specs.declared.refusal.Refusal.TheVariants as refusal
+use Rattle.orcc_top.specs.declared.command.Command.TheVariants.{Emulate}
+use Rattle.orcc_top.specs.Answer.{Refuses}
 use Rattle.orcc_top.specs.Inputs.{text_in, job_in}
-use Rattle.orcc_top.specs.Texts.{fault_refusal}
+use Rattle.orcc_top.specs.Texts.{TellsFault, fault_refusal}
 use Rattle.orcc_top.specs.Emulation.{Comes, AreNow, refusal_on, emulate_refusal}
+use Rattle.orcc_top.proofs.Limits.{within_limit}
 use Rattle.orcc_top.proofs.Segmented.{parts_have}
 
 -- a refusal that is not for want of memory tells what it tells
@@ -27,10 +29,11 @@ told X error.Overlap P other p = p
 told X error.Memory P other p = absurd (other refl)
 
 -- the text's first fault stands before all that the job is refused for
-pub emulate_fault : (input text : List ℕ) (line : ℕ) (f : Fault) → text ≡ text_in input → text_fault text ≡ Some (line, f) → emulate_refusal input ≡ Some (refusal.Text line f)
-emulate_fault input text line f is first =
-    let e : fault_refusal (text_in input) ≡ Some (refusal.Text line f) = ap fault_refusal (sym is) ∙ ap (option_map (λ x. refusal.Text x.0 x.1)) first in
-    rw e refl
+pub emulate_fault_refuses : (input text line : List ℕ) → length input ≤ 67108864 → text ≡ text_in input → TellsFault text line → Refuses Emulate input line
+emulate_fault_refuses input text line short is t = record { refusal = t.refusal; refused = within_limit Emulate input short ∙ before; says = t.says }
+  where
+    before : emulate_refusal input ≡ Some t.refusal
+    before = let e : fault_refusal (text_in input) ≡ Some t.refusal = ap fault_refusal (sym is) ∙ t.first in rw e refl
 
 pub emulate_job_refused : (input text bytes : List ℕ) (fs : List FunctionValue) (p : ProgramValue) (e : JobError) → text ≡ text_in input → bytes ≡ job_in input → Reads text p → fs ≡ p.functions
     → Some e ≡ refusal_on fs bytes → emulate_refusal input ≡ Some (refusal.Job e)
