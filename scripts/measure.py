@@ -6,7 +6,9 @@ ORCC is the program, crates/orcc/out/orcc unless given. Without files all of ker
 Linux with a C compiler, pkg-config and the library's headers (Debian: liborc-0.4-dev).
 
 A turn is the innermost loop that does most elements: its instructions are counted in the listing of `orcc dis`, and for
-the library in the code that it prints.
+the library in the code that it prints. An object's functions stand at multiples of 16, and how a loop lies to the
+boundaries of 32 and of 64 bytes changes its speed. So each function is measured at four places; the table has the best of
+them, and for the last number of elements also the worst.
 """
 
 import math
@@ -18,7 +20,8 @@ import tempfile
 
 TOP = pathlib.Path(__file__).resolve().parent.parent
 COUNTS = (40, 320, 1920, 16384)
-RUNS = 5
+PLACES = (0, 16, 32, 48)
+RUNS = 2
 
 
 def listings(orcc, image):
@@ -71,21 +74,30 @@ def words_of(*command):
     return subprocess.run(command, capture_output=True, text=True, check=True).stdout.split()
 
 
-def measured(room, text, name):
-    """The library's turn, and lines of numbers: elements, cycles of the kernel, cycles of the library; whether both left
-    the same."""
+def linked(room, name, place):
+    """The measuring program, with the kernel at so many bytes behind a multiple of 64."""
+    (room / "place.s").write_text(f".text\n.p2align 6\n.skip {64 + place}, 0x90\n.section .note.GNU-stack, \"\", @progbits\n")
     program = room / "measure"
-    subprocess.run(["cc", "-O2", f"-DKERNEL={name}", f"-I{TOP / 'include'}", TOP / "scripts/measure.c", room / "kernel.o",
-                    "-o", program, "-Wl,-z,noexecstack", *words_of("pkg-config", "--cflags", "--libs", "orc-0.4")],
-                   check=True)
+    subprocess.run(["cc", "-O2", f"-DKERNEL={name}", f"-I{TOP / 'include'}", TOP / "scripts/measure.c", room / "place.s",
+                    room / "kernel.o", "-o", program, "-Wl,-z,noexecstack",
+                    *words_of("pkg-config", "--cflags", "--libs", "orc-0.4")], check=True)
+    return program
+
+
+def measured(room, text, name):
+    """The library's turn; lines of numbers: elements, cycles of the kernel at its best and at its worst place, cycles of the
+    library, whether both left the same."""
     runs = []
-    for _ in range(RUNS):
-        lines = subprocess.run([program, text], capture_output=True, text=True, check=True).stdout.splitlines()
-        runs.append([line.split() for line in lines])
+    for place in PLACES:
+        program = linked(room, name, place)
+        ran = [subprocess.run([program, text], capture_output=True, text=True, check=True).stdout for _ in range(RUNS)]
+        runs.append([[line.split() for line in out.splitlines()] for out in ran])
     rows = []
-    for of_count in zip(*runs):
-        ours, theirs = (min(int(row[k]) for row in of_count) for k in (1, 2))
-        rows.append((int(of_count[0][0]), ours, theirs, all(row[3] == "same" for row in of_count)))
+    for k, n in enumerate(COUNTS):
+        at_places = [min(int(run[k][1]) for run in place) for place in runs]
+        theirs = min(int(run[k][2]) for place in runs for run in place)
+        same = all(run[k][3] == "same" for place in runs for run in place)
+        rows.append((n, min(at_places), max(at_places), theirs, same))
     code = subprocess.run([program, text, "code"], capture_output=True, text=True, check=True).stdout
     return library_turn(code), rows
 
@@ -99,8 +111,8 @@ def main():
     version = words_of("pkg-config", "--modversion", "orc-0.4")[0]
     print(f"ORC library {version}")
     print("| function | a turn: elements, instructions | ORC | " + " | ".join(f"n = {n} | ORC" for n in COUNTS) +
-          " | cycles an element | ORC |")
-    print("|---" * (5 + 2 * len(COUNTS)) + "|")
+          " | cycles an element | worst place | ORC |")
+    print("|---" * (6 + 2 * len(COUNTS)) + "|")
     ratios = {n: [] for n in COUNTS}
     with tempfile.TemporaryDirectory() as folder:
         room = pathlib.Path(folder)
@@ -111,12 +123,12 @@ def main():
             for name, lines in listings(orcc, image).items():
                 theirs_turn, rows = measured(room, path, name)
                 cells = []
-                for n, ours, theirs, _ in rows:
+                for n, ours, _, theirs, _ in rows:
                     cells += [f"{ours:,}", f"{theirs:,}" if theirs else "none"]
                     if ours and theirs:
                         ratios[n].append(ours / theirs)
-                n, ours, theirs, _ = rows[-1]
-                cells += [f"{ours / n:.2f}", f"{theirs / n:.2f}" if theirs else "none"]
+                n, ours, worst, theirs, _ = rows[-1]
+                cells += [f"{ours / n:.2f}", f"{worst / n:.2f}", f"{theirs / n:.2f}" if theirs else "none"]
                 turns = ["{}, {}".format(*turn(lines)), "{}, {}".format(*theirs_turn)]
                 print(f"| `{name}` | " + " | ".join(turns + cells) + " |", flush=True)
                 if not all(same for *_, same in rows):
