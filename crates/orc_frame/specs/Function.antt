@@ -1,16 +1,15 @@
 -- Functions of the language as calls see them.
-use Rattle.std.specs.Prelude.{◌≡◌, ℕ, ◌+◌, Bool, true, ◌||◌, List, Option, Some, None, Result, Ok, Err, slice_index}
+use Rattle.std.specs.Prelude.{◌≡◌, ℕ, ◌+◌, true, List, Option, Some, None, Result, Ok, Err, slice_index}
 use Rattle.std.specs.List.{count_by, sum_by}
 use Rattle.orc_bits.specs.Memory.{Memory}
 use Rattle.orc_program.specs.declared.program.Var.{Var}
 use Rattle.orc_program.specs.declared.program.VarKind.TheVariants as kind
-use Rattle.orc_program.specs.declared.program.Operand.{Operand}
 use Rattle.orc_program.specs.declared.program.Insn.{Insn}
 use Rattle.orc_program.specs.declared.call.Call.{Call}
-use Rattle.orc_program.specs.Program.{FunctionValue, count_of, operand_is}
+use Rattle.orc_program.specs.Program.{FunctionValue, count_of}
 use Rattle.orc_program.specs.Meaning.{Gap, emulate}
 use Rattle.orc_program.specs.Good.{IsByte, GoodArrays, byte_at}
-use Rattle.orc_program.specs.Need.{steps, lanes, turns}
+use Rattle.orc_program.specs.Need.{is_array_operand, steps, lanes, turns}
 use Rattle.orc_program.specs.Slots.{call_of, size_of_slot}
 use Rattle.orc_frame.specs.Subject.{End, Subject}
 
@@ -18,9 +17,6 @@ use Rattle.orc_frame.specs.Subject.{End, Subject}
 abbrev pub end_of : Result (Memory × List ℕ) Gap → Option End
 end_of (Ok e) = Some (record { memory = e.0; sums = slice_index e.1 })
 end_of (Err g) = None
-
-abbrev pub is_array_operand : List Var → Operand → Bool
-is_array_operand vars o = operand_is kind.Dest vars o || operand_is kind.Source vars o
 
 -- how many operands of an instruction are arrays
 abbrev pub array_operands : List Var → Insn → ℕ

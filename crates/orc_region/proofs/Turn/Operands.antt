@@ -10,11 +10,11 @@ use Rattle.orc_program.specs.declared.program.Insn.{Insn}
 use Rattle.orc_program.specs.Program.{FunctionValue, var_at, same_kind, is_array_kind}
 use Rattle.orc_program.specs.Checks.{patterns_of}
 use Rattle.orc_program.specs.Kept.{is_function}
-use Rattle.orc_program.specs.Need.{made_by}
+use Rattle.orc_program.specs.Need.{made_by, is_array_operand}
 use Rattle.orc_plan.specs.declared.steps.Step.{Step}
 use Rattle.orc_plan.specs.Lowered.{result_items, source_items, step_of, steps_after, steps_of}
 use Rattle.orc_plan.specs.Standing.{AllStand}
-use Rattle.orc_frame.specs.Function.{is_array_operand, array_operands, subject_of}
+use Rattle.orc_frame.specs.Function.{array_operands, subject_of}
 use Rattle.x86_ins.specs.declared.ins.Ins.{Ins}
 use Rattle.x86_flow.specs.Touching.{touch_weight}
 use Rattle.x86_flow.proofs.Plans.{weigh}
