@@ -14,7 +14,8 @@ use Rattle.orc_job.specs.Told.{UnlessMemory}
 use Rattle.orcc_top.specs.declared.refusal.Refusal.TheVariants as refusal
 use Rattle.orcc_top.specs.Inputs.{text_in, job_in}
 use Rattle.orcc_top.specs.Texts.{fault_refusal}
-use Rattle.orcc_top.specs.Emulation.{Comes, AreNow, refusal_on, emulate_refusal}
+use Rattle.orc_worlds.specs.Now.{AreNow}
+use Rattle.orcc_top.specs.Emulation.{Comes, refusal_on, emulate_refusal}
 use Rattle.orcc_top.proofs.Segmented.{parts_have}
 
 -- a refusal that is not for want of memory tells what it tells

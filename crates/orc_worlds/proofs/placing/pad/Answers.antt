@@ -1,7 +1,7 @@
 use Rattle.std.proofs.Common.{◌≡◌, ◌++◌, ◌∷◌, [], arith}
 use Rattle.std.proofs.lemmas.Grind.{common_steps}
-use Rattle.orcc_top.proofs.Padding.{one_more}
-use Rattle.orcc_top.proofs.placing.pad.Goals as goal
+use Rattle.orc_worlds.proofs.Padding.{one_more}
+use Rattle.orc_worlds.proofs.placing.pad.Goals as goal
 
 pub loop-out-preserved : goal.loop-out-preserved
 loop-out-preserved c =

@@ -1,5 +1,5 @@
 use Rattle.std.proofs.Common.{◌≡◌, ◌++◌, length}
-use Rattle.orcc_top.proofs.placing.copy_of.Given as goal
+use Rattle.orc_worlds.proofs.placing.copy_of.Given as goal
 
 abbrev pub invariant-loop-left : goal.invariant-loop-left
 invariant-loop-left l = l.copy ++ l.left ≡ l.parts

@@ -9,6 +9,7 @@ use Rattle.std.proofs.lemmas.List.{length-replicate}
 use Rattle.orc_bits.specs.declared.parts.Part.{Part}
 use Rattle.orc_bits.specs.Memory.{Memory, IsMapped}
 use Rattle.orc_bits.specs.Parts.{Span, span, layout, covers, memory_of}
+use Rattle.orc_program.specs.declared.call.Call.{Call}
 use Rattle.orc_job.specs.declared.job.Job.{Job}
 use Rattle.orc_job.specs.Forms.{is_within}
 use Rattle.orc_job.specs.Kept.{IsJob}
@@ -18,9 +19,9 @@ use Rattle.x86_ins.specs.Way.{Placed, Stop}
 use Rattle.x86_machine.specs.declared.machine.End.{End}
 use Rattle.x86_machine.specs.declared.machine.End.TheVariants as end
 use Rattle.x86_machine.specs.Ends.{EndsAt}
-use Rattle.orcc_top.specs.Emulation.{IsPartOf, AreNow}
-use Rattle.orcc_top.specs.Mapped.{AreMapped}
-use Rattle.orcc_top.specs.Placement.{block_at, padded, word_bytes, words_bytes, places_bytes, block_bytes, placed_parts, start}
+use Rattle.orc_worlds.specs.Now.{IsPartOf, AreNow}
+use Rattle.orc_worlds.specs.Mapped.{AreMapped}
+use Rattle.orc_worlds.specs.Placement.{block_at, padded, word_bytes, words_bytes, places_bytes, block_bytes, placed_parts, start}
 
 -- ---- mapped bytes
 
@@ -49,11 +50,11 @@ first_covers p ps i lt =
     let there : covers (span p) (p.at + i) ≡ true = grind (arith, nat_tests, lt) in
     rw there refl
 
-behind_covers : (ps : List Part) (p : Part) (qs : List Part) (i : ℕ) → i < length p.bytes → IsMapped (memory_of (ps ++ p ∷ qs)) (p.at + i)
+pub behind_covers : (ps : List Part) (p : Part) (qs : List Part) (i : ℕ) → i < length p.bytes → IsMapped (memory_of (ps ++ p ∷ qs)) (p.at + i)
 behind_covers [] p qs i lt = first_covers p qs i lt
 behind_covers (q ∷ ps) p qs i lt = one_more_keeps q (ps ++ p ∷ qs) (p.at + i) (behind_covers ps p qs i lt)
 
-all_mapped : (ps qs : List Part) → list_all is_within ps ≡ true → AreMapped (memory_of (ps ++ qs)) ps
+pub all_mapped : (ps qs : List Part) → list_all is_within ps ≡ true → AreMapped (memory_of (ps ++ qs)) ps
 all_mapped [] qs h = tt
 all_mapped (p ∷ ps) qs h = (
   record { low = grind (arith, nat_tests, h); mapped = λ i lt. first_covers p (ps ++ qs) i lt },
@@ -68,13 +69,13 @@ segments_mapped dests job k = all_mapped job.memory _ k.within
 padded_long : (size : ℕ) (bytes : List ℕ) → size ≤ length (padded size bytes)
 padded_long size bytes = omega (arith, length-append bytes (replicate (size - length bytes) 0), length-replicate {A = ℕ} (size - length bytes) 0)
 
-block_long : (dests : ℕ) (job : Job) → 304 ≤ length (block_bytes dests job.call)
+pub block_long : (dests : ℕ) (call : Call) → 304 ≤ length (block_bytes dests call)
 unfolding block_bytes
-block_long dests job = padded_long 304 (padded 208 (padded 80 (word_bytes job.call.n ++ (word_bytes job.call.m ++ places_bytes (take dests job.call.arrays.items))) ++ places_bytes (drop dests job.call.arrays.items)) ++ words_bytes job.call.params.items)
+block_long dests call = padded_long 304 (padded 208 (padded 80 (word_bytes call.n ++ (word_bytes call.m ++ places_bytes (take dests call.arrays.items))) ++ places_bytes (drop dests call.arrays.items)) ++ words_bytes call.params.items)
 
 pub block_mapped : (dests : ℕ) (job : Job) (i : ℕ) → i < 304 → IsMapped (memory_of (placed_parts dests job)) (block_at + i)
 unfolding placed_parts
-block_mapped dests job i lt = behind_covers job.memory _ _ i (omega (arith, lt, block_long dests job))
+block_mapped dests job i lt = behind_covers job.memory _ _ i (omega (arith, lt, block_long dests job.call))
 
 -- ---- bytes at the end
 

@@ -1,4 +1,4 @@
--- Where `run` places a function's code and a job, and the machine's state at the start.
+-- Where a function's code and a job are placed to be run, and the machine's state at the start.
 use Rattle.std.specs.Prelude.{ℕ, ◌-◌, ◌+◌, List, [], ◌∷◌, ◌++◌, length, take, drop, replicate, None}
 use Rattle.std.specs.Int.{w64, to_le_bytes, cast_unsigned}
 use Rattle.orc_bits.specs.declared.parts.Part.{Part}
@@ -72,17 +72,17 @@ placed_parts dests job = job.memory
     ∷ record { at = stack_at; bytes = word_bytes return_to }
     ∷ record { at = stack_at - frame_size; bytes = frame_bytes } ∷ [])
 
--- RSP and RDI stand at places 4 and 7
-abbrev pub start_state : State
-start_state = record {
-  gpr = replicate 4 filler_word ++ (stack_at ∷ filler_word ∷ filler_word ∷ block_at ∷ replicate 8 filler_word);
+-- the state at the code's first byte, with a block at one address and RSP at another; RSP and RDI stand at places 4 and 7
+abbrev pub state_at : ℕ → ℕ → State
+state_at block stack = record {
+  gpr = replicate 4 filler_word ++ (stack ∷ filler_word ∷ filler_word ∷ block ∷ replicate 8 filler_word);
   xmm = replicate 16 (replicate 16 filler);
   flags = None;
   rip = code_at;
 }
 
 abbrev pub start : ℕ → Job → Point
-start dests job = point_of start_state (memory_of (placed_parts dests job))
+start dests job = point_of (state_at block_at stack_at) (memory_of (placed_parts dests job))
 
 abbrev pub placed_code : FunctionValue → Placed
 placed_code f = record { bytes = f.code; start = code_at }

@@ -1,7 +1,7 @@
 -- Zeros behind bytes, one after the other.
 use Rattle.std.proofs.Common.{◌≡◌, ℕ, ◌+◌, ◌-◌, ◌≤◌, ◌<◌, ◌++◌, List, [], ◌∷◌, length, replicate, refl, ap, ◌∙◌, arith, length-append}
 use Rattle.std.proofs.lemmas.List.{length-replicate, replicate_more, append_assoc}
-use Rattle.orcc_top.specs.Placement.{padded}
+use Rattle.orc_worlds.specs.Placement.{padded}
 
 -- so many zeros have been put, and no more than are wanted
 pub record Padded (size : ℕ) (bytes now : List ℕ) : Type 0 where

@@ -1,6 +1,6 @@
 use Rattle.std.proofs.Common.{◌-◌, length}
-use Rattle.orcc_top.proofs.placing.pad.Given as goal
-use Rattle.orcc_top.proofs.Padding.{Padded}
+use Rattle.orc_worlds.proofs.placing.pad.Given as goal
+use Rattle.orc_worlds.proofs.Padding.{Padded}
 
 abbrev pub invariant-loop-out : goal.invariant-loop-out
 invariant-loop-out l = Padded l.size l.initial.out.items l.out.items

@@ -1,11 +1,11 @@
-//! Where `run` places a function's code and a job.
+//! Where a function's code and a job are placed to be run.
 ghost use Rattle.std.specs.Prelude.{◌≡◌, ◌≤◌, ◌++◌, ◌∷◌, [], length, OnOk, IfOk, take, drop, replicate};
 ghost use Rattle.std.specs.Int.{w64, cast_unsigned};
 ghost use Rattle.orc_bits.specs.Parts.{memory_of};
 ghost use Rattle.orc_frame.specs.Layout.{frame_size};
 ghost use Rattle.orc_image.specs.Spelling.{IsFunction};
 ghost use Rattle.x86_machine.specs.Ends.{code_of, point, stop_of};
-ghost use Rattle.orcc_top.specs.Placement.{stack_at, return_to, word_bytes, frame_bytes, words_bytes, place_bytes, places_bytes, padded, block_bytes, placed_parts, start_state, start, placed_code, stop};
+ghost use Rattle.orc_worlds.specs.Placement.{stack_at, return_to, word_bytes, frame_bytes, words_bytes, place_bytes, places_bytes, padded, block_bytes, placed_parts, state_at, start, placed_code, stop};
 
 use orc_bits::{Part, Parts};
 use orc_image::ImageFunction;
@@ -17,7 +17,7 @@ use x86_ins::state::State;
 use x86_machine::{Machine, Segments};
 
 /// The address of the code's first byte.
-const CODE: u64 = 0x6000_0000_0000;
+pub const CODE: u64 = 0x6000_0000_0000;
 
 /// The address of the argument block.
 pub const BLOCK: u64 = 0x7000_0000_0000;
@@ -26,10 +26,10 @@ pub const BLOCK: u64 = 0x7000_0000_0000;
 const STACK: u64 = 0x7000_0001_0000;
 
 /// The value of the return word.
-const RETURN: u64 = 0x7f00_0000_0000;
+pub const RETURN: u64 = 0x7f00_0000_0000;
 
 /// The bytes of the frame, which ends where the return word begins.
-const FRAME: usize = 1024;
+pub const FRAME: usize = 1024;
 
 /// A byte of the frame, and of each register that holds nothing else.
 const FILLER: u8 = 0xa5;
@@ -84,7 +84,7 @@ fn pad(out: &mut Vec<u8>, size: usize) -> Result<(), AllocError>
 
 /// The bytes of the argument block of a call, whose first arrays are so many dests.
 #[tactic(auto, unfolding(crate::specs::Placement::block_bytes))]
-fn block_of(alloc: Global, dests: usize, call: &Call) -> Result<Items<u8>, AllocError>
+pub fn block_bytes_of(alloc: Global, dests: usize, call: &Call) -> Result<Items<u8>, AllocError>
     requires { dests ≤ length call.now.arrays.items }
     ensures { IfOk result (λ bytes. bytes ≡ block_bytes dests call.now) }
 {
@@ -102,7 +102,7 @@ fn block_of(alloc: Global, dests: usize, call: &Call) -> Result<Items<u8>, Alloc
 }
 
 /// A copy of parts.
-fn copy_of(alloc: Global, parts: &[Part]) -> Result<Parts, AllocError>
+pub fn copy_of(alloc: Global, parts: &[Part]) -> Result<Parts, AllocError>
     ensures { IfOk result (λ copy. copy ≡ parts.now) }
 {
     let mut copy = Items::new(alloc);
@@ -118,7 +118,7 @@ fn copy_of(alloc: Global, parts: &[Part]) -> Result<Parts, AllocError>
 }
 
 /// The bytes of a word.
-fn word_of(alloc: Global, word: u64) -> Result<Items<u8>, AllocError>
+pub fn word_of(alloc: Global, word: u64) -> Result<Items<u8>, AllocError>
     ensures { IfOk result (λ bytes. bytes ≡ word_bytes word) }
 {
     let mut out = Vec::new(alloc);
@@ -128,7 +128,7 @@ fn word_of(alloc: Global, word: u64) -> Result<Items<u8>, AllocError>
 
 /// The bytes of the frame.
 #[tactic(auto, unfolding(crate::specs::Placement::frame_bytes))]
-fn frame_of(alloc: Global) -> Result<Items<u8>, AllocError>
+pub fn frame_of(alloc: Global) -> Result<Items<u8>, AllocError>
     ensures { IfOk result (λ bytes. bytes ≡ frame_bytes) }
 {
     Items::from_slice(alloc, &[FILLER; FRAME])
@@ -143,7 +143,7 @@ fn parts_of(alloc: Global, dests: usize, job: &Job) -> Result<Parts, AllocError>
     let mut parts = copy_of(alloc, job.memory.as_slice())?;
     parts.push(Part {
         at: BLOCK,
-        bytes: block_of(alloc, dests, &job.call)?,
+        bytes: block_bytes_of(alloc, dests, &job.call)?,
     })?;
     parts.push(Part {
         at: STACK,
@@ -156,13 +156,13 @@ fn parts_of(alloc: Global, dests: usize, job: &Job) -> Result<Parts, AllocError>
     Ok(parts)
 }
 
-/// The state at the start.
-fn start_state() -> State
-    ensures { result ≡ start_state }
+/// The state at the code's first byte, with a block at one address and RSP at another.
+pub fn state_at(block: u64, stack: u64) -> State
+    ensures { result ≡ state_at block stack }
 {
     let mut gpr = [u64::from_le_bytes([FILLER; 8]); 16];
-    gpr[4] = STACK;
-    gpr[7] = BLOCK;
+    gpr[4] = stack;
+    gpr[7] = block;
     State {
         gpr,
         xmm: [[FILLER; 16]; 16],
@@ -184,7 +184,7 @@ pub fn machine_of(alloc: Global, f: &ImageFunction, job: &Job) -> Result<Machine
         return Err(AllocError);
     };
     Ok(Machine {
-        state: start_state(),
+        state: state_at(BLOCK, STACK),
         code_at: CODE,
         code,
         memory,

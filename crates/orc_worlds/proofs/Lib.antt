@@ -1,0 +1,5 @@
+pub mod Padding
+pub mod Leaving
+pub mod Begins
+pub mod Started
+pub mod Keeping

@@ -1,0 +1,5 @@
+pub mod Mapped
+pub mod Now
+pub mod Placement
+pub mod Played
+pub mod Worlds
