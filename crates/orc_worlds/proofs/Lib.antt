@@ -3,3 +3,5 @@ pub mod Leaving
 pub mod Begins
 pub mod Started
 pub mod Keeping
+pub mod Placed
+pub mod Wholly

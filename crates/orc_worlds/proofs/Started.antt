@@ -44,11 +44,11 @@ stands_more f stands k r e q = let s : k + 1 ≡ suc k = omega arith in ap (λ (
 
 front_keeps : (ps qs : List Part) (a : ℕ) → IsMapped (memory_of ps) a → IsMapped (memory_of (ps ++ qs)) a
 front_keeps [] qs a m = absurd cc
-front_keeps (p ∷ ps) qs a m = go (covers (span p) a) refl
+front_keeps (p ∷ ps) qs a m = go (covers (span p) a) refl (front_keeps ps qs a)
   where
-    go : (b : Bool) → covers (span p) a ≡ b → IsMapped (memory_of (p ∷ (ps ++ qs))) a
-    go true e = rw e refl
-    go false e = rw e (front_keeps ps qs a (rw e at m))
+    go : (b : Bool) → covers (span p) a ≡ b → (IsMapped (memory_of ps) a → IsMapped (memory_of (ps ++ qs)) a) → IsMapped (memory_of (p ∷ (ps ++ qs))) a
+    go true e more = rw e refl
+    go false e more = rw e (more (rw e at m))
 
 own_mapped : (dests : ℕ) (call : ℕ → Call) (ps : List Part) (n k i : ℕ) → k < n → i < 304 → IsMapped (memory_of (ps ++ first_own dests call n)) (block_of k + i)
 own_mapped dests call ps zero k i l lt = absurd (omega (arith, l))

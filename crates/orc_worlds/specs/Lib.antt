@@ -2,4 +2,5 @@ pub mod Mapped
 pub mod Now
 pub mod Placement
 pub mod Played
+pub mod Whole
 pub mod Worlds

@@ -13,7 +13,7 @@ use Rattle.orc_jobs.specs.World.{Shared}
 use Rattle.orc_jobs.specs.Drawn.{PlaysDrawn}
 use Rattle.orc_worlds.specs.declared.playing.Played.{Played}
 use Rattle.orc_worlds.specs.Now.{AreNow}
-use Rattle.orc_worlds.specs.Worlds.{block_of, placed_world}
+use Rattle.orc_worlds.specs.Worlds.{block_of, AreSigned, placed_world}
 
 -- ---- the outcome
 
@@ -36,6 +36,7 @@ AreTotals mem workers count sums = (length sums ≡ count) × ((g : ℕ) → g <
 
 -- what the turns of the parts leave that the seed draws, as many as the job's budget at most
 pub record PlayedOut (f : FunctionValue) (job : Job) (sizes : List ℕ) (workers seed : ℕ) (o : Played) : Type 0 where
+  pub signed : AreSigned job.call.arrays.items
   pub world : Shared
   pub plays : PlaysDrawn (placed_world f job sizes workers) seed job.budget o.why o.turns world
   pub steps : o.steps.items ≡ map (λ s. s.steps) world.stands

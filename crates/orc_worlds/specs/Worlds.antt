@@ -1,6 +1,8 @@
 -- The parts of a job's call, and the world of as many runners, each of which does one of them.
 use Rattle.std.specs.Prelude.{ℕ, zero, suc, ◌+◌, ◌-◌, ◌*◌, ◌%◌, ◌^◌, List, [], ◌∷◌, ◌++◌}
 use Rattle.std.specs.Int.{w64, cast_unsigned}
+use Rattle.std.specs.Int.RustNames.{FitsSigned}
+use Rattle.std.specs.List.{AllByRecursion}
 use Rattle.orc_bits.specs.declared.parts.Part.{Part}
 use Rattle.orc_bits.specs.Parts.{memory_of}
 use Rattle.orc_program.specs.declared.call.Call.{Call}
@@ -33,6 +35,10 @@ abbrev pub moved_places : Rect → List Place → List ℕ → List Place
 moved_places q [] sizes = []
 moved_places q (p ∷ ps) [] = []
 moved_places q (p ∷ ps) (size ∷ sizes) = moved_place q p size ∷ moved_places q ps sizes
+
+-- strides are numbers of 64 bits with a sign
+abbrev pub AreSigned : List Place → Type 0
+AreSigned ps = AllByRecursion (λ p. FitsSigned w64 p.stride) ps
 
 -- the call of a rectangle: its counts are the rectangle's, each array begins at the rectangle's first cell, and strides and parameters are the call's
 abbrev pub part_call : Call → List ℕ → Rect → Call

@@ -1,10 +1,11 @@
 //! The parts of a job's call, and their world.
 ghost use Rattle.std.specs.Prelude.{◌≡◌, ◌<◌, ◌≤◌, ◌++◌, length, OnOk, IfOk};
 ghost use Rattle.std.specs.Int.{w64, cast_unsigned};
+ghost use Rattle.std.specs.Int.RustNames.{FitsSigned};
 ghost use Rattle.orc_image.specs.Spelling.{IsFunction};
 ghost use Rattle.orc_jobs.specs.World.{seen, stand_of};
 ghost use Rattle.orc_parts.specs.Even.{begin_of, even_part};
-ghost use Rattle.orc_worlds.specs.Worlds.{block_of, stack_of, moved_place, moved_places, part_call, own_parts, part_stand, placed_world};
+ghost use Rattle.orc_worlds.specs.Worlds.{block_of, stack_of, moved_place, moved_places, AreSigned, part_call, own_parts, part_stand, placed_world};
 
 use crate::placing::{
     BLOCK, CODE, FRAME, RETURN, block_bytes_of, copy_of, frame_of, state_at, word_of,
@@ -66,7 +67,8 @@ fn rect_of(two_d: bool, call: &Call, workers: u8, k: u8) -> Rect
 /// An array with elements of a size, from its first cell in a rectangle on.
 #[tactic(auto, using(crate::proofs::Begins::wrapped_twice))]
 fn moved_place(q: Rect, place: Place, size: u8) -> Place
-    ensures { result ≡ moved_place q place size }
+    ensures value { result ≡ moved_place q place size }
+    ensures signed { FitsSigned w64 place.stride }
 {
     let rows = u64::from(q.row).wrapping_mul(place.stride.cast_unsigned());
     let elements = u64::from(q.element) * u64::from(size);
@@ -78,8 +80,10 @@ fn moved_place(q: Rect, place: Place, size: u8) -> Place
 
 /// Arrays, each with elements of a size, from their first cells in a rectangle on.
 fn moved_places(q: Rect, places: &[Place], sizes: &[u8]) -> Places
-    requires { length places.now ≤ 12 }
-    ensures { result.items ≡ moved_places q places.now sizes.now }
+    requires few { length places.now ≤ 12 }
+    requires sized { length sizes.now ≡ length places.now }
+    ensures value { result.items ≡ moved_places q places.now sizes.now }
+    ensures signed { AreSigned places.now }
 {
     let mut moved = Places::new();
     let mut sizes_left = sizes;
@@ -97,7 +101,9 @@ fn moved_places(q: Rect, places: &[Place], sizes: &[u8]) -> Places
 
 /// The call of a rectangle.
 fn part_call(call: &Call, sizes: &[u8], q: Rect) -> Result<Call, AllocError>
-    ensures { IfOk result (λ part. part ≡ part_call call.now sizes.now q) }
+    requires { length sizes.now ≡ length call.now.arrays.items }
+    ensures value { IfOk result (λ part. part ≡ part_call call.now sizes.now q) }
+    ensures signed { OnOk result (AreSigned call.now.arrays.items) }
 {
     Ok(Call {
         n: q.elements,
@@ -156,7 +162,8 @@ pub fn world_of(
 ) -> Result<World, AllocError>
     requires counts { f.now.dests ≤ length job.now.call.arrays.items }
     requires sized { length sizes.now ≡ length job.now.call.arrays.items }
-    ensures { IfOk result (λ w. seen w ≡ placed_world f.now job.now sizes.now workers) }
+    ensures world { IfOk result (λ w. seen w ≡ placed_world f.now job.now sizes.now workers) }
+    ensures signed { OnOk result (0 < workers → AreSigned job.now.call.arrays.items) }
 {
     let mut parts = copy_of(alloc, job.memory.as_slice())?;
     let mut runners = Vec::new(alloc);

@@ -5,8 +5,9 @@ ghost use Rattle.orc_bits.specs.Parts.{memory_of};
 ghost use Rattle.orc_job.specs.Kept.{IsJob};
 ghost use Rattle.orc_worlds.specs.Worlds.{block_of};
 ghost use Rattle.orc_worlds.specs.Played.{AreTotals, IsTotal, PlayedOut};
+ghost use Rattle.orc_worlds.specs.Whole.{DoesWhole};
 
-use crate::leaving::{parts_now, word_at};
+use crate::remaining::{parts_now, word_at};
 use crate::parting::{block_of, world_of};
 use arrayvec::ArrayVec;
 use orc_bits::Parts;
@@ -44,8 +45,10 @@ fn steps_of(runners: &[Runner]) -> Steps
     ensures { result.items ≡ map (λ r. r.steps) runners.now }
 {
     let mut steps = Steps::new();
-    for runner in runners {
+    let mut left = runners;
+    while let [runner, rest @ ..] = left {
         steps.push(runner.steps);
+        left = rest;
     }
     steps
 }
@@ -86,10 +89,12 @@ pub fn play_job(
     seed: u64,
 ) -> Result<Played, AllocError>
     requires kept { IsJob job.now }
-    requires counts { f.now.dests ≤ length job.now.call.arrays.items }
+    requires counts { length job.now.call.arrays.items ≡ f.now.dests + f.now.sources }
     requires sized { length sizes.now ≡ length job.now.call.arrays.items }
+    requires some { 0 < workers }
     requires few { workers ≤ 64 }
-    ensures { IfOk result (PlayedOut f.now job.now sizes.now workers seed) }
+    ensures played { IfOk result (PlayedOut f.now job.now sizes.now workers seed) }
+    ensures whole { IfOk result (DoesWhole f.now job.now sizes.now workers) }
 {
     let mut world = world_of(alloc, f, job, sizes, workers)?;
     let drawn = play_drawn(&mut world, seed, job.budget);

@@ -12,6 +12,7 @@ use Rattle.orc_job.specs.Fields.{◌>>=◌, field_at}
 use Rattle.orc_job.specs.Forms.{size_in, few_in}
 use Rattle.orc_worlds.specs.declared.playing.Played.{Played}
 use Rattle.orc_worlds.specs.Played.{PlayedOut, played_text}
+use Rattle.orc_worlds.specs.Whole.{DoesWhole}
 use Rattle.orcc_top.specs.declared.refusal.Refusal.{Refusal}
 use Rattle.orcc_top.specs.declared.workers.Workers.{Workers}
 use Rattle.orcc_top.specs.Execution.{entry_called, refusal_behind}
@@ -41,6 +42,8 @@ pub record SharedOut (functions : List FunctionValue) (bytes : List ℕ) (worker
   pub f : FunctionValue
   pub calls : entry_called functions job ≡ Ok f
   pub played : PlayedOut f job sizes workers.count workers.seed outcome
+  -- parts that are separate do the whole call
+  pub whole : DoesWhole f job sizes workers.count outcome
 
 -- the bytes are the printed outcome of the job behind an image, shared among workers, on the code of the image
 pub record IsShared (workers : Workers) (input bytes : List ℕ) : Type 0 where

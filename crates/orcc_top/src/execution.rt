@@ -102,6 +102,7 @@ pub fn entry_called<'a>(
         (λ f. entry_called functions.now job.now ≡ Ok f.now)
         (λ e. entry_called functions.now job.now ≡ Err e) }
     ensures counts { IfOk result (λ f. f.now.dests ≤ length job.now.call.arrays.items) }
+    ensures arrays { IfOk result (λ f. length job.now.call.arrays.items ≡ f.now.dests + f.now.sources) }
 {
     let Some(f) = entry_of(functions, job.function.as_slice()) else {
         return Err(JobError::BadField {
