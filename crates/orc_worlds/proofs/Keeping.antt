@@ -1,17 +1,24 @@
 -- What drawn turns of the parts of a job leave mapped.
-use Rattle.std.proofs.Common.{◌≡◌, ℕ, ◌+◌, ◌<◌, ◌≤◌, ◌^◌, List, [], ◌∷◌, length, refl, sym, ap, ◌∙◌, subst, arith}
+use Rattle.std.proofs.Common.{◌≡◌, ℕ, ◌+◌, ◌<◌, ◌≤◌, ◌^◌, List, [], ◌∷◌, length, map, refl, sym, ap, ◌∙◌, subst, arith}
+use Rattle.orc_bits.specs.declared.parts.Part.{Part}
 use Rattle.orc_bits.specs.Memory.{IsMapped}
+use Rattle.orc_bits.specs.Parts.{memory_of}
 use Rattle.orc_image.specs.Spelling.{FunctionValue}
 use Rattle.orc_job.specs.declared.job.Job.{Job}
 use Rattle.orc_job.specs.Kept.{IsJob}
 use Rattle.orc_jobs.specs.declared.world.Turn.TheVariants as turns
 use Rattle.orc_jobs.specs.declared.drawing.Stopped.{Stopped}
-use Rattle.orc_jobs.specs.World.{Stand, Shared, stand_at, point_at, Takes, HasRoom}
+use Rattle.orc_jobs.specs.declared.world.Runner.{Runner}
+use Rattle.orc_jobs.specs.declared.world.World.{World}
+use Rattle.orc_jobs.specs.World.{Stand, Shared, stand_at, point_at, stand_of, seen, Takes, HasRoom}
 use Rattle.orc_jobs.specs.Drawn.{next_seed, Draws, PlaysDrawn}
 use Rattle.orc_jobs.proofs.Draws.{plays_drawn}
 use Rattle.orc_jobs.proofs.Kept.{way_keeps}
+use Rattle.orc_worlds.specs.declared.playing.Played.{Played}
 use Rattle.orc_worlds.specs.Mapped.{AreMapped}
-use Rattle.orc_worlds.specs.Worlds.{block_of, part_stand, placed_world}
+use Rattle.orc_worlds.specs.Now.{AreNow}
+use Rattle.orc_worlds.specs.Played.{AreTotals, PlayedOut}
+use Rattle.orc_worlds.specs.Worlds.{block_of, AreSigned, placed_world}
 use Rattle.orc_worlds.proofs.Leaving.{Keeps, all_kept}
 use Rattle.orc_worlds.proofs.Started.{stands_count, placed_stand, blocks_mapped, segments_mapped}
 
@@ -48,3 +55,21 @@ module _ (f : FunctionValue) (job : Job) (sizes : List ℕ) (workers : ℕ) (w :
 
     pub segments_kept : IsJob job → AreMapped v.memory job.memory
     segments_kept kept = all_kept w.memory v.memory job.memory keeps (subst (λ (u : Shared). AreMapped u.memory job.memory) (sym is) (segments_mapped f job sizes workers kept))
+
+-- ---- the outcome
+
+steps_seen : (rs : List Runner) → map (λ (r : Runner). r.steps) rs ≡ map (λ (t : Stand). t.steps) (map stand_of rs)
+steps_seen [] = refl
+steps_seen (r ∷ rs) = ap (λ (l : List ℕ). r.steps ∷ l) (steps_seen rs)
+
+pub played_out : (f : FunctionValue) (job : Job) (sizes : List ℕ) (workers seed : ℕ) (w v : World) (o : Played) (runners : List Runner) (segments : List Part) → AreSigned job.call.arrays.items → seen w ≡ placed_world f job sizes workers
+    → PlaysDrawn (seen w) seed job.budget o.why o.turns (seen v) → runners ≡ v.runners.items → o.steps.items ≡ map (λ (r : Runner). r.steps) runners → AreTotals (memory_of v.memory) workers f.accs o.accs.items
+    → segments ≡ job.memory → AreNow (memory_of v.memory) segments o.memory → PlayedOut f job sizes workers seed o
+played_out f job sizes workers seed w v o runners segments signed is p rs steps sums ms memory = record {
+  signed = signed;
+  world = seen v;
+  plays = subst (λ (u : Shared). PlaysDrawn u seed job.budget o.why o.turns (seen v)) is p;
+  steps = steps ∙ ap (map (λ (r : Runner). r.steps)) rs ∙ steps_seen v.runners.items;
+  sums = sums;
+  memory = subst (λ (l : List Part). AreNow (memory_of v.memory) l o.memory) ms memory;
+}

@@ -1,9 +1,11 @@
 -- Parts as they are placed, one after the other.
-use Rattle.std.proofs.Common.{◌≡◌, ℕ, zero, suc, ◌+◌, ◌*◌, ◌%◌, ◌^◌, ◌<◌, ◌≤◌, List, [], ◌∷◌, ◌++◌, length, map, refl, sym, ap, ◌∙◌, subst, arith, length-append}
+use Rattle.std.proofs.Common.{◌≡◌, ℕ, zero, suc, ◌+◌, ◌*◌, ◌%◌, ◌^◌, ◌<◌, ◌≤◌, List, [], ◌∷◌, ◌++◌, length, map, refl, sym, ap, ap₂, ◌∙◌, subst, arith, length-append}
 use Rattle.std.specs.Int.{w64}
 use Rattle.std.specs.Int.RustNames.{FitsSigned}
 use Rattle.std.proofs.lemmas.List.{append_assoc, map-append}
 use Rattle.orc_bits.specs.declared.parts.Part.{Part}
+use Rattle.orc_bits.specs.Memory.{Memory}
+use Rattle.orc_bits.specs.Parts.{memory_of}
 use Rattle.orc_program.specs.declared.call.Call.{Call}
 use Rattle.orc_program.specs.declared.call.Place.{Place}
 use Rattle.orc_program.specs.declared.rect.Rect.{Rect}
@@ -11,8 +13,9 @@ use Rattle.orc_program.specs.Cut.{total}
 use Rattle.orc_image.specs.Spelling.{FunctionValue}
 use Rattle.orc_job.specs.declared.job.Job.{Job}
 use Rattle.orc_jobs.specs.declared.world.Runner.{Runner}
-use Rattle.orc_jobs.specs.World.{Stand, stand_of}
-use Rattle.orc_worlds.specs.Worlds.{moved_place, moved_places, AreSigned, part_call, call_of_part, own_parts, first_own, part_stand, first_stands}
+use Rattle.orc_jobs.specs.declared.world.World.{World}
+use Rattle.orc_jobs.specs.World.{Stand, stand_of, seen}
+use Rattle.orc_worlds.specs.Worlds.{moved_place, moved_places, AreSigned, part_call, call_of_part, own_parts, first_own, part_stand, first_stands, placed_world}
 use Rattle.orc_worlds.proofs.Started.{stands_more}
 
 nil_after : {A : Type 0} (l : List A) → l ++ [] ≡ l
@@ -55,9 +58,9 @@ all_moved q places sizes moved left sizes_left h none = (
 -- ---- the world
 
 -- the first k parts are placed
-pub record Placing (f : FunctionValue) (job : Job) (sizes : List ℕ) (workers : ℕ) (parts : List Part) (runners : List Runner) (k : ℕ) : Type 0 where
-  pub parts : parts ≡ job.memory ++ first_own f.dests (call_of_part f job sizes workers) k
-  pub runners : map stand_of runners ≡ first_stands f k
+pub record Placing (f : FunctionValue) (job : Job) (sizes : List ℕ) (workers : ℕ) (placed : List Part) (standing : List Runner) (k : ℕ) : Type 0 where
+  pub parts : placed ≡ job.memory ++ first_own f.dests (call_of_part f job sizes workers) k
+  pub runners : map stand_of standing ≡ first_stands f k
   pub signed : 0 < k → AreSigned job.call.arrays.items
 
 pub none_placed : (f : FunctionValue) (job : Job) (sizes : List ℕ) (workers : ℕ) (parts : List Part) → parts ≡ job.memory → Placing f job sizes workers parts [] 0
@@ -74,6 +77,15 @@ one_placed f job sizes workers k parts now runners then call r h is fits e q t =
       runners = ap (map stand_of) t ∙ map-append stand_of runners (r ∷ []) ∙ stands_more f (map stand_of runners) k (stand_of r) h.runners q;
       signed = λ l. fits;
     }
+
+pub all_placed : (f : FunctionValue) (job : Job) (sizes : List ℕ) (workers k : ℕ) (placed : List Part) (standing : List Runner) (w : World) → Placing f job sizes workers placed standing k → workers ≤ k → k ≤ workers
+    → memory_of w.memory ≡ memory_of placed → w.runners.items ≡ standing → seen w ≡ placed_world f job sizes workers
+all_placed f job sizes workers k placed standing w h low high m r =
+    let whole : k ≡ workers = omega (arith, low, high) in
+    let parts : memory_of w.memory ≡ (placed_world f job sizes workers).memory
+    = m ∙ ap memory_of h.parts ∙ ap (λ n. memory_of (job.memory ++ first_own f.dests (call_of_part f job sizes workers) n)) whole in
+    let stands : map stand_of w.runners.items ≡ first_stands f workers = ap (map stand_of) r ∙ h.runners ∙ ap (first_stands f) whole in
+    ap₂ (λ (a : Memory) (b : List Stand). record { memory = a; stands = b }) parts stands
 
 -- ---- steps
 

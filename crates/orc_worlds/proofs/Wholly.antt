@@ -178,7 +178,7 @@ module _ (f : FunctionValue) (entry : image.FunctionValue) (job : Job) (sizes : 
       params p e = ⊎_elim
           (λ inside.
           let l = before_less kind.Param f.vars p inside (ap (same_kind kind.Param) e) in
-          get_or-map-range_with_len (words k).param 0 (count_of kind.Param f.vars) (count_before kind.Param f.vars p) (count_before kind.Param f.vars p) 0 l (let z : 0 + count_before kind.Param f.vars p ≡ count_before kind.Param f.vars p = omega arith in sym z))
+          get_or-map-range_with_len (words k).param 0 (count_of kind.Param f.vars) (count_before kind.Param f.vars p) (count_before kind.Param f.vars p) 0 l (let z : 0 + count_before kind.Param f.vars p ≡ count_before kind.Param f.vars p = omega arith in z))
           (λ past. absurd (not_const (ap (λ (v : Var). v.kind) (sym (get_or_past f.vars p no_var past)) ∙ e)))
           (cases_lt p (length f.vars))
         where
@@ -194,7 +194,7 @@ module _ (f : FunctionValue) (entry : image.FunctionValue) (job : Job) (sizes : 
   rects_count = length-map-range_with_len rect 0 workers
 
   rect_is : (k : ℕ) → k < workers → rect_at rects k ≡ rect k
-  rect_is k l = get_or-map-range_with_len rect 0 workers k k no_rect l (let z : k ≡ 0 + k = omega arith in z)
+  rect_is k l = get_or-map-range_with_len rect 0 workers k k no_rect l (let z : 0 + k ≡ k = omega arith in z)
 
   inside : (k : ℕ) → k < length rects → k < workers
   inside k l = let e = rects_count in omega (arith, l, e)
