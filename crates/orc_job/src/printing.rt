@@ -48,7 +48,12 @@ fn put_acc(alloc: Global, out: &mut Vec<u8>, number: u32, value: u64) -> Result<
 }
 
 /// Appends the accumulators from number `first` on, each on a line.
-pub fn put_accs(alloc: Global, out: &mut Vec<u8>, first: u32, accs: &[u64]) -> Result<(), AllocError>
+pub fn put_accs(
+    alloc: Global,
+    out: &mut Vec<u8>,
+    first: u32,
+    accs: &[u64],
+) -> Result<(), AllocError>
     requires { first + length accs.now < 2 ^ 32 }
     ensures { OnOk result (out.new.items ≡ out.old.items ++ accs_text first accs.now) }
 {

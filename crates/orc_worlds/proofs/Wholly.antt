@@ -120,8 +120,7 @@ module _ (f : FunctionValue) (entry : image.FunctionValue) (job : Job) (sizes : 
       let slot : slot_of f.vars p ≡ 4 + j = ap (λ b. if b then count_before kind.Dest f.vars p else 4 + j) not in
       let number : array_number f.vars p ≡ count_of kind.Dest f.vars + j = ap (λ b. if b then count_before kind.Dest f.vars p else count_of kind.Dest f.vars + j) not in
       let same = c.dests in
-      let more = c.sources in
-      (
+      let more = c.sources in (
         ap index_of slot ∙ ap (λ b. if b then 4 + j else entry.dests + (4 + j - 4)) above ∙ omega (arith, number, same),
         omega (arith, number, l, same, more, arrays),
       )
@@ -149,9 +148,9 @@ module _ (f : FunctionValue) (entry : image.FunctionValue) (job : Job) (sizes : 
       let s = slot_of f.vars p in
       let here : place_of_slot entry.dests (call_of_part entry job sizes workers k) s ≡ moved_place (rect k) (place_at f job.call p) (var_at f.vars p).size
       = ap (λ j. slice_index_or (call_of_part entry job sizes workers k).arrays.items j no_place) x.0
-          ∙ ap (λ q. slice_index_or (moved_places q job.call.arrays.items sizes) i no_place) (rect_same k)
-          ∙ moved_at (rect k) job.call.arrays.items sizes i sized x.1
-          ∙ ap (moved_place (rect k) (place_at f job.call p)) (c.sized p h) in
+      ∙ ap (λ q. slice_index_or (moved_places q job.call.arrays.items sizes) i no_place) (rect_same k)
+      ∙ moved_at (rect k) job.call.arrays.items sizes i sized x.1
+      ∙ ap (moved_place (rect k) (place_at f job.call p)) (c.sized p h) in
       let found : place_at f (call_with f args) p ≡ place_with (args.base s) (args.stride s)
       = place_found args.stride args.base s (slots f.vars) i (slot_is f (record args { base = suc }) few p h.0 h.1).base in
       found
@@ -289,8 +288,7 @@ module _ (f : FunctionValue) (entry : image.FunctionValue) (job : Job) (sizes : 
           let rest : layout after ≡ layout before = ap (λ ss. drop 1 ss) e in
           let low = low_part b (grind (arith, h)) in
           let at = ap (λ (x : Span). x.at) first in
-          let count = ap (λ (x : Span). x.count) first in
-          (
+          let count = ap (λ (x : Span). x.count) first in (
             (λ i l. sym (one.memory (q.at + i) (out (q.at + i) (omega (arith, low, at, count, l)))) ∙ all.0 i l),
             now_at before after (grind (arith, h)) rest all.1,
           )

@@ -1,13 +1,11 @@
 //! Where functions' code and jobs stand in memory to be run, whole or in parts, and what they leave there.
 #![tactic(auto)]
 
-
 mod parting;
 mod placing;
 mod playing;
 mod printing;
 mod remaining;
-
 
 pub use parting::world_of;
 pub use placing::{BLOCK, machine_of};

@@ -57,11 +57,21 @@ fn rect_of(two_d: bool, call: &Call, workers: u8, k: u8) -> Rect
     if two_d {
         let row = begin_of(call.m, workers, k);
         let rows = begin_of(call.m, workers, k + 1) - row;
-        return Rect { row, rows, element: 0, elements: call.n };
+        return Rect {
+            row,
+            rows,
+            element: 0,
+            elements: call.n,
+        };
     }
     let element = begin_of(call.n, workers, k);
     let elements = begin_of(call.n, workers, k + 1) - element;
-    Rect { row: 0, rows: 1, element, elements }
+    Rect {
+        row: 0,
+        rows: 1,
+        element,
+        elements,
+    }
 }
 
 /// An array with elements of a size, from its first cell in a rectangle on.

@@ -7,8 +7,8 @@ ghost use Rattle.orc_worlds.specs.Worlds.{block_of};
 ghost use Rattle.orc_worlds.specs.Played.{AreTotals, IsTotal, PlayedOut};
 ghost use Rattle.orc_worlds.specs.Whole.{DoesWhole};
 
-use crate::remaining::{parts_now, word_at};
 use crate::parting::{block_of, world_of};
+use crate::remaining::{parts_now, word_at};
 use arrayvec::ArrayVec;
 use orc_bits::Parts;
 use orc_emul::Accs;

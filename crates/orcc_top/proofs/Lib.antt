@@ -14,3 +14,4 @@ pub mod Behind
 pub mod Widest
 pub mod Numbered
 pub mod Sizing
+pub mod Numerals

@@ -83,13 +83,17 @@ fn is_jobs(word: &str) -> bool
 }
 
 /// The workers that the words say, if they say some.
+#[tactic(auto, using(crate::proofs::Numbered::some_workers, crate::proofs::Numbered::few_workers))]
 fn workers_of(count: &str, seed: &str) -> Option<Workers>
     ensures said { IfSome result (λ w. AreSaid w count.now seed.now) }
     ensures none { IfNone result ((w : Workers) → AreSaid w count.now seed.now → ⊥) }
 {
     let number = number_of(count)?;
     let seed = number_of(seed)?;
-    if number < 1 || 64 < number {
+    if number < 1 {
+        return None;
+    }
+    if 64 < number {
         return None;
     }
     let count = number as u8;

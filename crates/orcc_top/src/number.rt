@@ -1,29 +1,31 @@
 //! Numbers among the words.
-ghost use Rattle.std.specs.Prelude.{◌≡◌, ◌≢◌, ◌↔◌, ◌<◌, ◌^◌, ℕ, IsTrue, IfSome, IfNone, decimal};
+ghost use Rattle.std.specs.Prelude.{◌≡◌, ◌≢◌, ◌⊎◌, ◌<◌, ◌^◌, ℕ, true, false, length, slice_index, IfSome, IfNone, decimal};
 
-/// Whether the bytes are the number's decimal, which has no leading zero.
-fn is_decimal(number: u64, bytes: &[u8]) -> bool
-    ensures { IsTrue result ↔ (bytes.now ≡ decimal number) }
+/// Whether bytes of a number begin as its decimal does: with no sign, and with no 0 before other digits.
+fn begins_plainly(bytes: &[u8]) -> bool
+    ensures plain { result ≡ true → ((slice_index bytes.now 0 ≢ 43) × (slice_index bytes.now 0 ≡ 48 → length bytes.now ≡ 1)) }
+    ensures other { result ≡ false → ((slice_index bytes.now 0 ≡ 43) ⊎ ((slice_index bytes.now 0 ≡ 48) × (1 < length bytes.now))) }
 {
-    let [rest @ .., last] = bytes else {
-        return false;
-    };
-    if *last != b'0' + (number % 10) as u8 {
+    if bytes.is_empty() {
+        return true;
+    }
+    if bytes[0] == b'+' {
         return false;
     }
-    if number < 10 {
-        return rest.is_empty();
-    }
-    is_decimal(number / 10, rest)
+    bytes[0] != b'0' || bytes.len() == 1
 }
 
 /// The number below 2^64 whose decimal the word is, if it is one without a leading zero.
+#[tactic(auto, using(crate::proofs::Numerals::is_decimal, crate::proofs::Numerals::no_decimal, crate::proofs::Numerals::no_number))]
 pub fn number_of(word: &str) -> Option<u64>
     ensures found { IfSome result (λ number. word.now ≡ decimal number) }
     ensures none { IfNone result ((number : ℕ) → number < 2 ^ 64 → word.now ≢ decimal number) }
 {
-    match word.parse::<u64>() {
-        Ok(number) if is_decimal(number, word.as_bytes()) => Some(number),
-        _ => None,
+    let Ok(number) = word.parse::<u64>() else {
+        return None;
+    };
+    if !begins_plainly(word.as_bytes()) {
+        return None;
     }
+    Some(number)
 }

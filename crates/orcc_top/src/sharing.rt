@@ -19,7 +19,6 @@ use orc_worlds::{Played, play_job, print_played};
 use std::alloc::{AllocError, Global};
 
 /// The sizes of the elements of the arrays of the job that bytes say.
-#[tactic(auto, using(crate::proofs::Sizing::sizes_alike))]
 fn sizes_of(alloc: Global, bytes: &[u8]) -> Result<Sizes, JobError>
     ensures { UnlessMemory result (result_map_both (λ ns. ns.items) (λ e. e) result ≡ sizes_read bytes.now) }
 {
