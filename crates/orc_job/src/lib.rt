@@ -14,7 +14,7 @@ pub use error::{Field, JobError};
 pub use job::{Job, fit};
 pub use lists::Sizes;
 pub use outcome::{EndLine, Outcome};
-pub use printing::print_result;
+pub use printing::{print_result, put_accs, put_memory, why_text};
 pub use reading::{one_reading, read_job};
 pub use sizing::read_sizes;
 

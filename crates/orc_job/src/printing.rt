@@ -9,7 +9,7 @@ use std::alloc::{AllocError, Global};
 use x86_ins::Why;
 
 /// The name of a reason.
-fn why_text(why: Why) -> &'static str
+pub fn why_text(why: Why) -> &'static str
     ensures { result.now ≡ why_text why }
 {
     match why {
@@ -48,7 +48,12 @@ fn put_acc(alloc: Global, out: &mut Vec<u8>, number: u32, value: u64) -> Result<
 }
 
 /// Appends the accumulators from number `first` on, each on a line.
-fn put_accs(alloc: Global, out: &mut Vec<u8>, first: u32, accs: &[u64]) -> Result<(), AllocError>
+pub fn put_accs(
+    alloc: Global,
+    out: &mut Vec<u8>,
+    first: u32,
+    accs: &[u64],
+) -> Result<(), AllocError>
     requires { first + length accs.now < 2 ^ 32 }
     ensures { OnOk result (out.new.items ≡ out.old.items ++ accs_text first accs.now) }
 {
@@ -73,7 +78,7 @@ fn put_segment(alloc: Global, out: &mut Vec<u8>, part: &Part) -> Result<(), Allo
 }
 
 /// Appends the segments' lines.
-fn put_memory(alloc: Global, out: &mut Vec<u8>, parts: &[Part]) -> Result<(), AllocError>
+pub fn put_memory(alloc: Global, out: &mut Vec<u8>, parts: &[Part]) -> Result<(), AllocError>
     ensures { OnOk result (out.new.items ≡ out.old.items ++ memory_text parts.now) }
 {
     let mut left = parts;

@@ -5,3 +5,4 @@ pub mod Kept
 pub mod Lefts
 pub mod Draws
 pub mod OnePlay
+pub mod OneDrawn

@@ -8,7 +8,7 @@ use Rattle.orc_jobs.specs.declared.world.Turn.{Turn}
 use Rattle.orc_jobs.specs.declared.world.Turn.TheVariants as turns
 use Rattle.orc_jobs.specs.World.{Shared, stand_at, point_at, moved_to, Takes, Plays, first_trap, OnePlay}
 
-one_turn : (w : Shared) (k : ℕ) (s t : Turn) (u v : Shared) → Takes w k s u → Takes w k t v → (s ≡ t) × (u ≡ v)
+pub one_turn : (w : Shared) (k : ℕ) (s t : Turn) (u v : Shared) → Takes w k s u → Takes w k t v → (s ≡ t) × (u ≡ v)
 one_turn w k turns.Ended turns.Ended u v a b = (refl, a.1 ∙ sym b.1)
 one_turn w k turns.Ended turns.Moved u v a b = absurd (b.0 a.0)
 one_turn w k turns.Ended (turns.Trapped y) u v a b = absurd (b.0 a.0)

@@ -68,3 +68,7 @@ pub record DrawnAsAlone (w : Shared) (W : ℕ → ℕ → Type 0) (bound : ℕ �
 abbrev pub EndsDrawn : Shared → ℕ → Stopped → ℕ → Shared → Type 0
 EndsDrawn w budget why count v = (own : ℕ → Memory) (writes : ℕ → ℕ → Bool) (bound : ℕ → ℕ) (end : ℕ → Point) → Isolated w own (λ k a. writes k a ≡ true) bound end
     → sum_below (length w.stands) bound ≤ budget → DrawnAsAlone w (λ k a. writes k a ≡ true) bound end why count v
+
+-- turns that a seed draws have one end: why no more are taken, how many there were, and the world behind them
+abbrev pub OneDrawn : Type 0
+OneDrawn = (w : Shared) (seed budget : ℕ) (s t : Stopped) (m n : ℕ) (u v : Shared) → PlaysDrawn w seed budget s m u → PlaysDrawn w seed budget t n v → (s ≡ t) × (m ≡ n) × (u ≡ v)

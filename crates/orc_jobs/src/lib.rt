@@ -13,7 +13,7 @@ mod world;
 
 pub use asking::{can_play, has_room};
 pub use drawing::{Drawn, Stopped, play_drawn};
-pub use laws::one_play;
+pub use laws::{one_drawn, one_play};
 pub use playing::{has_ended, play, turn};
 pub use world::{Runner, Runners, Turn, World};
 

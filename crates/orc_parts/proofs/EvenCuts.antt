@@ -10,13 +10,13 @@ use Rattle.orc_program.specs.Cut.{Has, Fits, Cuts}
 use Rattle.orc_parts.specs.Even.{begin_of, count_of, even_rect, EvenCuts}
 
 module _ (count w : ℕ) (some : 0 < w) where
-  rises : (k j : ℕ) → k ≤ j → begin_of count w k ≤ begin_of count w j
+  pub rises : (k j : ℕ) → k ≤ j → begin_of count w k ≤ begin_of count w j
   rises k j l =
       let a = div-mul-le_self (k * count) w in
       let b : k * count ≤ j * count = mul-le-mul_right count l in
       le-div (k * count / w) (j * count) w some (omega (arith, a, b))
 
-  last : begin_of count w w ≡ count
+  pub last : begin_of count w w ≡ count
   last = mul-div_cancel_left count some
 
   none : begin_of count w 0 ≡ 0

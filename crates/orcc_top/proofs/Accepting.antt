@@ -1,23 +1,25 @@
 -- Words ask for one command, and an input is accepted or refused.
-use Rattle.std.proofs.Common.{◌≡◌, ℕ, ◌+◌, ◌==◌, ltb, true, List, [], ◌∷◌, ◌++◌, length, Option, Some, None, if◌then◌else◌, inl, inr, refl, sym, ap, ◌∙◌, arith, length-append, IfSome}
+use Rattle.std.proofs.Common.{◌≡◌, ℕ, ◌+◌, ◌==◌, ltb, true, List, [], ◌∷◌, ◌++◌, length, Option, Some, None, if◌then◌else◌, inl, inr, ⊎_elim, refl, sym, ap, ◌∙◌, arith, length-append, IfSome}
 use Rattle.std.specs.List.{slice_index, slice_index_or}
-use Rattle.std.proofs.lemmas.Bool.{lt-ltb}
+use Rattle.std.proofs.lemmas.Bool.{lt-ltb, cases_eq}
 use Rattle.orcc_top.specs.declared.command.Command.{Command}
-use Rattle.orcc_top.specs.declared.command.Command.TheVariants.{Asm, C, Check, Fmt, Run, Dis, Emulate, Obj}
+use Rattle.orcc_top.specs.declared.command.Command.TheVariants.{Asm, C, Check, Fmt, Run, Dis, Emulate, Obj, Jobs}
 use Rattle.orcc_top.specs.declared.refusal.Refusal.{Refusal}
 use Rattle.orcc_top.specs.declared.refusal.Refusal.TheVariants.{TooLong}
+use Rattle.orcc_top.specs.declared.workers.Workers.{Workers}
 use Rattle.orcc_top.specs.Commands.{Word, words_of}
 use Rattle.orcc_top.specs.Answer.{limit_of, refusal_of, Refuses}
 use Rattle.orcc_top.specs.Runs.{Takes, IsAccepted}
+use Rattle.orcc_top.proofs.Numbered.{same_workers}
 
--- the first two bytes tell the command
+-- the first two bytes tell the command, but for the numbers of workers
 abbrev byte_at : ℕ → List Word → ℕ
 byte_at i words = slice_index (slice_index_or words 0 []) i
 
-abbrev command_at : ℕ → ℕ → Command
-command_at b next = if b == 97 then Asm else (if b == 99 then (if next == 104 then Check else C) else (if b == 102 then Fmt else (if b == 100 then Dis else (if b == 114 then Run else (if b == 111 then Obj else Emulate)))))
+abbrev command_at : Command → ℕ → ℕ → Command
+command_at shared b next = if b == 97 then Asm else (if b == 99 then (if next == 104 then Check else C) else (if b == 102 then Fmt else (if b == 100 then Dis else (if b == 114 then Run else (if b == 111 then Obj else (if b == 101 then Emulate else shared))))))
 
-told_by : (c : Command) → command_at (byte_at 0 (words_of c)) (byte_at 1 (words_of c)) ≡ c
+told_by : (c : Command) → command_at c (byte_at 0 (words_of c)) (byte_at 1 (words_of c)) ≡ c
 told_by Asm = refl
 told_by C = refl
 told_by Check = refl
@@ -26,9 +28,43 @@ told_by Run = refl
 told_by Dis = refl
 told_by Emulate = refl
 told_by Obj = refl
+told_by (Jobs w) = refl
+
+-- the words of `jobs` begin with a byte of its own
+workers_in : (c : Command) → byte_at 0 (words_of c) ≡ 106 → (w : Workers) × (c ≡ Jobs w)
+workers_in Asm e = absurd (omega (arith, e))
+workers_in C e = absurd (omega (arith, e))
+workers_in Check e = absurd (omega (arith, e))
+workers_in Fmt e = absurd (omega (arith, e))
+workers_in Run e = absurd (omega (arith, e))
+workers_in Dis e = absurd (omega (arith, e))
+workers_in Emulate e = absurd (omega (arith, e))
+workers_in Obj e = absurd (omega (arith, e))
+workers_in (Jobs w) e = (w, refl)
+
+same_jobs : (v w : Workers) → words_of (Jobs v) ≡ words_of (Jobs w) → Jobs v ≡ Jobs w
+same_jobs v w e = ap Jobs (same_workers v w (ap (λ words. slice_index_or words 1 []) e) (ap (λ words. slice_index_or words 2 []) e))
+
+-- a command whose words begin with another byte is told whatever is taken for `jobs`
+others_told : (c d : Command) → (byte_at 0 (words_of c) ≡ 106 → ⊥) → command_at d (byte_at 0 (words_of c)) (byte_at 1 (words_of c)) ≡ c
+others_told Asm d n = refl
+others_told C d n = refl
+others_told Check d n = refl
+others_told Fmt d n = refl
+others_told Run d n = refl
+others_told Dis d n = refl
+others_told Emulate d n = refl
+others_told Obj d n = refl
+others_told (Jobs w) d n = absurd (n refl)
 
 one_command : (a b : Command) → words_of a ≡ words_of b → a ≡ b
-one_command a b e = sym (told_by a) ∙ ap (λ w. command_at (byte_at 0 w) (byte_at 1 w)) e ∙ told_by b
+one_command a b e = ⊎_elim
+    (λ jobs.
+    let v = workers_in a jobs in
+    let w = workers_in b (sym (ap (byte_at 0) e) ∙ jobs) in
+    v.1 ∙ same_jobs v.0 w.0 (sym (ap words_of v.1) ∙ e ∙ ap words_of w.1) ∙ sym w.1)
+    (λ other. sym (told_by a) ∙ ap (λ words. command_at a (byte_at 0 words) (byte_at 1 words)) e ∙ others_told b a (λ jobs. other (ap (byte_at 0) e ∙ jobs)))
+    (cases_eq (byte_at 0 (words_of a)) 106)
 
 long_refused : (c : Command) (taken rest : List ℕ) → length taken ≡ limit_of c + 1 → refusal_of c (taken ++ rest) ≡ Some TooLong
 long_refused c taken rest long =

@@ -15,7 +15,8 @@ use Rattle.orcc_top.specs.declared.command.Command.TheVariants.{Emulate}
 use Rattle.orcc_top.specs.Answer.{Refuses}
 use Rattle.orcc_top.specs.Inputs.{text_in, job_in}
 use Rattle.orcc_top.specs.Texts.{TellsFault, fault_refusal}
-use Rattle.orcc_top.specs.Emulation.{Comes, AreNow, refusal_on, emulate_refusal}
+use Rattle.orc_worlds.specs.Now.{AreNow}
+use Rattle.orcc_top.specs.Emulation.{Comes, refusal_on, emulate_refusal}
 use Rattle.orcc_top.proofs.Limits.{within_limit}
 use Rattle.orcc_top.proofs.Segmented.{parts_have}
 

@@ -10,8 +10,9 @@ pub mod Segmented
 pub mod Emulated
 pub mod Accepting
 pub mod Calls
-pub mod Padding
-pub mod Leaving
 pub mod Behind
 pub mod Refused
 pub mod Widest
+pub mod Numbered
+pub mod Sizing
+pub mod Numerals

@@ -4,7 +4,7 @@ use Rattle.std.specs.List.{AllByRecursion}
 use Rattle.std.proofs.lemmas.Bool.Decides.{nat_tests}
 use Rattle.orc_bits.specs.declared.parts.Part.{Part}
 use Rattle.orc_bits.specs.Parts.{span, layout, covers, memory_of, Covers, Meets, span_at, Overlaps}
-use Rattle.orcc_top.specs.Emulation.{IsPartOf}
+use Rattle.orc_worlds.specs.Now.{IsPartOf}
 
 covered : (p : Part) (i : ℕ) → i < length p.bytes → covers (span p) (p.at + i) ≡ true
 covered p i lt = grind (arith, nat_tests, lt)

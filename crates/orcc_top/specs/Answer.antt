@@ -3,13 +3,14 @@ use Rattle.std.specs.Prelude.{◌≡◌, ◌⊎◌, ℕ, nat_lt, List, Option, S
 use Rattle.std.specs.Option.{option_or}
 use Rattle.orc_elf.specs.Fields.{first_bad_field}
 use Rattle.orcc_top.specs.declared.command.Command.{Command}
-use Rattle.orcc_top.specs.declared.command.Command.TheVariants.{Asm, C, Check, Fmt, Run, Dis, Emulate, Obj}
+use Rattle.orcc_top.specs.declared.command.Command.TheVariants.{Asm, C, Check, Fmt, Run, Dis, Emulate, Obj, Jobs}
 use Rattle.orcc_top.specs.declared.refusal.Refusal.{Refusal}
 use Rattle.orcc_top.specs.declared.refusal.Refusal.TheVariants.{TooLong, Image, Object}
 use Rattle.orcc_top.specs.Assembly.{IsAssembled, pressure_refusal}
 use Rattle.orcc_top.specs.Emulation.{IsEmulated, emulate_refusal}
 use Rattle.orcc_top.specs.Execution.{IsRun, run_refusal}
 use Rattle.orcc_top.specs.Figures.{IsChecked}
+use Rattle.orcc_top.specs.Sharing.{IsShared, jobs_refusal}
 use Rattle.orcc_top.specs.Texts.{IsFormatted, fault_refusal}
 use Rattle.orcc_top.specs.Translation.{IsTranslated}
 use Rattle.orcc_top.specs.Commands.{Word, words_of}
@@ -27,6 +28,7 @@ limit_of Run = 67108864
 limit_of Dis = 67108864
 limit_of Emulate = 67108864
 limit_of Obj = 1048576
+limit_of (Jobs w) = 67108864
 
 -- why `dis` refuses an input: as an object where it begins as one, and else as an image
 abbrev pub dis_refusal : List ℕ → Option Refusal
@@ -42,6 +44,7 @@ refusal_within Run input = run_refusal input
 refusal_within Dis input = dis_refusal input
 refusal_within Emulate input = emulate_refusal input
 refusal_within Obj input = option_or (fault_refusal input) (pressure_refusal input)
+refusal_within (Jobs w) input = jobs_refusal input
 
 -- why a command refuses an input, if it does: for its length, or else for what it says
 abbrev pub refusal_of : Command → List ℕ → Option Refusal
@@ -57,6 +60,7 @@ IsOutput Run input bytes = IsRun input bytes
 IsOutput Dis input bytes = ListsImage input bytes ⊎ ListsObject input bytes
 IsOutput Emulate input bytes = IsEmulated input bytes
 IsOutput Obj input bytes = IsObject input bytes
+IsOutput (Jobs w) input bytes = IsShared w input bytes
 
 -- the words ask for a command that accepts the input, and the bytes are its output
 pub record Answer (words : List Word) (input bytes : List ℕ) : Type 0 where

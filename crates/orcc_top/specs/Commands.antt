@@ -1,8 +1,9 @@
 -- The words after the program's name, and what they ask for.
-use Rattle.std.specs.Prelude.{◌≢◌, ℕ, List, [], ◌∷◌, ◌++◌, map, codes, String, string_bytes}
+use Rattle.std.specs.Prelude.{◌≡◌, ◌≢◌, ℕ, List, [], ◌∷◌, ◌++◌, map, codes, decimal, String, string_bytes}
 use Rattle.std.specs.declared.alloc.Global.{Global}
 use Rattle.orcc_top.specs.declared.command.Command.{Command}
-use Rattle.orcc_top.specs.declared.command.Command.TheVariants.{Asm, C, Check, Fmt, Run, Dis, Emulate, Obj}
+use Rattle.orcc_top.specs.declared.command.Command.TheVariants.{Asm, C, Check, Fmt, Run, Dis, Emulate, Obj, Jobs}
+use Rattle.orcc_top.specs.declared.workers.Workers.{Workers}
 
 abbrev pub Word : Type 0
 Word = List ℕ
@@ -10,6 +11,10 @@ Word = List ℕ
 -- the bytes of the words
 abbrev pub spelled : List (String Global) → List Word
 spelled words = map (λ word. string_bytes word) words
+
+-- the words say how many workers there are, and their seed
+abbrev pub AreSaid : Workers → Word → Word → Type 0
+AreSaid w count seed = (count ≡ decimal w.count) × (seed ≡ decimal w.seed)
 
 -- the words that ask for a command
 abbrev pub words_of : Command → List Word
@@ -21,6 +26,7 @@ words_of Run = codes "run" ∷ []
 words_of Dis = codes "dis" ∷ []
 words_of Emulate = codes "emulate" ∷ []
 words_of Obj = codes "obj" ∷ []
+words_of (Jobs w) = codes "jobs" ∷ decimal w.count ∷ decimal w.seed ∷ []
 
 -- the words ask for no command
 abbrev pub IsWrongUsage : List Word → Type 0
@@ -28,4 +34,4 @@ IsWrongUsage words = (command : Command) → words ≢ words_of command
 
 -- the line that names the listed forms
 abbrev pub usage_line : List ℕ
-usage_line = codes "usage: orcc asm | c | check | fmt | run | emulate | dis | gen S | obj" ++ 10 ∷ []
+usage_line = codes "usage: orcc asm | c | check | fmt | run | emulate | dis | gen S | obj | jobs W S" ++ 10 ∷ []

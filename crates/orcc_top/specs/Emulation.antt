@@ -1,10 +1,9 @@
 -- The result of emulating a job on a text, and why an input has none.
-use Rattle.std.specs.Prelude.{◌≡◌, ℕ, ◌+◌, ◌<◌, List, length, Option, Some, Result, Ok, Err, option_map, slice_index}
-use Rattle.std.specs.List.{AllByRecursion}
+use Rattle.std.specs.Prelude.{◌≡◌, ℕ, List, Option, Result, Ok, Err, option_map}
 use Rattle.std.specs.Option.{option_or}
 use Rattle.orc_bits.specs.declared.parts.Part.{Part}
 use Rattle.orc_bits.specs.Memory.{Memory}
-use Rattle.orc_bits.specs.Parts.{layout, memory_of}
+use Rattle.orc_bits.specs.Parts.{memory_of}
 use Rattle.orc_program.specs.Program.{FunctionValue, ProgramValue}
 use Rattle.orc_program.specs.Meaning.{Gap, emulate}
 use Rattle.orc_text.specs.Reads.{Reads, text_program}
@@ -14,6 +13,7 @@ use Rattle.orc_job.specs.declared.outcome.Outcome.{Outcome}
 use Rattle.orc_job.specs.declared.error.JobError.{JobError}
 use Rattle.orc_job.specs.Fields.{◌>>=◌}
 use Rattle.orc_job.specs.Printed.{result_text}
+use Rattle.orc_worlds.specs.Now.{AreNow}
 use Rattle.orcc_top.specs.declared.refusal.Refusal.{Refusal}
 use Rattle.orcc_top.specs.declared.refusal.Refusal.TheVariants as refusal
 use Rattle.orcc_top.specs.Inputs.{text_in, job_in}
@@ -21,15 +21,6 @@ use Rattle.orcc_top.specs.Jobs.{job_read, function_called, job_refusal}
 use Rattle.orcc_top.specs.Texts.{fault_refusal}
 
 -- ---- the outcome
-
--- a segment's bytes are those of the memory
-abbrev pub IsPartOf : Memory → Part → Type 0
-IsPartOf mem p = (i : ℕ) → i < length p.bytes → mem (p.at + i) ≡ Some (slice_index p.bytes i)
-
--- the segments, in order, with their bytes as the memory has them
-pub record AreNow (mem : Memory) (before after : List Part) : Type 0 where
-  pub lie : layout after ≡ layout before
-  pub have : AllByRecursion (IsPartOf mem) after
 
 -- what the meaning of a function says of an outcome: behind a cell that isn't mapped nothing is told
 abbrev pub Comes : List Part → Result (Memory × List ℕ) Gap → Outcome → Type 0

@@ -18,11 +18,11 @@ use Rattle.x86_ins.specs.Machine.{Point}
 use Rattle.x86_machine.specs.declared.machine.End.{End}
 use Rattle.x86_machine.specs.declared.machine.End.TheVariants as end
 use Rattle.x86_machine.specs.Ends.{EndsAt}
+use Rattle.orc_worlds.specs.Now.{AreNow}
+use Rattle.orc_worlds.specs.Placement.{block_at, start, placed_code, stop}
 use Rattle.orcc_top.specs.declared.refusal.Refusal.{Refusal}
 use Rattle.orcc_top.specs.declared.refusal.Refusal.TheVariants as refusal
-use Rattle.orcc_top.specs.Emulation.{AreNow}
 use Rattle.orcc_top.specs.Jobs.{job_read, named, job_refusal}
-use Rattle.orcc_top.specs.Placement.{block_at, start, placed_code, stop}
 
 -- ---- the outcome
 
@@ -80,11 +80,11 @@ pub record IsRun (input bytes : List ℕ) : Type 0 where
 abbrev pub refusal_on_image : List FunctionValue → List ℕ → Option JobError
 refusal_on_image functions bytes = job_refusal (job_read bytes >>= entry_called functions)
 
--- for the image's first bad field, or else for the job behind it
-abbrev pub refusal_behind : Field (List FunctionValue) → Option Refusal
-refusal_behind (Err e) = Some (refusal.Image e)
-refusal_behind (Ok x) = option_map (λ e. refusal.Job e) (refusal_on_image x.0 x.1.rest)
+-- for the image's first bad field, or else for the job behind it, by what its functions and the job's bytes are refused for
+abbrev pub refusal_behind : (List FunctionValue → List ℕ → Option JobError) → Field (List FunctionValue) → Option Refusal
+refusal_behind on_image (Err e) = Some (refusal.Image e)
+refusal_behind on_image (Ok x) = option_map (λ e. refusal.Job e) (on_image x.0 x.1.rest)
 
 -- why an image and a job are refused, if they are
 abbrev pub run_refusal : List ℕ → Option Refusal
-run_refusal input = refusal_behind (image_at record { at = 0; rest = input })
+run_refusal input = refusal_behind refusal_on_image (image_at record { at = 0; rest = input })

@@ -9,11 +9,10 @@ pub mod Figures
 pub mod Images
 pub mod Inputs
 pub mod Jobs
-pub mod Mapped
 pub mod Objects
-pub mod Placement
 pub mod Refusals
 pub mod Replies
 pub mod Runs
+pub mod Sharing
 pub mod Texts
 pub mod Translation

@@ -15,6 +15,7 @@ use crate::formatting::format_text;
 use crate::listing::disassemble;
 use crate::refusal::{Refusal, line_of};
 use crate::reply::Reply;
+use crate::sharing::share_job;
 use crate::translating::translate_text;
 use orc_io::{Source, TakeFault, read_all};
 use std::alloc::{AllocError, Global};
@@ -52,6 +53,7 @@ fn reply_within(alloc: Global, command: Command, input: &[u8]) -> Result<Reply, 
         Command::Dis => disassemble(alloc, input),
         Command::Emulate => emulate_job(alloc, input),
         Command::Obj => assemble_text(alloc, Form::Object, input),
+        Command::Jobs(workers) => share_job(alloc, input, workers),
     }
 }
 

@@ -1,6 +1,9 @@
 //! The words after the program's name.
 ghost use Rattle.std.specs.Prelude.{◌≡◌, ◌≤◌, ◌↔◌, IsTrue, IfSome, IfNone, codes};
-ghost use Rattle.orcc_top.specs.Commands.{spelled, words_of, IsWrongUsage};
+ghost use Rattle.orcc_top.specs.Commands.{AreSaid, spelled, words_of, IsWrongUsage};
+
+use crate::number::number_of;
+use crate::workers::Workers;
 
 /// What the words ask for.
 #[derive(Clone, Copy, Debug, PartialEq, Eq)]
@@ -21,6 +24,8 @@ pub enum Command {
     Emulate,
     /// `obj`: reads a text and writes an object.
     Obj,
+    /// `jobs W S`: reads an image and a job, and writes the result of sharing the job among workers.
+    Jobs(Workers),
 }
 
 fn is_asm(word: &str) -> bool
@@ -71,6 +76,30 @@ fn is_obj(word: &str) -> bool
     word == "obj"
 }
 
+fn is_jobs(word: &str) -> bool
+    ensures { IsTrue result ↔ (word.now ≡ codes "jobs") }
+{
+    word == "jobs"
+}
+
+/// The workers that the words say, if they say some.
+#[tactic(auto, using(crate::proofs::Numbered::some_workers, crate::proofs::Numbered::few_workers))]
+fn workers_of(count: &str, seed: &str) -> Option<Workers>
+    ensures said { IfSome result (λ w. AreSaid w count.now seed.now) }
+    ensures none { IfNone result ((w : Workers) → AreSaid w count.now seed.now → ⊥) }
+{
+    let number = number_of(count)?;
+    let seed = number_of(seed)?;
+    if number < 1 {
+        return None;
+    }
+    if 64 < number {
+        return None;
+    }
+    let count = number as u8;
+    Some(Workers { count, seed })
+}
+
 /// The command that the words ask for, if they are one of the listed forms.
 pub fn command_of(words: &[String]) -> Option<Command>
     ensures asked { IfSome result (λ command. spelled words.now ≡ words_of command) }
@@ -85,6 +114,9 @@ pub fn command_of(words: &[String]) -> Option<Command>
         [word] if is_dis(word.as_str()) => Some(Command::Dis),
         [word] if is_emulate(word.as_str()) => Some(Command::Emulate),
         [word] if is_obj(word.as_str()) => Some(Command::Obj),
+        [word, count, seed] if is_jobs(word.as_str()) => {
+            Some(Command::Jobs(workers_of(count.as_str(), seed.as_str())?))
+        }
         _ => None,
     }
 }
@@ -99,7 +131,7 @@ impl Command {
     {
         match self {
             Command::Asm | Command::C | Command::Check | Command::Fmt | Command::Obj => 1_048_576,
-            Command::Run | Command::Dis | Command::Emulate => 67_108_864,
+            Command::Run | Command::Dis | Command::Emulate | Command::Jobs(_) => 67_108_864,
         }
     }
 }

@@ -1,63 +1,29 @@
 //! Running a job on the code of an image.
-ghost use Rattle.std.specs.Prelude.{◌≡◌, ◌≤◌, ◌<◌, ◌+◌, ◌^◌, ℕ, Ok, Err, Some, None, length, IfOk, IfSome, MatchOption, MatchResult};
+ghost use Rattle.std.specs.Prelude.{◌≡◌, ◌≤◌, ◌<◌, ◌+◌, ℕ, Ok, Err, Some, None, length, IfOk, IfSome, MatchOption, MatchResult};
 ghost use Rattle.std.specs.List.{find};
 ghost use Rattle.std.specs.Str.{bytes_eq};
-ghost use Rattle.orc_bits.specs.Memory.{IsMapped, word};
-ghost use Rattle.orc_bits.specs.Parts.{span, memory_of};
+ghost use Rattle.orc_bits.specs.Memory.{IsMapped};
+ghost use Rattle.orc_bits.specs.Parts.{memory_of};
 ghost use Rattle.orc_frame.specs.Parts.{block_size};
 ghost use Rattle.orc_image.specs.Spelling.{IsFunction, ImageBegins};
 ghost use Rattle.orc_job.specs.Kept.{IsJob};
 ghost use Rattle.orc_job.specs.Told.{UnlessMemory};
-ghost use Rattle.orcc_top.specs.Emulation.{IsPartOf, AreNow};
+ghost use Rattle.orc_worlds.specs.Placement.{block_at};
 ghost use Rattle.orcc_top.specs.Execution.{AreSums, Ran, RunsTo, end_line, entry_called, refusal_on_image};
 ghost use Rattle.orcc_top.specs.Jobs.{job_refusal};
 ghost use Rattle.orcc_top.specs.Replies.{Replies};
-ghost use Rattle.orcc_top.specs.Placement.{block_at};
-ghost use Rattle.orcc_top.specs.Mapped.{IsMappedPart, AreMapped};
 
 use crate::calling::job_of;
 use crate::command::Command;
-use crate::placing::{BLOCK, machine_of};
 use crate::refusal::{Refusal, line_of};
 use crate::reply::Reply;
-use orc_bits::{Part, Parts};
 use orc_emul::Accs;
 use orc_frame::sum_word;
 use orc_image::{Image, ImageError, ImageFunction, read_image};
 use orc_job::{EndLine, Field, Job, JobError, Outcome, fit, print_result};
-use sqlite_items::Items;
+use orc_worlds::{BLOCK, machine_of, parts_now, word_at};
 use std::alloc::{AllocError, Global};
-use x86_ins::state::Bytes;
 use x86_machine::{End, Segments, run};
-
-/// The byte at an address that is mapped.
-fn byte_at(memory: &Segments, at: u64) -> u8
-    requires { IsMapped (memory_of memory.now) at }
-    ensures { memory_of memory.now at ≡ Some result }
-{
-    match memory.get(at) {
-        Some(byte) => byte,
-        None => unreachable!(),
-    }
-}
-
-/// The word at an address whose eight bytes are mapped.
-fn word_at(memory: &Segments, at: u64) -> u64
-    requires mapped { (i : ℕ) → i < 8 → IsMapped (memory_of memory.now) (at + i) }
-    requires low { at + 8 ≤ 2 ^ 64 }
-    ensures { word (memory_of memory.now) at ≡ Some result }
-{
-    u64::from_le_bytes([
-        byte_at(memory, at),
-        byte_at(memory, at + 1),
-        byte_at(memory, at + 2),
-        byte_at(memory, at + 3),
-        byte_at(memory, at + 4),
-        byte_at(memory, at + 5),
-        byte_at(memory, at + 6),
-        byte_at(memory, at + 7),
-    ])
-}
 
 /// The words of so many accumulators.
 fn sums_of(memory: &Segments, count: u8) -> Accs
@@ -70,33 +36,6 @@ fn sums_of(memory: &Segments, count: u8) -> Accs
         sums.push(word_at(memory, BLOCK + sum_word(usize::from(g)) as u64));
     }
     sums
-}
-
-/// A part with its bytes as they are now.
-fn part_now(alloc: Global, memory: &Segments, part: &Part) -> Result<Part, AllocError>
-    requires { IsMappedPart (memory_of memory.now) part.now }
-    ensures lies { IfOk result (λ now. span now ≡ span part.now) }
-    ensures has { IfOk result (λ now. IsPartOf (memory_of memory.now) now) }
-{
-    let mut bytes = Items::new(alloc);
-    for i in 0..part.bytes.len() {
-        bytes.push(byte_at(memory, part.at + i as u64))?;
-    }
-    Ok(Part { at: part.at, bytes })
-}
-
-/// Parts with their bytes as they are now.
-fn parts_now(alloc: Global, memory: &Segments, parts: &[Part]) -> Result<Parts, AllocError>
-    requires { AreMapped (memory_of memory.now) parts.now }
-    ensures { IfOk result (λ now. AreNow (memory_of memory.now) parts.now now) }
-{
-    let mut now = Items::new(alloc);
-    let mut left = parts;
-    while let [part, rest @ ..] = left {
-        now.push(part_now(alloc, memory, part)?)?;
-        left = rest;
-    }
-    Ok(now)
 }
 
 /// A run's end as it is told.
@@ -155,7 +94,7 @@ fn entry_of<'a>(functions: &'a [ImageFunction], name: &[u8]) -> Option<&'a Image
 }
 
 /// The function of an image that the job calls. It has as many arrays and parameters as the job.
-fn entry_called<'a>(
+pub fn entry_called<'a>(
     functions: &'a [ImageFunction],
     job: &Job,
 ) -> Result<&'a ImageFunction, JobError>
@@ -163,6 +102,7 @@ fn entry_called<'a>(
         (λ f. entry_called functions.now job.now ≡ Ok f.now)
         (λ e. entry_called functions.now job.now ≡ Err e) }
     ensures counts { IfOk result (λ f. f.now.dests ≤ length job.now.call.arrays.items) }
+    ensures arrays { IfOk result (λ f. length job.now.call.arrays.items ≡ f.now.dests + f.now.sources) }
 {
     let Some(f) = entry_of(functions, job.function.as_slice()) else {
         return Err(JobError::BadField {

@@ -11,15 +11,17 @@ mod emulation;
 mod execution;
 mod formatting;
 mod listing;
+mod number;
 mod objects;
 mod parsing;
-mod placing;
 mod refusal;
 mod reply;
 mod separating;
+mod sharing;
 mod status;
 mod top;
 mod translating;
+mod workers;
 mod writing;
 
 pub use orc_parts::play_parts;

@@ -141,7 +141,7 @@ fn each_command_answers(rt: HostRuntime) -> Result<(), AllocError> {
             &[],
             b"",
             Status::Usage,
-            b"usage: orcc asm | c | check | fmt | run | emulate | dis | gen S | obj\n",
+            b"usage: orcc asm | c | check | fmt | run | emulate | dis | gen S | obj | jobs W S\n",
         ),
     ];
     for (words, input, status, said) in rows {
@@ -477,5 +477,93 @@ fn rows_are_done_from_every_base(rt: HostRuntime) -> Result<(), AllocError> {
             }
         }
     }
+    Ok(())
+}
+
+/// The image of a function `f` without arrays, whose code is a byte that begins no instruction, and a job behind it.
+const BYTE: &[u8] =
+    b"ORCI\x01\x01\x01f\x00\x00\x00\x00\x00\x01\x00\x00\x00\x90{\"function\":\"f\",\"n\":0,\"m\":0,\"arrays\":[],\"params\":[],\"memory\":[],\"budget\":10}";
+
+/// The same, whose code jumps to itself, and a job with a budget of 2.
+const JUMPS: &[u8] =
+    b"ORCI\x01\x01\x01f\x00\x00\x00\x00\x00\x05\x00\x00\x00\xe9\xfb\xff\xff\xff{\"function\":\"f\",\"n\":0,\"m\":0,\"arrays\":[],\"params\":[],\"memory\":[],\"budget\":2}";
+
+/// A function that adds bytes.
+const ADD8: &[u8] =
+    b".function add8\n.dest 1 d1\n.source 1 s1\n.source 1 s2\naddb d1, s1, s2\n";
+
+/// A job of it, with what each array says of its elements.
+fn add8_job(alloc: Global, size: &str) -> Result<String, AllocError> {
+    format!(in alloc; "{{\"function\":\"add8\",\"n\":3,\"m\":1,\"arrays\":[{{\"base\":4096,\"stride\":0{size}}},{{\"base\":8192,\"stride\":0{size}}},{{\"base\":12288,\"stride\":0{size}}}],\"params\":[],\"memory\":[{{\"at\":4096,\"bytes\":\"000000\"}},{{\"at\":8192,\"bytes\":\"01ff80\"}},{{\"at\":12288,\"bytes\":\"010180\"}}],\"budget\":1000}}")
+}
+
+/// Whether a line of the output is the prefix and a number of at most so much.
+fn has_at_most(output: &[u8], prefix: &str, most: u64) -> bool {
+    let Ok(text) = str::from_utf8(output) else {
+        return false;
+    };
+    for line in text.lines() {
+        if let Some(number) = line.strip_prefix(prefix) {
+            return matches!(number.parse::<u64>(), Ok(n) if n <= most);
+        }
+    }
+    false
+}
+
+#[test]
+fn parts_are_played(rt: HostRuntime) -> Result<(), AllocError> {
+    let alloc = rt.alloc();
+    let image = run(alloc, &["asm"], ADD8)?.output;
+    let mut unsized_job = Vec::from_slice(alloc, image.as_slice())?;
+    unsized_job.extend_from_slice(add8_job(alloc, "")?.as_bytes())?;
+    let rows: [(&[&str], &[u8], Status, &[u8]); 5] = [
+        (
+            &["jobs", "2", "0"],
+            RETURNS,
+            Status::Done,
+            b"end played 2\npart 0 1\npart 1 1\n",
+        ),
+        (
+            &["jobs", "2", "0"],
+            BYTE,
+            Status::Done,
+            b"end trap 0 NoRow 0x600000000000 0\npart 0 0\npart 1 0\n",
+        ),
+        (
+            &["jobs", "2", "0"],
+            JUMPS,
+            Status::Done,
+            b"end budget 2\npart 0 1\npart 1 1\n",
+        ),
+        (
+            &["jobs", "2", "5"],
+            unsized_job.as_slice(),
+            Status::Refused,
+            b"job: BadField arrays\n",
+        ),
+        (
+            &["jobs", "65", "0"],
+            RETURNS,
+            Status::Usage,
+            b"usage: orcc asm | c | check | fmt | run | emulate | dis | gen S | obj | jobs W S\n",
+        ),
+    ];
+    for (words, input, status, said) in rows {
+        let ran = run(alloc, words, input)?;
+        assert_eq!(rt; ran.status, status, "{said:?}");
+        if status == Status::Done {
+            assert!(rt; ran.output.as_slice() == said, "{said:?}");
+        } else {
+            assert!(rt; ran.notes.as_slice() == said, "{said:?}");
+        }
+    }
+    let mut sized_job = image;
+    sized_job.extend_from_slice(add8_job(alloc, ",\"size\":1")?.as_bytes())?;
+    let played = run(alloc, &["jobs", "2", "5"], sized_job.as_slice())?;
+    let output = played.output.as_slice();
+    assert!(rt; output.starts_with(b"end played "));
+    assert!(rt; has_at_most(output, "part 0 ", 130));
+    assert!(rt; has_at_most(output, "part 1 ", 148));
+    assert!(rt; output.ends_with(b"\nmem 4096 020000\nmem 8192 01ff80\nmem 12288 010180\n"));
     Ok(())
 }

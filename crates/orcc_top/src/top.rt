@@ -13,7 +13,7 @@ use crate::writing::write;
 use orc_io::{Sink, Source};
 use std::alloc::Global;
 
-const USAGE: &str = "usage: orcc asm | c | check | fmt | run | emulate | dis | gen S | obj\n";
+const USAGE: &str = "usage: orcc asm | c | check | fmt | run | emulate | dis | gen S | obj | jobs W S\n";
 
 /// Does what the words after the program's name ask for, and says how it ended.
 ///
@@ -30,7 +30,10 @@ const USAGE: &str = "usage: orcc asm | c | check | fmt | run | emulate | dis | g
 /// object of at most 67,108,864 bytes and writes its listing; an input that begins as an ELF file
 /// is an object. `run` reads at most as many bytes, which are an image and a job behind it, places
 /// the code of the job's function and the job at fixed addresses, and writes the result of the run,
-/// which may say trap or budget. `emulate` reads at most 67,108,864 bytes, which are a text, a line
+/// which may say trap or budget. `jobs W S` reads the same, with the sizes of the arrays' elements,
+/// cuts the job's call into W parts, and places each with a block, a return word and a frame of its
+/// own; it takes turns of the parts, one instruction each, as the seed S draws them, and writes the
+/// result, which may say trap or budget. `emulate` reads at most 67,108,864 bytes, which are a text, a line
 /// that is exactly `%%`, and a job, and writes the result of the job's emulation, which may say
 /// unmapped. Without such a line all is the text, and the job is empty. All output is built before
 /// the first byte is put.

@@ -4,7 +4,7 @@ use Rattle.orc_program.specs.Meaning.{emulate}
 use Rattle.orc_job.specs.declared.outcome.EndLine.TheVariants.{Emulated}
 use Rattle.orc_job.specs.declared.outcome.Outcome.{Outcome}
 use Rattle.orc_job.proofs.Keeping.{low}
-use Rattle.orcc_top.specs.Emulation.{AreNow}
+use Rattle.orc_worlds.specs.Now.{AreNow}
 use Rattle.orcc_top.proofs.Emulated.{are_now, comes_as}
 use Rattle.orcc_top.proofs.emulation.emulated.Goals as goal
 

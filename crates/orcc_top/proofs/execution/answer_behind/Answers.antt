@@ -14,7 +14,7 @@ returns-in_ok-print_result-in-Ok c =
     let functions : c.as_slice.result.now ≡ c.args.image.now.functions = c.as_slice.ensures ∙ ap (λ (i : ImageValue). i.functions) c.image.view_is in
     let none : refusal_on_image c.args.image.now.functions c.split_at.result.1.now ≡ None
     = ap (λ (fs : List FunctionValue). refusal_on_image fs c.split_at.result.1.now) (sym functions) ∙ sym c.in-Ok.ensures.refused in (
-      within_limit command.Run c.args.input.now c.requires.short ∙ refused_behind c.args.input.now c.split_at.result.1.now c.args.image.now c.args.size c.requires.begins c.split_at.ensures.back ∙ ap (option_map (λ x. refusal.Job x)) none,
+      within_limit command.Run c.args.input.now c.requires.short ∙ refused_behind refusal_on_image c.args.input.now c.split_at.result.1.now c.args.image.now c.args.size c.requires.begins c.split_at.ensures.back ∙ ap (option_map (λ x. refusal.Job x)) none,
       record {
         image = c.args.image.now;
         allowed = c.requires.begins.allowed;
@@ -35,6 +35,6 @@ returns-in_ok-line_of-in_default c =
     record {
       refusal = refusal.Job c.in-Err.error;
       refused = within_limit command.Run c.args.input.now c.requires.short
-          ∙ refused_behind c.args.input.now c.split_at.result.1.now c.args.image.now c.args.size c.requires.begins c.split_at.ensures.back ∙ ap (option_map (λ x. refusal.Job x)) same;
+          ∙ refused_behind refusal_on_image c.args.input.now c.split_at.result.1.now c.args.image.now c.args.size c.requires.begins c.split_at.ensures.back ∙ ap (option_map (λ x. refusal.Job x)) same;
       says = c.in_ok-line_of-in_default.ensures;
     }

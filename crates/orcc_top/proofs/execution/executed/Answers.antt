@@ -1,7 +1,7 @@
 use Rattle.std.proofs.Common.{sym, subst}
 use Rattle.orc_bits.specs.Parts.{memory_of}
-use Rattle.orcc_top.specs.Mapped.{AreMapped}
-use Rattle.orcc_top.proofs.Leaving.{segments_kept, block_kept}
+use Rattle.orc_worlds.specs.Mapped.{AreMapped}
+use Rattle.orc_worlds.proofs.Leaving.{segments_kept, block_kept}
 use Rattle.orcc_top.proofs.execution.executed.Goals as goal
 
 pub parts_now-requires : goal.parts_now-requires

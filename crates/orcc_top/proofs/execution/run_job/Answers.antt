@@ -3,6 +3,7 @@ use Rattle.orc_image.specs.declared.image.Image.{Image}
 use Rattle.orc_image.specs.Fields.{first_bad_field}
 use Rattle.orcc_top.specs.declared.command.Command.TheVariants as command
 use Rattle.orcc_top.specs.declared.refusal.Refusal.TheVariants as refusal
+use Rattle.orcc_top.specs.Execution.{refusal_on_image}
 use Rattle.orcc_top.proofs.Behind.{refused_image}
 use Rattle.orcc_top.proofs.Images.{told}
 use Rattle.orcc_top.proofs.Limits.{within_limit}
@@ -13,6 +14,6 @@ returns-in_ok-line_of-in_default c =
     let e : Some c.in-Err.error ≡ first_bad_field c.args.input.now = told (Image × ℕ) c.in-Err.error _ c.in_default.not-Memory c.in-Err.ensures.refused in
     record {
       refusal = refusal.Image c.in-Err.error;
-      refused = within_limit command.Run c.args.input.now c.requires ∙ refused_image c.args.input.now c.in-Err.error e;
+      refused = within_limit command.Run c.args.input.now c.requires ∙ refused_image refusal_on_image c.args.input.now c.in-Err.error e;
       says = c.in_ok-line_of-in_default.ensures;
     }

@@ -2,7 +2,7 @@ use Rattle.std.proofs.Common.{◌≡◌, ◌+◌, ◌*◌, subst, arith}
 use Rattle.orc_bits.specs.Memory.{IsMapped}
 use Rattle.orc_bits.specs.Parts.{memory_of}
 use Rattle.orc_frame.specs.Parts.{sum_word}
-use Rattle.orcc_top.specs.Placement.{block_at}
+use Rattle.orc_worlds.specs.Placement.{block_at}
 use Rattle.orcc_top.proofs.execution.sums_of.Goals as goal
 
 pub word_at-requires-clause-mapped : goal.word_at-requires-clause-mapped

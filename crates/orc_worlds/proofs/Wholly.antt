@@ -1,0 +1,340 @@
+-- Separate parts of a job do the whole call.
+use Rattle.std.proofs.Common.{◌≡◌, ◌≢◌, ℕ, zero, suc, ◌+◌, ◌-◌, ◌*◌, ◌%◌, ◌^◌, ◌<◌, ◌≤◌, nat_lt, Bool, true, false, if◌then◌else◌, List, [], ◌∷◌, length, map, drop, get_or, Option, Some, None, Ok, slice_index, slice_index_or, refl, sym, ap, ap₂, ◌∙◌, subst, arith, ◌⊎◌, inl, inr, ⊎_elim, pos}
+use Rattle.std.specs.Int.{w64, cast_signed, cast_unsigned}
+use Rattle.std.specs.Int.RustNames.{FitsSigned}
+use Rattle.std.specs.List.{range_with_len, list_all, AllByRecursion}
+use Rattle.std.proofs.lemmas.Bool.{cases_lt, lt-ltb, le-ltb, true≢false}
+use Rattle.std.proofs.lemmas.Bool.Decides.{nat_tests}
+use Rattle.std.proofs.lemmas.Int.{to_z-of_z}
+use Rattle.std.proofs.lemmas.List.{get_or-map, get_or_past, length-map}
+use Rattle.std.proofs.lemmas.List.FromFn.{get_or-map-range_with_len, length-map-range_with_len}
+use Rattle.orc_bits.specs.declared.parts.Part.{Part}
+use Rattle.orc_bits.specs.Memory.{Memory, IsMapped, word}
+use Rattle.orc_bits.specs.Parts.{Span, span, layout}
+use Rattle.orc_program.specs.declared.program.Var.{Var}
+use Rattle.orc_program.specs.declared.program.VarKind.{VarKind}
+use Rattle.orc_program.specs.declared.program.VarKind.TheVariants as kind
+use Rattle.orc_program.specs.declared.call.Call.{Call}
+use Rattle.orc_program.specs.declared.call.Place.{Place}
+use Rattle.orc_program.specs.declared.rect.Rect.{Rect}
+use Rattle.orc_program.specs.Program.{FunctionValue, var_at, is_of, same_kind, is_array, is_array_kind, no_var, count_of, count_before, array_number, places_of}
+use Rattle.orc_program.specs.Kept.{is_function}
+use Rattle.orc_program.specs.Meaning.{emulate, no_place, place_at, param_at, cell, rows, rows_of, start, sums_of}
+use Rattle.orc_program.specs.Meaning.{ended as ended_call}
+use Rattle.orc_program.specs.Good.{IsArray}
+use Rattle.orc_program.specs.Slots.{slot_of, slots, place_with}
+use Rattle.orc_program.specs.Cut.{Has, Fits, Cuts, IsPart, rect_at, no_rect, total, sum_size}
+use Rattle.orc_program.proofs.Apart.{IsSize}
+use Rattle.orc_program.proofs.Sizes.{size_kept}
+use Rattle.orc_program.proofs.Steps.{go_on_ok, ok_same}
+use Rattle.orc_frame.proofs.Places.{length-places_of}
+use Rattle.orc_frame.specs.Parts.{InBlock, InReturn, InFrame, sum_word}
+use Rattle.orc_frame.specs.Subject.{Call as Arguments}
+use Rattle.orc_frame.specs.GoodCall.{GoodCall, lowered}
+use Rattle.orc_frame.specs.Function.{subject_of}
+use Rattle.orc_asm.specs.Function.{RunsQuietly}
+use Rattle.orc_asm.specs.RunsAs.{stop}
+use Rattle.orc_asm.proofs.Slots.{Limits, limits, slot_is}
+use Rattle.orc_asm.proofs.Places.{before_less}
+use Rattle.orc_image.specs.Spelling as image
+use Rattle.orc_job.specs.declared.job.Job.{Job}
+use Rattle.orc_job.specs.Forms.{is_within}
+use Rattle.orc_job.specs.Kept.{IsJob}
+use Rattle.orc_jobs.specs.declared.drawing.Stopped.{Stopped}
+use Rattle.orc_jobs.specs.World.{Stand, Shared, stand_at, no_stand, on}
+use Rattle.orc_jobs.specs.Drawn.{PlaysDrawn}
+use Rattle.orc_jobs.proofs.Draws.{plays_drawn}
+use Rattle.orc_parts.specs.Even.{even_part, even_rect}
+use Rattle.orc_parts.specs.Split.{call_with, core_at, IsOwn, Begins, Split, IsOutside, AreSums}
+use Rattle.orc_parts.specs.DrawnParts.{part_steps, EndsAsOne}
+use Rattle.orc_parts.proofs.EvenCuts.{even_cuts}
+use Rattle.orc_parts.proofs.Together.{drawn_as_one}
+use Rattle.orc_worlds.specs.declared.playing.Played.{Played}
+use Rattle.orc_worlds.specs.Now.{IsPartOf, AreNow}
+use Rattle.orc_worlds.specs.Placement.{return_to}
+use Rattle.orc_worlds.specs.Worlds.{block_of, moved_place, moved_places, AreSigned, call_of_part, part_stand, first_stands, placed_world}
+use Rattle.orc_worlds.specs.Played.{or_zero, part_sum, PlayedOut}
+use Rattle.orc_worlds.specs.Whole.{IsCompiled, place_of_slot, words_of_part, AreSeparate, steps_of_part, IsWhole, DoesWhole}
+use Rattle.orc_worlds.proofs.Started.{stands_count, placed_stand}
+
+-- ---- moved arrays
+
+moved_at : (q : Rect) (ps : List Place) (sizes : List ℕ) (i : ℕ) → length sizes ≡ length ps → i < length ps → slice_index_or (moved_places q ps sizes) i no_place ≡ moved_place q (slice_index_or ps i no_place) (slice_index sizes i)
+moved_at q [] sizes i e l = absurd (omega (arith, l))
+moved_at q (p ∷ ps) [] i e l = absurd (omega (arith, e))
+moved_at q (p ∷ ps) (n ∷ sizes) zero e l = refl
+moved_at q (p ∷ ps) (n ∷ sizes) (suc i) e l = moved_at q ps sizes i (omega (arith, e)) (omega (arith, l))
+
+signed_at : (ps : List Place) (i : ℕ) → AreSigned ps → i < length ps → FitsSigned w64 (slice_index_or ps i no_place).stride
+signed_at [] i h l = absurd (omega (arith, l))
+signed_at (p ∷ ps) zero h l = h.0
+signed_at (p ∷ ps) (suc i) h l = signed_at ps i h.1 (omega (arith, l))
+
+-- the base tells which slot stands at a place of the call
+place_found : (s : ℕ → ℕ) (b : ℕ → ℕ) (k : ℕ) (xs : List ℕ) (i : ℕ) → (get_or (map (λ x. place_with (suc x) (s x)) xs) i no_place).base ≡ suc k → get_or (map (λ x. place_with (b x) (s x)) xs) i no_place ≡ place_with (b k) (s k)
+place_found s b k [] zero e = absurd (omega (arith, e))
+place_found s b k [] (suc i) e = absurd (omega (arith, e))
+place_found s b k (x ∷ xs) zero e = ap (λ x. place_with (b x) (s x)) (let q : x ≡ k = omega (arith, e) in q)
+place_found s b k (x ∷ xs) (suc i) e = place_found s b k xs i e
+
+total_same : (n : ℕ) (g h : ℕ → ℕ) → ((k : ℕ) → k < n → g k ≡ h k) → total n g ≡ total n h
+total_same zero g h e = refl
+total_same (suc n) g h e = ap₂ (λ x y. x + y) (total_same n g h (λ k l. e k (omega (arith, l)))) (e n (omega arith))
+
+-- ---- the parts
+
+module _ (f : FunctionValue) (entry : image.FunctionValue) (job : Job) (sizes : List ℕ) (workers : ℕ) (c : IsCompiled f entry sizes)
+    (signed : AreSigned job.call.arrays.items) (arrays : length job.call.arrays.items ≡ entry.dests + entry.sources) (sized : length sizes ≡ length job.call.arrays.items) where
+  few : Limits f
+  few = limits f c.kept
+
+  abbrev rect : ℕ → Rect
+  rect k = even_part f.two_d job.call workers k
+
+  abbrev words : ℕ → Arguments
+  words k = words_of_part entry job sizes workers k
+
+  rect_same : (k : ℕ) → even_part entry.two_d job.call workers k ≡ rect k
+  rect_same k = ap (λ b. even_part b job.call workers k) c.two_d
+
+  -- the place in a job's arrays of a slot
+  abbrev index_of : ℕ → ℕ
+  index_of s = if nat_lt s 4 then s else entry.dests + (s - 4)
+
+  dest_index : (p : ℕ) → p < length f.vars → is_of kind.Dest (var_at f.vars p) ≡ true → (index_of (slot_of f.vars p) ≡ array_number f.vars p) × (array_number f.vars p < length job.call.arrays.items)
+  dest_index p inside e =
+      let j = count_before kind.Dest f.vars p in
+      let l = before_less kind.Dest f.vars p inside e in
+      let d = few.dests in
+      let below : nat_lt j 4 ≡ true = lt-ltb j 4 (omega (arith, l, d)) in
+      let slot : slot_of f.vars p ≡ j = ap (λ b. if b then j else 4 + count_before kind.Source f.vars p) e in
+      let number : array_number f.vars p ≡ j = ap (λ b. if b then j else count_of kind.Dest f.vars + count_before kind.Source f.vars p) e in
+      let same = c.dests in
+      (ap index_of slot ∙ ap (λ b. if b then j else entry.dests + (j - 4)) below ∙ sym number, omega (arith, number, l, same, arrays))
+
+  source_index : (p : ℕ) → p < length f.vars → is_of kind.Dest (var_at f.vars p) ≡ false → is_of kind.Source (var_at f.vars p) ≡ true → (index_of (slot_of f.vars p) ≡ array_number f.vars p) × (array_number f.vars p < length job.call.arrays.items)
+  source_index p inside not e =
+      let j = count_before kind.Source f.vars p in
+      let l = before_less kind.Source f.vars p inside e in
+      let above : nat_lt (4 + j) 4 ≡ false = le-ltb (4 + j) 4 (omega arith) in
+      let slot : slot_of f.vars p ≡ 4 + j = ap (λ b. if b then count_before kind.Dest f.vars p else 4 + j) not in
+      let number : array_number f.vars p ≡ count_of kind.Dest f.vars + j = ap (λ b. if b then count_before kind.Dest f.vars p else count_of kind.Dest f.vars + j) not in
+      let same = c.dests in
+      let more = c.sources in (
+        ap index_of slot ∙ ap (λ b. if b then 4 + j else entry.dests + (4 + j - 4)) above ∙ omega (arith, number, same),
+        omega (arith, number, l, same, more, arrays),
+      )
+
+  no_array : {Q : Type 0} (p : ℕ) (k : VarKind) → (var_at f.vars p).kind ≡ k → is_array_kind k ≡ false → is_array (var_at f.vars p) ≡ true → Q
+  no_array p k e n h = absurd (true≢false (sym h ∙ ap is_array_kind e ∙ n))
+
+  index_is : (p : ℕ) → IsArray f p → (index_of (slot_of f.vars p) ≡ array_number f.vars p) × (array_number f.vars p < length job.call.arrays.items)
+  index_is p h = go (var_at f.vars p).kind refl
+    where
+      go : (k : VarKind) → (var_at f.vars p).kind ≡ k → (index_of (slot_of f.vars p) ≡ array_number f.vars p) × (array_number f.vars p < length job.call.arrays.items)
+      go kind.Dest e = dest_index p h.0 (ap (same_kind kind.Dest) e)
+      go kind.Source e = source_index p h.0 (ap (same_kind kind.Dest) e) (ap (same_kind kind.Source) e)
+      go kind.Temp e = no_array p kind.Temp e refl h.1
+      go kind.Param e = no_array p kind.Param e refl h.1
+      go kind.Const e = no_array p kind.Const e refl h.1
+      go kind.Accumulator e = no_array p kind.Accumulator e refl h.1
+
+  -- the place of an array in the call of a part's words
+  part_place : (k p : ℕ) → IsArray f p → place_at f (call_with f (words k)) p ≡ moved_place (rect k) (place_at f job.call p) (var_at f.vars p).size
+  part_place k p h =
+      let args = words k in
+      let x = index_is p h in
+      let i = array_number f.vars p in
+      let s = slot_of f.vars p in
+      let here : place_of_slot entry.dests (call_of_part entry job sizes workers k) s ≡ moved_place (rect k) (place_at f job.call p) (var_at f.vars p).size
+      = ap (λ j. slice_index_or (call_of_part entry job sizes workers k).arrays.items j no_place) x.0
+      ∙ ap (λ q. slice_index_or (moved_places q job.call.arrays.items sizes) i no_place) (rect_same k)
+      ∙ moved_at (rect k) job.call.arrays.items sizes i sized x.1
+      ∙ ap (moved_place (rect k) (place_at f job.call p)) (c.sized p h) in
+      let found : place_at f (call_with f args) p ≡ place_with (args.base s) (args.stride s)
+      = place_found args.stride args.base s (slots f.vars) i (slot_is f (record args { base = suc }) few p h.0 h.1).base in
+      found
+      ∙ ap (λ (r : Place). place_with r.base (cast_unsigned w64 r.stride)) here
+      ∙ ap (λ z. record { base = (moved_place (rect k) (place_at f job.call p) (var_at f.vars p).size).base; stride = z }) (to_z-of_z w64 (place_at f job.call p).stride (signed_at job.call.arrays.items i signed x.1))
+
+  rows_so : (k : ℕ) → rows f (call_with f (words k)) ≡ (rect k).rows
+  rows_so k = go f.two_d refl
+    where
+      go : (b : Bool) → f.two_d ≡ b → (if f.two_d then (words k).m else 1) ≡ (rect k).rows
+      go true e = ap (λ b. if b then (words k).m else 1) e ∙ ap (λ (q : Rect). q.rows) (rect_same k)
+      go false e = ap (λ b. if b then (words k).m else 1) e ∙ sym (ap (λ b. (even_part b job.call workers k).rows) e)
+
+  is_part : (k : ℕ) → IsPart f job.call (call_with f (words k)) (rect k)
+  is_part k = record {
+    n = ap (λ (q : Rect). q.elements) (rect_same k);
+    m = rows_so k;
+    bases = λ p h. ap (λ (r : Place). r.base) (part_place k p h);
+    strides = λ p h. ap (λ (r : Place). r.stride) (part_place k p h);
+    params = params;
+  }
+    where
+      params : (p : ℕ) → (var_at f.vars p).kind ≡ kind.Param → param_at f (call_with f (words k)) p ≡ param_at f job.call p
+      params p e = ⊎_elim
+          (λ inside.
+          let l = before_less kind.Param f.vars p inside (ap (same_kind kind.Param) e) in
+          get_or-map-range_with_len (words k).param 0 (count_of kind.Param f.vars) (count_before kind.Param f.vars p) (count_before kind.Param f.vars p) 0 l (let z : 0 + count_before kind.Param f.vars p ≡ count_before kind.Param f.vars p = omega arith in z))
+          (λ past. absurd (not_const (ap (λ (v : Var). v.kind) (sym (get_or_past f.vars p no_var past)) ∙ e)))
+          (cases_lt p (length f.vars))
+        where
+          not_const : kind.Const ≡ kind.Param → ⊥
+          not_const q = true≢false (ap (same_kind kind.Const) q)
+
+  -- ---- the split
+
+  abbrev rects : List Rect
+  rects = map rect (range_with_len 0 workers)
+
+  rects_count : length rects ≡ workers
+  rects_count = length-map-range_with_len rect 0 workers
+
+  rect_is : (k : ℕ) → k < workers → rect_at rects k ≡ rect k
+  rect_is k l = get_or-map-range_with_len rect 0 workers k k no_rect l (let z : 0 + k ≡ k = omega arith in z)
+
+  inside : (k : ℕ) → k < length rects → k < workers
+  inside k l = let e = rects_count in omega (arith, l, e)
+
+  outside : (k : ℕ) → k < workers → k < length rects
+  outside k l = let e = rects_count in omega (arith, l, e)
+
+  cuts : 0 < workers → Cuts f job.call (length rects) (rect_at rects)
+  cuts some =
+      let even = even_cuts f job.call workers some in
+      record {
+        fits = λ k l. subst (Fits f job.call) (sym (rect_is k (inside k l))) (even.fits k (inside k l));
+        once = λ r i lr li.
+            let x = even.once r i lr li in (
+              x.0,
+              outside x.0 x.1,
+              subst (λ q. Has q r i) (sym (rect_is x.0 x.1)) x.2,
+              λ j lj h. x.3 j (inside j lj) (subst (λ q. Has q r i) (rect_is j (inside j lj)) h),
+            );
+      }
+
+  module _ (some : 0 < workers) (s : AreSeparate f entry job sizes workers) where
+    abbrev w : Shared
+    w = placed_world entry job sizes workers
+
+    stand : (k : ℕ) → k < workers → stand_at w k ≡ part_stand entry k
+    stand k l = placed_stand entry job sizes workers k l
+
+    begins : (k : ℕ) → k < workers → Begins f w k (words k) (s.own k) return_to
+    begins k l = record {
+      within = s.within k l;
+      good = subst (λ (t : Stand). GoodCall (subject_of f) t.code (on (s.own k) t.point) (words k) return_to) (sym (stand k l)) (s.good k l);
+      over = subst (λ (t : Stand). t.stop ≡ stop (on (s.own k) t.point) return_to) (sym (stand k l)) refl;
+      fresh = ap (λ (t : Stand). t.steps) (stand k l);
+      code = subst (λ (t : Stand). RunsQuietly f t.code.bytes) (sym (stand k l)) c.runs;
+    }
+
+    split : Split f job.call rects w
+    split = record {
+      words = words;
+      own = s.own;
+      back = λ k. return_to;
+      count = rects_count ∙ sym (stands_count entry workers);
+      cuts = cuts some;
+      parts = λ k l. subst (IsPart f job.call (call_with f (words k))) (sym (rect_is k (inside k l))) (is_part k);
+      begins = λ k l. begins k (inside k l);
+      separate = λ j k lj lk ne a own.
+          s.separate j k (inside j lj) (inside k lk) ne a (subst (λ (t : Stand). IsOwn f t.point.core (words j) a) (stand j (inside j lj)) own);
+    }
+
+    -- ---- what is left
+
+    module _ (kept : IsJob job) (seed : ℕ) (o : Played) (enough : total workers (steps_of_part f job workers) ≤ job.budget) (p : PlayedOut entry job sizes workers seed o) where
+      abbrev v : Shared
+      v = p.world
+
+      steps_same : (k : ℕ) → k < workers → part_steps f rects k ≡ steps_of_part f job workers k
+      steps_same k l = ap (λ (q : Rect). (subject_of f).steps q.elements q.rows) (rect_is k l)
+
+      one : EndsAsOne f job.call rects o.why w v
+      one =
+          let sum : total (length rects) (part_steps f rects) ≡ total workers (steps_of_part f job workers)
+          = ap (λ n. total n (part_steps f rects)) rects_count ∙ total_same workers (part_steps f rects) (steps_of_part f job workers) steps_same in
+          drawn_as_one f c.kept job.call rects w split v seed job.budget o.turns o.why (omega (arith, sum, enough)) p.plays
+
+      stands_left : length v.stands ≡ workers
+      stands_left = (plays_drawn w seed job.budget o.why o.turns v p.plays).2 ∙ stands_count entry workers
+
+      steps : (k : ℕ) → k < workers → slice_index o.steps.items k ≤ steps_of_part f job workers k
+      steps k l =
+          let bound = one.steps k (outside k l) in
+          let e = steps_same k l in
+          let is : slice_index o.steps.items k ≡ (stand_at v k).steps
+          = ap (λ ns. slice_index ns k) p.steps ∙ get_or-map (λ (t : Stand). t.steps) v.stands k no_stand 0 (let n = stands_left in omega (arith, n, l)) in
+          omega (arith, bound, e, is)
+
+      -- segments lie outside the parts' own bytes
+      out : (a : ℕ) → a < 0x600000000000 → IsOutside w (length rects) a
+      out a low k l =
+          let t = stand k (inside k l) in
+          subst (λ (x : Stand). (InBlock (x.point.core.gpr 7) a → ⊥) × (InReturn (x.point.core.gpr 4) a → ⊥) × (InFrame (lowered x.point.core) a → ⊥)) (sym t)
+          ((λ h. omega (arith, h.0, low)), (λ h. omega (arith, h.0, low)), (λ h. omega (arith, h.0, low)))
+
+      low_part : (q : Part) → is_within q ≡ true → q.at + length q.bytes ≤ 0x600000000000
+      low_part q h = grind (arith, nat_tests, h)
+
+      now_at : (before after : List Part) → list_all is_within before ≡ true → layout after ≡ layout before → AllByRecursion (IsPartOf v.memory) after → AllByRecursion (IsPartOf one.end.0) after
+      now_at before [] h e all = tt
+      now_at [] (q ∷ after) h e all = absurd (let n = ap length e in omega (arith, n))
+      now_at (b ∷ before) (q ∷ after) h e all =
+          let first : span q ≡ span b = ap (λ ss. slice_index_or ss 0 (record { at = 0; count = 0 })) e in
+          let rest : layout after ≡ layout before = ap (λ ss. drop 1 ss) e in
+          let low = low_part b (grind (arith, h)) in
+          let at = ap (λ (x : Span). x.at) first in
+          let count = ap (λ (x : Span). x.count) first in (
+            (λ i l. sym (one.memory (q.at + i) (out (q.at + i) (omega (arith, low, at, count, l)))) ∙ all.0 i l),
+            now_at before after (grind (arith, h)) rest all.1,
+          )
+
+      sums_count : length one.end.1 ≡ entry.accs
+      sums_count =
+          let u = go_on_ok (rows_of f job.call (rows f job.call) (start w.memory)) (ended_call f) one.end one.means in
+          ap (λ (x : Memory × List ℕ). length x.1) (sym (ok_same (u.0.memory, sums_of f u.0) one.end u.2))
+          ∙ length-map (places_of kind.Accumulator f.vars) u.0.sums ∙ length-places_of kind.Accumulator f.vars ∙ sym c.accs
+
+      -- sizes are of at most 64 bits
+      cut_twice : (n size : ℕ) → IsSize size ⊎ (size ≡ 0) → n % 2 ^ 64 % 2 ^ (8 * size) ≡ n % 2 ^ (8 * size)
+      cut_twice n size (inl (inl e)) = rw e (omega arith)
+      cut_twice n size (inl (inr (inl e))) = rw e (omega arith)
+      cut_twice n size (inl (inr (inr (inl e)))) = rw e (omega arith)
+      cut_twice n size (inl (inr (inr (inr e)))) = rw e (omega arith)
+      cut_twice n size (inr e) = rw e (omega arith)
+
+      size_any : (q : ℕ) → IsSize (var_at f.vars q).size ⊎ ((var_at f.vars q).size ≡ 0)
+      size_any q = ⊎_elim
+          (λ l. inl (size_kept f c.kept q l))
+          (λ past. inr (ap (λ (x : Var). x.size) (get_or_past f.vars q no_var past)))
+          (cases_lt q (length f.vars))
+
+      sums : (g : ℕ) → g < length one.end.1 → slice_index one.end.1 g ≡ slice_index o.accs.items g % 2 ^ (8 * sum_size f g)
+      sums g l =
+          let x = one.sums g l in
+          let word_of : (k : ℕ) → k < workers → part_sum v.memory g k ≡ x.0 k
+          = λ k lk. ap or_zero (ap (λ (t : Stand). word v.memory (t.point.core.gpr 7 + sum_word g)) (sym (stand k lk)) ∙ x.1 k (outside k lk)) in
+          let same : total (length rects) x.0 ≡ total workers (part_sum v.memory g)
+          = ap (λ n. total n x.0) rects_count ∙ sym (total_same workers (part_sum v.memory g) x.0 word_of) in
+          let is = p.sums.1 g (let e = sums_count in omega (arith, e, l)) in
+          x.2 ∙ ap (λ n. n % 2 ^ (8 * sum_size f g)) same
+          ∙ sym (cut_twice (total workers (part_sum v.memory g)) (sum_size f g) (size_any (slice_index (places_of kind.Accumulator f.vars) g)))
+          ∙ ap (λ n. n % 2 ^ (8 * sum_size f g)) (sym is)
+
+      whole : IsWhole f entry job sizes workers o
+      whole = record {
+        played = one.all_ended;
+        steps = steps;
+        end = one.end;
+        means = one.means;
+        memory = record { lie = p.memory.lie; have = now_at job.memory o.memory kept.within p.memory.lie p.memory.have };
+        sums = sums;
+      }
+
+pub does_whole : (entry : image.FunctionValue) (job : Job) (sizes : List ℕ) (workers seed : ℕ) (o : Played) → IsJob job → length job.call.arrays.items ≡ entry.dests + entry.sources → length sizes ≡ length job.call.arrays.items → 0 < workers
+    → PlayedOut entry job sizes workers seed o → DoesWhole entry job sizes workers o
+does_whole entry job sizes workers seed o kept arrays sized some p f c s enough = whole f entry job sizes workers c p.signed arrays sized some s kept seed o enough p

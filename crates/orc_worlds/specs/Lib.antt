@@ -1,0 +1,6 @@
+pub mod Mapped
+pub mod Now
+pub mod Placement
+pub mod Played
+pub mod Whole
+pub mod Worlds

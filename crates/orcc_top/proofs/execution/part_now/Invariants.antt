@@ -1,6 +1,0 @@
-use Rattle.orc_bits.specs.Parts.{memory_of}
-use Rattle.orcc_top.proofs.Leaving.{HasFirst}
-use Rattle.orcc_top.proofs.execution.part_now.Given as goal
-
-abbrev pub invariant-loop-i : goal.invariant-loop-i
-invariant-loop-i l = HasFirst (memory_of l.memory) l.part.at l.i l.bytes

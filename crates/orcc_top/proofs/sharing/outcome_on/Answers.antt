@@ -1,0 +1,7 @@
+use Rattle.std.proofs.Common.{List, ◌∙◌, length, ap, sym}
+use Rattle.orcc_top.proofs.Sizing.{as_many}
+use Rattle.orcc_top.proofs.sharing.outcome_on.Goals as goal
+
+pub play_job-requires-clause-sized : goal.play_job-requires-clause-sized
+play_job-requires-clause-sized c =
+    ap (λ l. length l) c.as_slice.ensures.value ∙ as_many c.args.bytes.now c.in_ok-job.job c.in_ok-sizes.sizes.items (sym c.in_ok-job.ensures.read) (sym c.in_ok-sizes.ensures)
