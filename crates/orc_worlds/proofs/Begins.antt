@@ -1,5 +1,5 @@
 -- Where parts begin, and their cells' addresses.
-use Rattle.std.proofs.Common.{◌≡◌, ℕ, ◌+◌, ◌*◌, ◌%◌, ◌^◌, ◌<◌, ◌≤◌, arith}
+use Rattle.std.proofs.Common.{◌≡◌, ℕ, ◌+◌, ◌%◌, ◌^◌, ◌<◌, ◌≤◌, arith}
 use Rattle.orc_parts.specs.Even.{begin_of}
 use Rattle.orc_parts.proofs.EvenCuts.{rises, last}
 

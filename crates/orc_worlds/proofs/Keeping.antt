@@ -1,5 +1,5 @@
 -- What drawn turns of the parts of a job leave mapped.
-use Rattle.std.proofs.Common.{◌≡◌, ℕ, ◌+◌, ◌<◌, ◌≤◌, ◌^◌, List, [], ◌∷◌, length, map, refl, sym, ap, ◌∙◌, subst, arith}
+use Rattle.std.proofs.Common.{◌≡◌, ℕ, ◌+◌, ◌<◌, ◌^◌, List, [], ◌∷◌, length, map, refl, sym, ap, ◌∙◌, subst, arith}
 use Rattle.orc_bits.specs.declared.parts.Part.{Part}
 use Rattle.orc_bits.specs.Memory.{IsMapped}
 use Rattle.orc_bits.specs.Parts.{memory_of}

@@ -1,5 +1,5 @@
 -- Parts as they are placed, one after the other.
-use Rattle.std.proofs.Common.{◌≡◌, ℕ, zero, suc, ◌+◌, ◌*◌, ◌%◌, ◌^◌, ◌<◌, ◌≤◌, List, [], ◌∷◌, ◌++◌, length, map, refl, sym, ap, ap₂, ◌∙◌, subst, arith, length-append}
+use Rattle.std.proofs.Common.{◌≡◌, ℕ, suc, ◌+◌, ◌%◌, ◌^◌, ◌<◌, ◌≤◌, List, [], ◌∷◌, ◌++◌, length, map, refl, sym, ap, ap₂, ◌∙◌, subst, arith, length-append}
 use Rattle.std.specs.Int.{w64}
 use Rattle.std.specs.Int.RustNames.{FitsSigned}
 use Rattle.std.proofs.lemmas.List.{append_assoc, map-append}
@@ -15,7 +15,7 @@ use Rattle.orc_job.specs.declared.job.Job.{Job}
 use Rattle.orc_jobs.specs.declared.world.Runner.{Runner}
 use Rattle.orc_jobs.specs.declared.world.World.{World}
 use Rattle.orc_jobs.specs.World.{Stand, stand_of, seen}
-use Rattle.orc_worlds.specs.Worlds.{moved_place, moved_places, AreSigned, part_call, call_of_part, own_parts, first_own, part_stand, first_stands, placed_world}
+use Rattle.orc_worlds.specs.Worlds.{moved_place, moved_places, AreSigned, call_of_part, own_parts, first_own, part_stand, first_stands, placed_world}
 use Rattle.orc_worlds.proofs.Started.{stands_more}
 
 nil_after : {A : Type 0} (l : List A) → l ++ [] ≡ l

@@ -1,6 +1,6 @@
 -- Separate parts of a job do the whole call.
-use Rattle.std.proofs.Common.{◌≡◌, ◌≢◌, ℕ, zero, suc, ◌+◌, ◌-◌, ◌*◌, ◌%◌, ◌^◌, ◌<◌, ◌≤◌, nat_lt, Bool, true, false, if◌then◌else◌, List, [], ◌∷◌, length, map, drop, get_or, Option, Some, None, Ok, slice_index, slice_index_or, refl, sym, ap, ap₂, ◌∙◌, subst, arith, ◌⊎◌, inl, inr, ⊎_elim, pos}
-use Rattle.std.specs.Int.{w64, cast_signed, cast_unsigned}
+use Rattle.std.proofs.Common.{◌≡◌, ℕ, zero, suc, ◌+◌, ◌-◌, ◌*◌, ◌%◌, ◌^◌, ◌<◌, ◌≤◌, nat_lt, Bool, true, false, if◌then◌else◌, List, [], ◌∷◌, length, map, drop, get_or, slice_index, slice_index_or, refl, sym, ap, ap₂, ◌∙◌, subst, arith, ◌⊎◌, inl, inr, ⊎_elim}
+use Rattle.std.specs.Int.{w64, cast_unsigned}
 use Rattle.std.specs.Int.RustNames.{FitsSigned}
 use Rattle.std.specs.List.{range_with_len, list_all, AllByRecursion}
 use Rattle.std.proofs.lemmas.Bool.{cases_lt, lt-ltb, le-ltb, true≢false}
@@ -9,50 +9,45 @@ use Rattle.std.proofs.lemmas.Int.{to_z-of_z}
 use Rattle.std.proofs.lemmas.List.{get_or-map, get_or_past, length-map}
 use Rattle.std.proofs.lemmas.List.FromFn.{get_or-map-range_with_len, length-map-range_with_len}
 use Rattle.orc_bits.specs.declared.parts.Part.{Part}
-use Rattle.orc_bits.specs.Memory.{Memory, IsMapped, word}
+use Rattle.orc_bits.specs.Memory.{Memory, word}
 use Rattle.orc_bits.specs.Parts.{Span, span, layout}
 use Rattle.orc_program.specs.declared.program.Var.{Var}
 use Rattle.orc_program.specs.declared.program.VarKind.{VarKind}
 use Rattle.orc_program.specs.declared.program.VarKind.TheVariants as kind
-use Rattle.orc_program.specs.declared.call.Call.{Call}
 use Rattle.orc_program.specs.declared.call.Place.{Place}
 use Rattle.orc_program.specs.declared.rect.Rect.{Rect}
 use Rattle.orc_program.specs.Program.{FunctionValue, var_at, is_of, same_kind, is_array, is_array_kind, no_var, count_of, count_before, array_number, places_of}
-use Rattle.orc_program.specs.Kept.{is_function}
-use Rattle.orc_program.specs.Meaning.{emulate, no_place, place_at, param_at, cell, rows, rows_of, start, sums_of}
+use Rattle.orc_program.specs.Meaning.{no_place, place_at, param_at, rows, rows_of, start, sums_of}
 use Rattle.orc_program.specs.Meaning.{ended as ended_call}
 use Rattle.orc_program.specs.Good.{IsArray}
 use Rattle.orc_program.specs.Slots.{slot_of, slots, place_with}
 use Rattle.orc_program.specs.Cut.{Has, Fits, Cuts, IsPart, rect_at, no_rect, total, sum_size}
 use Rattle.orc_program.proofs.Apart.{IsSize}
+use Rattle.orc_program.proofs.Places.{length-places_of, before_less}
 use Rattle.orc_program.proofs.Sizes.{size_kept}
 use Rattle.orc_program.proofs.Steps.{go_on_ok, ok_same}
-use Rattle.orc_frame.proofs.Places.{length-places_of}
 use Rattle.orc_frame.specs.Parts.{InBlock, InReturn, InFrame, sum_word}
 use Rattle.orc_frame.specs.Subject.{Call as Arguments}
 use Rattle.orc_frame.specs.GoodCall.{GoodCall, lowered}
 use Rattle.orc_frame.specs.Function.{subject_of}
 use Rattle.orc_asm.specs.Function.{RunsQuietly}
 use Rattle.orc_asm.specs.RunsAs.{stop}
-use Rattle.orc_asm.proofs.Slots.{Limits, limits, slot_is}
-use Rattle.orc_asm.proofs.Places.{before_less}
+use Rattle.orc_region.proofs.Checked.Slots.{Limits, limits, slot_is}
 use Rattle.orc_image.specs.Spelling as image
 use Rattle.orc_job.specs.declared.job.Job.{Job}
 use Rattle.orc_job.specs.Forms.{is_within}
 use Rattle.orc_job.specs.Kept.{IsJob}
-use Rattle.orc_jobs.specs.declared.drawing.Stopped.{Stopped}
 use Rattle.orc_jobs.specs.World.{Stand, Shared, stand_at, no_stand, on}
-use Rattle.orc_jobs.specs.Drawn.{PlaysDrawn}
 use Rattle.orc_jobs.proofs.Draws.{plays_drawn}
-use Rattle.orc_parts.specs.Even.{even_part, even_rect}
-use Rattle.orc_parts.specs.Split.{call_with, core_at, IsOwn, Begins, Split, IsOutside, AreSums}
+use Rattle.orc_parts.specs.Even.{even_part}
+use Rattle.orc_parts.specs.Split.{call_with, IsOwn, Begins, Split, IsOutside}
 use Rattle.orc_parts.specs.DrawnParts.{part_steps, EndsAsOne}
 use Rattle.orc_parts.proofs.EvenCuts.{even_cuts}
 use Rattle.orc_parts.proofs.Together.{drawn_as_one}
 use Rattle.orc_worlds.specs.declared.playing.Played.{Played}
-use Rattle.orc_worlds.specs.Now.{IsPartOf, AreNow}
+use Rattle.orc_worlds.specs.Now.{IsPartOf}
 use Rattle.orc_worlds.specs.Placement.{return_to}
-use Rattle.orc_worlds.specs.Worlds.{block_of, moved_place, moved_places, AreSigned, call_of_part, part_stand, first_stands, placed_world}
+use Rattle.orc_worlds.specs.Worlds.{moved_place, moved_places, AreSigned, call_of_part, part_stand, placed_world}
 use Rattle.orc_worlds.specs.Played.{or_zero, part_sum, PlayedOut}
 use Rattle.orc_worlds.specs.Whole.{IsCompiled, place_of_slot, words_of_part, AreSeparate, steps_of_part, IsWhole, DoesWhole}
 use Rattle.orc_worlds.proofs.Started.{stands_count, placed_stand}

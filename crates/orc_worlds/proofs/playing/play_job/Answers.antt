@@ -1,4 +1,4 @@
-use Rattle.std.proofs.Common.{◌≤◌, ◌∙◌, length, map, ap, sym, subst, arith}
+use Rattle.std.proofs.Common.{◌≤◌, length, ap, sym, subst, arith}
 use Rattle.std.proofs.lemmas.List.{length-map}
 use Rattle.orc_bits.specs.Parts.{memory_of}
 use Rattle.orc_image.specs.Spelling.{FunctionValue}
