@@ -14,3 +14,6 @@ pub mod Padding
 pub mod Leaving
 pub mod Behind
 pub mod Widest
+pub mod Numerals
+pub mod Asked
+pub mod Summed

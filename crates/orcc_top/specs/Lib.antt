@@ -14,5 +14,6 @@ pub mod Placement
 pub mod Refusals
 pub mod Replies
 pub mod Runs
+pub mod Summary
 pub mod Texts
 pub mod Translation

@@ -115,7 +115,7 @@ fn end_line(end: End, budget: u64) -> EndLine
 }
 
 /// What a job's run on a function's code ends with.
-fn executed(alloc: Global, f: &ImageFunction, job: &Job) -> Result<Outcome, AllocError>
+pub fn executed(alloc: Global, f: &ImageFunction, job: &Job) -> Result<Outcome, AllocError>
     requires kept { IsJob job.now }
     requires counts { f.now.dests ≤ length job.now.call.arrays.items }
     ensures { IfOk result (Ran f.now job.now) }
@@ -155,7 +155,7 @@ fn entry_of<'a>(functions: &'a [ImageFunction], name: &[u8]) -> Option<&'a Image
 }
 
 /// The function of an image that the job calls. It has as many arrays and parameters as the job.
-fn entry_called<'a>(
+pub fn entry_called<'a>(
     functions: &'a [ImageFunction],
     job: &Job,
 ) -> Result<&'a ImageFunction, JobError>

@@ -457,3 +457,44 @@ fn rows_are_done_from_every_base(rt: HostRuntime) -> Result<(), AllocError> {
     }
     Ok(())
 }
+
+/// Whether a line begins so and goes on with a number that is at most a bound.
+fn is_line(line: &str, begin: &str, bound: u64) -> bool {
+    match line.strip_prefix(begin) {
+        Some(steps) => match steps.parse::<u64>() {
+            Ok(steps) => steps <= bound,
+            Err(_) => false,
+        },
+        None => false,
+    }
+}
+
+#[test]
+fn a_number_is_summed_up(rt: HostRuntime) -> Result<(), AllocError> {
+    let alloc = rt.alloc();
+    // The sums are those of a program in another language that emulates the generator's functions; the bounds are their steps.
+    let lines: [(&str, u64); 8] = [
+        ("g0 sum 0 steps ", 332_328),
+        ("g1 sum 4294967016 steps ", 326_564),
+        ("g2 sum 4294967177 steps ", 346_214),
+        ("g3 sum 0 steps ", 311_106),
+        ("g4 sum 0 steps ", 310_582),
+        ("g5 sum 0 steps ", 368_484),
+        ("g6 sum 4294966876 steps ", 298_268),
+        ("g7 sum 0 steps ", 314_774),
+    ];
+    let ran = run(alloc, &["gen", "7"], b"")?;
+    assert_eq!(rt; ran.status, Status::Done);
+    let again = run(alloc, &["gen", "7"], b"")?;
+    assert!(rt; again.output.as_slice() == ran.output.as_slice());
+    let Ok(text) = str::from_utf8(ran.output.as_slice()) else {
+        panic!(rt; "no text");
+    };
+    assert_eq!(rt; text.lines().count(), lines.len());
+    for (line, (begin, bound)) in text.lines().zip(lines) {
+        assert!(rt; is_line(line, begin, bound), "{line}");
+    }
+    let wrong = run(alloc, &["gen", "07"], b"")?;
+    assert_eq!(rt; wrong.status, Status::Usage);
+    Ok(())
+}
