@@ -16,3 +16,5 @@ pub mod Widest
 pub mod Numbered
 pub mod Sizing
 pub mod Numerals
+pub mod Asked
+pub mod Summed

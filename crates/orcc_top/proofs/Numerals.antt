@@ -21,11 +21,11 @@ pub no_decimal : (bs : List ℕ) (n : ℕ) → (get_or bs 0 0 ≡ 43) ⊎ ((get_
 no_decimal bs n bad lt = λ e. elim (first_byte n lt) [
   | inl more ↦
       let first : get_or bs 0 0 ≡ get_or (decimal n) 0 0 = ap (λ l. get_or l 0 0) e in
-      elim bad [ | inl plus ↦ absurd (omega (arith, more, first, plus)) | inr zeros ↦ absurd (omega (arith, more, first, zeros.0)) ]
+      elim bad [ inl plus ↦ absurd (omega (arith, more, first, plus)) | inr zeros ↦ absurd (omega (arith, more, first, zeros.0)) ]
   | inr one ↦
       let first : get_or bs 0 0 ≡ 48 = ap (λ l. get_or l 0 0) (e ∙ one) in
       let only : length bs ≡ 1 = ap length (e ∙ one) in
-      elim bad [ | inl plus ↦ absurd (omega (arith, first, plus)) | inr zeros ↦ absurd (omega (arith, only, zeros.1)) ]
+      elim bad [ inl plus ↦ absurd (omega (arith, first, plus)) | inr zeros ↦ absurd (omega (arith, only, zeros.1)) ]
 ]
 
 pub no_number : {E : Type 0} (bs : List ℕ) (n : ℕ) (r : Result ℕ E) (x : E) → ParsesUnsigned 64 10 bs r → r ≡ Err x → n < 2 ^ 64 → bs ≢ decimal n

@@ -1,5 +1,5 @@
 -- The words after the program's name, and what they ask for.
-use Rattle.std.specs.Prelude.{◌≡◌, ◌≢◌, ℕ, List, [], ◌∷◌, ◌++◌, map, codes, decimal, String, string_bytes}
+use Rattle.std.specs.Prelude.{◌≡◌, ◌≢◌, ℕ, ◌<◌, ◌^◌, List, [], ◌∷◌, ◌++◌, map, codes, decimal, String, string_bytes}
 use Rattle.std.specs.declared.alloc.Global.{Global}
 use Rattle.orcc_top.specs.declared.command.Command.{Command}
 use Rattle.orcc_top.specs.declared.command.Command.TheVariants.{Asm, C, Check, Fmt, Run, Dis, Emulate, Obj, Jobs}
@@ -16,7 +16,7 @@ spelled words = map (λ word. string_bytes word) words
 abbrev pub AreSaid : Workers → Word → Word → Type 0
 AreSaid w count seed = (count ≡ decimal w.count) × (seed ≡ decimal w.seed)
 
--- the words that ask for a command
+-- the words that ask for a command that reads an input
 abbrev pub words_of : Command → List Word
 words_of Asm = codes "asm" ∷ []
 words_of C = codes "c" ∷ []
@@ -28,9 +28,14 @@ words_of Emulate = codes "emulate" ∷ []
 words_of Obj = codes "obj" ∷ []
 words_of (Jobs w) = codes "jobs" ∷ decimal w.count ∷ decimal w.seed ∷ []
 
--- the words ask for no command
-abbrev pub IsWrongUsage : List Word → Type 0
-IsWrongUsage words = (command : Command) → words ≢ words_of command
+-- the words that ask for the summary of a number, whose decimal has no leading zero
+abbrev pub gen_words : ℕ → List Word
+gen_words seed = codes "gen" ∷ decimal seed ∷ []
+
+-- the words are none of these forms
+pub record IsWrongUsage (words : List Word) : Type 0 where
+  pub no_command : (command : Command) → words ≢ words_of command
+  pub no_summary : (seed : ℕ) → seed < 2 ^ 64 → words ≢ gen_words seed
 
 -- the line that names the listed forms
 abbrev pub usage_line : List ℕ

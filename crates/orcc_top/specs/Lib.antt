@@ -14,5 +14,6 @@ pub mod Refusals
 pub mod Replies
 pub mod Runs
 pub mod Sharing
+pub mod Summary
 pub mod Texts
 pub mod Translation

@@ -1,18 +1,23 @@
 -- What a run does with its input, its output and its notes.
-use Rattle.std.specs.Prelude.{◌≡◌, ℕ, ◌+◌, ◌≤◌, ◌⊎◌, List, Option, Some, None, length}
+use Rattle.std.specs.Prelude.{◌≡◌, ℕ, ◌+◌, ◌≤◌, ◌<◌, ◌^◌, ◌⊎◌, List, Option, Some, None, length}
 use Rattle.std.specs.Io.KnownBytes.{Consumes, IsAtEnd}
 use Rattle.orc_io.specs.Causes.{Rose}
 use Rattle.orc_io.specs.Streams.{TakesAtMost, AppendsSome}
 use Rattle.orcc_top.specs.declared.command.Command.{Command}
 use Rattle.orcc_top.specs.declared.refusal.Refusal.{Refusal}
-use Rattle.orcc_top.specs.Commands.{Word, words_of, usage_line, IsWrongUsage}
+use Rattle.orcc_top.specs.Commands.{Word, words_of, gen_words, usage_line, IsWrongUsage}
 use Rattle.orcc_top.specs.Answer.{limit_of, refusal_of, Answer, Refuses}
+use Rattle.orcc_top.specs.Summary.{GivesSummary}
 
 -- ---- what the words ask for
 
--- a command
+-- the summary of a number, for which nothing is read
+abbrev pub AsksSummary : List Word → Type 0
+AsksSummary words = (seed : ℕ) × (seed < 2 ^ 64) × (words ≡ gen_words seed)
+
+-- a command, or a summary
 abbrev pub IsAsked : List Word → Type 0
-IsAsked words = (command : Command) × (words ≡ words_of command)
+IsAsked words = ((command : Command) × (words ≡ words_of command)) ⊎ AsksSummary words
 
 -- a command that accepts this input
 abbrev pub IsAccepted : List Word → List ℕ → Type 0
@@ -37,11 +42,15 @@ pub record StopsWithin (words : List Word) (old new : Option (List ℕ)) : Type 
 -- ---- what is written
 
 -- the input was read to its end, and the bytes of output answer it
-pub record GivesOutput (words : List Word) (old new : Option (List ℕ)) (bytes : List ℕ) : Type 0 where
+pub record GivesAnswer (words : List Word) (old new : Option (List ℕ)) (bytes : List ℕ) : Type 0 where
   pub input : List ℕ
   pub read : Consumes old new input
   pub at_end : IsAtEnd new
   pub answer : Answer words input bytes
+
+-- the bytes of output: an answer to the input, or a summary
+abbrev pub GivesOutput : List Word → Option (List ℕ) → Option (List ℕ) → List ℕ → Type 0
+GivesOutput words old new bytes = GivesAnswer words old new bytes ⊎ GivesSummary words old new bytes
 
 -- the line refuses what was taken of the input
 pub record GivesRefusal (words : List Word) (old new : Option (List ℕ)) (line : List ℕ) : Type 0 where

@@ -57,7 +57,7 @@ fn entry_of(alloc: Global, f: &Function) -> Result<ImageFunction, AsmError>
 }
 
 /// The image of a program's functions.
-fn image_of(alloc: Global, functions: &[Function]) -> Result<Image, AsmError>
+pub fn image_of(alloc: Global, functions: &[Function]) -> Result<Image, AsmError>
     requires few { length functions.now ≤ 64 }
     requires distinct { all_distinct (map (λ f. f.name) functions.now) ≡ true }
     ensures entries { IfOk result (λ image. EntriesOf functions.now image.functions) }

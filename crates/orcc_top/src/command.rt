@@ -1,6 +1,7 @@
 //! The words after the program's name.
-ghost use Rattle.std.specs.Prelude.{◌≡◌, ◌≤◌, ◌↔◌, IsTrue, IfSome, IfNone, codes};
-ghost use Rattle.orcc_top.specs.Commands.{AreSaid, spelled, words_of, IsWrongUsage};
+ghost use Rattle.std.specs.Prelude.{◌≡◌, ◌≢◌, ◌≤◌, ◌<◌, ◌^◌, ◌↔◌, ℕ, IsTrue, IfSome, IfNone, codes};
+ghost use Rattle.orcc_top.specs.declared.command.Command as declared;
+ghost use Rattle.orcc_top.specs.Commands.{AreSaid, spelled, words_of, gen_words};
 
 use crate::number::number_of;
 use crate::workers::Workers;
@@ -100,10 +101,27 @@ fn workers_of(count: &str, seed: &str) -> Option<Workers>
     Some(Workers { count, seed })
 }
 
-/// The command that the words ask for, if they are one of the listed forms.
+fn is_gen(word: &str) -> bool
+    ensures { IsTrue result ↔ (word.now ≡ codes "gen") }
+{
+    word == "gen"
+}
+
+/// The number whose summary the words ask for, if they ask for one.
+pub fn seed_of(words: &[String]) -> Option<u64>
+    ensures asked { IfSome result (λ seed. spelled words.now ≡ gen_words seed) }
+    ensures wrong { IfNone result ((seed : ℕ) → seed < 2 ^ 64 → spelled words.now ≢ gen_words seed) }
+{
+    match words {
+        [name, number] if is_gen(name.as_str()) => number_of(number.as_str()),
+        _ => None,
+    }
+}
+
+/// The command that reads an input and that the words ask for, if they ask for one.
 pub fn command_of(words: &[String]) -> Option<Command>
     ensures asked { IfSome result (λ command. spelled words.now ≡ words_of command) }
-    ensures wrong { IfNone result (IsWrongUsage (spelled words.now)) }
+    ensures wrong { IfNone result ((command : declared.Command) → spelled words.now ≢ words_of command) }
 {
     match words {
         [word] if is_asm(word.as_str()) => Some(Command::Asm),

@@ -54,7 +54,7 @@ fn end_line(end: End, budget: u64) -> EndLine
 }
 
 /// What a job's run on a function's code ends with.
-fn executed(alloc: Global, f: &ImageFunction, job: &Job) -> Result<Outcome, AllocError>
+pub fn executed(alloc: Global, f: &ImageFunction, job: &Job) -> Result<Outcome, AllocError>
     requires kept { IsJob job.now }
     requires counts { f.now.dests ≤ length job.now.call.arrays.items }
     ensures { IfOk result (Ran f.now job.now) }

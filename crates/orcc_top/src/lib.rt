@@ -19,6 +19,7 @@ mod reply;
 mod separating;
 mod sharing;
 mod status;
+mod summary;
 mod top;
 mod translating;
 mod workers;

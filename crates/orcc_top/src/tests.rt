@@ -488,13 +488,11 @@ const BYTE: &[u8] =
 const JUMPS: &[u8] =
     b"ORCI\x01\x01\x01f\x00\x00\x00\x00\x00\x05\x00\x00\x00\xe9\xfb\xff\xff\xff{\"function\":\"f\",\"n\":0,\"m\":0,\"arrays\":[],\"params\":[],\"memory\":[],\"budget\":2}";
 
-/// A function that adds bytes.
-const ADD8: &[u8] =
-    b".function add8\n.dest 1 d1\n.source 1 s1\n.source 1 s2\naddb d1, s1, s2\n";
-
-/// A job of it, with what each array says of its elements.
+/// A job of the text that adds rows of bytes, with what each array says of its elements.
 fn add8_job(alloc: Global, size: &str) -> Result<String, AllocError> {
-    format!(in alloc; "{{\"function\":\"add8\",\"n\":3,\"m\":1,\"arrays\":[{{\"base\":4096,\"stride\":0{size}}},{{\"base\":8192,\"stride\":0{size}}},{{\"base\":12288,\"stride\":0{size}}}],\"params\":[],\"memory\":[{{\"at\":4096,\"bytes\":\"000000\"}},{{\"at\":8192,\"bytes\":\"01ff80\"}},{{\"at\":12288,\"bytes\":\"010180\"}}],\"budget\":1000}}")
+    format!(in alloc;
+        "{{\"function\":\"add8\",\"n\":3,\"m\":1,\"arrays\":[{{\"base\":4096,\"stride\":0{size}}},{{\"base\":8192,\"stride\":0{size}}},{{\"base\":12288,\"stride\":0{size}}}],\"params\":[],\"memory\":[{{\"at\":4096,\"bytes\":\"000000\"}},{{\"at\":8192,\"bytes\":\"01ff80\"}},{{\"at\":12288,\"bytes\":\"010180\"}}],\"budget\":1000}}"
+    )
 }
 
 /// Whether a line of the output is the prefix and a number of at most so much.
@@ -513,7 +511,7 @@ fn has_at_most(output: &[u8], prefix: &str, most: u64) -> bool {
 #[test]
 fn parts_are_played(rt: HostRuntime) -> Result<(), AllocError> {
     let alloc = rt.alloc();
-    let image = run(alloc, &["asm"], ADD8)?.output;
+    let image = run(alloc, &["asm"], ADD8.as_bytes())?.output;
     let mut unsized_job = Vec::from_slice(alloc, image.as_slice())?;
     unsized_job.extend_from_slice(add8_job(alloc, "")?.as_bytes())?;
     let rows: [(&[&str], &[u8], Status, &[u8]); 5] = [
@@ -565,5 +563,46 @@ fn parts_are_played(rt: HostRuntime) -> Result<(), AllocError> {
     assert!(rt; has_at_most(output, "part 0 ", 130));
     assert!(rt; has_at_most(output, "part 1 ", 148));
     assert!(rt; output.ends_with(b"\nmem 4096 020000\nmem 8192 01ff80\nmem 12288 010180\n"));
+    Ok(())
+}
+
+/// Whether a line begins so and goes on with a number that is at most a bound.
+fn is_line(line: &str, begin: &str, bound: u64) -> bool {
+    match line.strip_prefix(begin) {
+        Some(steps) => match steps.parse::<u64>() {
+            Ok(steps) => steps <= bound,
+            Err(_) => false,
+        },
+        None => false,
+    }
+}
+
+#[test]
+fn a_number_is_summed_up(rt: HostRuntime) -> Result<(), AllocError> {
+    let alloc = rt.alloc();
+    // The sums are those of a program in another language that emulates the generator's functions; the bounds are their steps.
+    let lines: [(&str, u64); 8] = [
+        ("g0 sum 0 steps ", 332_328),
+        ("g1 sum 4294967016 steps ", 326_564),
+        ("g2 sum 4294967177 steps ", 346_214),
+        ("g3 sum 0 steps ", 311_106),
+        ("g4 sum 0 steps ", 310_582),
+        ("g5 sum 0 steps ", 368_484),
+        ("g6 sum 4294966876 steps ", 298_268),
+        ("g7 sum 0 steps ", 314_774),
+    ];
+    let ran = run(alloc, &["gen", "7"], b"")?;
+    assert_eq!(rt; ran.status, Status::Done);
+    let again = run(alloc, &["gen", "7"], b"")?;
+    assert!(rt; again.output.as_slice() == ran.output.as_slice());
+    let Ok(text) = str::from_utf8(ran.output.as_slice()) else {
+        panic!(rt; "no text");
+    };
+    assert_eq!(rt; text.lines().count(), lines.len());
+    for (line, (begin, bound)) in text.lines().zip(lines) {
+        assert!(rt; is_line(line, begin, bound), "{line}");
+    }
+    let wrong = run(alloc, &["gen", "07"], b"")?;
+    assert_eq!(rt; wrong.status, Status::Usage);
     Ok(())
 }

@@ -3,17 +3,19 @@ ghost use Rattle.std.specs.Prelude.{◌≡◌, ◌≢◌, ◌⊎◌, List, ℕ, 
 ghost use Rattle.std.specs.Io.KnownBytes.{Appends};
 ghost use Rattle.orc_io.specs.Causes.{Rose};
 ghost use Rattle.orcc_top.specs.Commands.{spelled, usage_line, IsWrongUsage};
-ghost use Rattle.orcc_top.specs.Runs.{IsAsked, IsAccepted, IsRefused, StopsWithin, GivesOutput, GivesRefusal, CutsOutput, CutsLine};
+ghost use Rattle.orcc_top.specs.Runs.{IsAsked, IsAccepted, IsRefused, AsksSummary, StopsWithin, GivesOutput, GivesRefusal, CutsOutput, CutsLine};
 
 use crate::answer::{Stop, reply_to};
-use crate::command::command_of;
+use crate::command::{command_of, seed_of};
 use crate::reply::Reply;
 use crate::status::Status;
+use crate::summary::summary_of;
 use crate::writing::write;
 use orc_io::{Sink, Source};
-use std::alloc::Global;
+use std::alloc::{AllocError, Global};
 
-const USAGE: &str = "usage: orcc asm | c | check | fmt | run | emulate | dis | gen S | obj | jobs W S\n";
+const USAGE: &str =
+    "usage: orcc asm | c | check | fmt | run | emulate | dis | gen S | obj | jobs W S\n";
 
 /// Does what the words after the program's name ask for, and says how it ended.
 ///
@@ -35,8 +37,11 @@ const USAGE: &str = "usage: orcc asm | c | check | fmt | run | emulate | dis | g
 /// own; it takes turns of the parts, one instruction each, as the seed S draws them, and writes the
 /// result, which may say trap or budget. `emulate` reads at most 67,108,864 bytes, which are a text, a line
 /// that is exactly `%%`, and a job, and writes the result of the job's emulation, which may say
-/// unmapped. Without such a line all is the text, and the job is empty. All output is built before
-/// the first byte is put.
+/// unmapped. Without such a line all is the text, and the job is empty. `gen S` reads nothing: it
+/// makes a text of eight functions and a job for each from the number S, runs each function's code
+/// on its job where `run` places both, and writes for each a line `gF sum X steps K` with the sum of
+/// the dest's elements modulo 2^32 and the steps of the run. All output is built before the first
+/// byte is put.
 ///
 /// # Errors
 ///
@@ -50,6 +55,7 @@ const USAGE: &str = "usage: orcc asm | c | check | fmt | run | emulate | dis | g
 /// parameters that are not the function's. A text's fault stands before those of the job behind it.
 /// Usage comes exactly where the words are no listed form; nothing is read then. Where such a line
 /// cannot be written in whole the end is WriteFault.
+#[tactic(auto, using(crate::proofs::Asked::not_both))]
 pub fn orcc<S: Source, K: Sink, N: Sink>(
     alloc: Global,
     words: &[String],
@@ -57,7 +63,8 @@ pub fn orcc<S: Source, K: Sink, N: Sink>(
     output: &mut K,
     notes: &mut N,
 ) -> Status
-    // Done: the output has grown by the answer to the input, which was read to its end.
+    // Done: the output has grown by the answer to the input, which was read to its end, or, for
+    // `gen`, by the summary.
     ensures done { result ≡ Status.Done → ((bytes : List ℕ)
         × GivesOutput (spelled words.now) (S.left input.old) (S.left input.new) bytes
         × Appends (K.held output.old) (K.held output.new) bytes) }
@@ -116,7 +123,17 @@ pub fn orcc<S: Source, K: Sink, N: Sink>(
         IsAccepted (spelled words.now) text → result ≢ Status.Refused) }
     ensures rejected { IfSome (S.left input.old) (λ text.
         IsRefused (spelled words.now) text → result ≢ Status.Done) }
+
+    // A summary reads nothing, and is never refused.
+    ensures summary_input { AsksSummary (spelled words.now) → input.new ≡ input.old }
+    ensures summary_accepted { AsksSummary (spelled words.now) → result ≢ Status.Refused }
 {
+    if let Some(seed) = seed_of(words) {
+        return match summary_of(alloc, seed) {
+            Ok(bytes) => write(output, bytes.as_slice(), Status::Done),
+            Err(AllocError) => Status::Memory,
+        };
+    }
     let Some(command) = command_of(words) else {
         return write(notes, USAGE.as_bytes(), Status::Usage);
     };
