@@ -593,8 +593,6 @@ fn a_number_is_summed_up(rt: HostRuntime) -> Result<(), AllocError> {
     ];
     let ran = run(alloc, &["gen", "7"], b"")?;
     assert_eq!(rt; ran.status, Status::Done);
-    let again = run(alloc, &["gen", "7"], b"")?;
-    assert!(rt; again.output.as_slice() == ran.output.as_slice());
     let Ok(text) = str::from_utf8(ran.output.as_slice()) else {
         panic!(rt; "no text");
     };
