@@ -4,16 +4,17 @@
 usage: scripts/benchmark.py [PROGRAM]
 
 PROGRAM is the built orcc, by default crates/orcc/out/orcc of this checkout. Each line tells what was
-timed, the least time of three runs in seconds, and the rate that follows. A rate is told without what
-the same call takes on no elements, so reading the job and printing its memory don't count. Nothing is
-asked of the figures: docs/PERFORMANCE.md has those of one machine.
+done, the processor time that it took in seconds, the least of some runs, and the rate that follows. A
+rate leaves out what the same call takes on no elements, so reading the job and printing its memory
+don't count. Nothing is asked of the figures: docs/PERFORMANCE.md has those of one machine.
 """
 
 import json
+import os
 import pathlib
 import subprocess
 import sys
-import time
+import tempfile
 
 HERE = pathlib.Path(__file__).resolve().parent.parent
 PROGRAM = sys.argv[1] if len(sys.argv) > 1 else str(HERE / "crates/orcc/out/orcc")
@@ -62,16 +63,20 @@ KERNELS = {
 
 
 def call(words, data, runs=3):
-    """The least time of some runs, and what the program wrote."""
+    """The least processor time of some runs, in seconds, and what the program wrote."""
     best, out = None, b""
-    for _ in range(runs):
-        begin = time.perf_counter()
-        done = subprocess.run([PROGRAM, *words], input=data, stdout=subprocess.PIPE, stderr=subprocess.PIPE)
-        spent = time.perf_counter() - begin
-        if done.returncode != 0:
-            sys.exit(f"{words}: status {done.returncode}, {done.stderr[:200]!r}")
-        best = spent if best is None else min(best, spent)
-        out = done.stdout
+    with tempfile.TemporaryDirectory() as folder:
+        source, sink = pathlib.Path(folder, "input"), pathlib.Path(folder, "output")
+        source.write_bytes(data)
+        for _ in range(runs):
+            with source.open("rb") as given, sink.open("wb") as taken:
+                child = subprocess.Popen([PROGRAM, *words], stdin=given, stdout=taken)
+                _, status, usage = os.wait4(child.pid, 0)
+            if status != 0:
+                sys.exit(f"{words}: status {status}")
+            spent = usage.ru_utime + usage.ru_stime
+            best = spent if best is None else min(best, spent)
+            out = sink.read_bytes()
     return best, out
 
 
@@ -111,10 +116,10 @@ def segments():
     text = KERNELS["quads"][1].encode()
     _, image = call(["asm"], text, 1)
     for what, content in [("empty", ""), ("of a byte", "5a")]:
-        for order in (1, -1):
-            memory = [{"at": 0x20000000 + 2 * i, "bytes": content} for i in range(SEGMENTS)][::order]
+        rising = [{"at": 0x20000000 + 2 * i, "bytes": content} for i in range(SEGMENTS)]
+        mixed = [rising[i * 700_001 % SEGMENTS] for i in range(SEGMENTS)]
+        for way, memory in [("rising", rising), ("falling", rising[::-1]), ("mixed", mixed)]:
             data = job("quads", [8, 8], 0, memory)
-            way = "up" if order > 0 else "down"
             for words, before in [(["run"], image), (["emulate"], text + b"%%\n")]:
                 spent, _ = call(words, before + data, 1)
                 print(f"{words[0]:8} {SEGMENTS:,} segments {what}, {way}: {spent:.2f} s")
