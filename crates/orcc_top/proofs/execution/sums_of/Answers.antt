@@ -1,4 +1,4 @@
-use Rattle.std.proofs.Common.{◌≡◌, ◌+◌, ◌*◌, subst, arith}
+use Rattle.std.proofs.Common.{◌≡◌, ◌+◌, subst, arith}
 use Rattle.orc_bits.specs.Memory.{IsMapped}
 use Rattle.orc_bits.specs.Parts.{memory_of}
 use Rattle.orc_frame.specs.Parts.{sum_word}

@@ -1,4 +1,4 @@
-use Rattle.std.proofs.Common.{List, ◌∙◌, length, ap, sym}
+use Rattle.std.proofs.Common.{◌∙◌, length, ap, sym}
 use Rattle.orcc_top.proofs.Sizing.{as_many}
 use Rattle.orcc_top.proofs.sharing.outcome_on.Goals as goal
 
