@@ -488,11 +488,7 @@ const BYTE: &[u8] =
 const JUMPS: &[u8] =
     b"ORCI\x01\x01\x01f\x00\x00\x00\x00\x00\x05\x00\x00\x00\xe9\xfb\xff\xff\xff{\"function\":\"f\",\"n\":0,\"m\":0,\"arrays\":[],\"params\":[],\"memory\":[],\"budget\":2}";
 
-/// A function that adds bytes.
-const ADD8: &[u8] =
-    b".function add8\n.dest 1 d1\n.source 1 s1\n.source 1 s2\naddb d1, s1, s2\n";
-
-/// A job of it, with what each array says of its elements.
+/// A job of the text that adds rows of bytes, with what each array says of its elements.
 fn add8_job(alloc: Global, size: &str) -> Result<String, AllocError> {
     format!(in alloc; "{{\"function\":\"add8\",\"n\":3,\"m\":1,\"arrays\":[{{\"base\":4096,\"stride\":0{size}}},{{\"base\":8192,\"stride\":0{size}}},{{\"base\":12288,\"stride\":0{size}}}],\"params\":[],\"memory\":[{{\"at\":4096,\"bytes\":\"000000\"}},{{\"at\":8192,\"bytes\":\"01ff80\"}},{{\"at\":12288,\"bytes\":\"010180\"}}],\"budget\":1000}}")
 }
@@ -513,7 +509,7 @@ fn has_at_most(output: &[u8], prefix: &str, most: u64) -> bool {
 #[test]
 fn parts_are_played(rt: HostRuntime) -> Result<(), AllocError> {
     let alloc = rt.alloc();
-    let image = run(alloc, &["asm"], ADD8)?.output;
+    let image = run(alloc, &["asm"], ADD8.as_bytes())?.output;
     let mut unsized_job = Vec::from_slice(alloc, image.as_slice())?;
     unsized_job.extend_from_slice(add8_job(alloc, "")?.as_bytes())?;
     let rows: [(&[&str], &[u8], Status, &[u8]); 5] = [
