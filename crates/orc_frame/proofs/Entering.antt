@@ -84,13 +84,14 @@ module _ (l : Layout) (is : IsLayout l) (param : ℕ → ℕ) (s : Core) (en : E
       let low = en.low in
       record {
         stack = inr (omega (arith, e, room));
+        not_yet = λ same x. (let no : ⊥ = omega (arith, e, room, same) in absurd no);
         block = h.block;
         outside = h.outside;
         touches = λ x t. touched u base (s.gpr 7) h.stack h.block (omega (arith, room, low)) en.block_low i r x t;
       }
 
   first : AfterEntry s s (AluImm Sub 4 (pos frame_size))
-  first = record { stack = inl refl; block = refl; outside = λ x out. refl; touches = λ x t. nothing x t }
+  first = record { stack = inl refl; not_yet = λ e x. (refl, λ t. nothing x t); block = refl; outside = λ x out. refl; touches = λ x t. nothing x t }
 
   -- the registers
   save_piece : (j : ℕ) → j < 6 → (c : Core) → In c → (d : Core) × Line Go (save_code l j) c d × Wrote (base + saved_slot 0 + 8 * j) 8 (λ q. s.gpr (saved j) / 256 ^ q % 256) c d × In d

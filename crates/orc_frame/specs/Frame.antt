@@ -63,9 +63,10 @@ pub record Enters (l : Layout) (param : ℕ → ℕ) (c : Core) : Type 0 where
   pub params : (j : ℕ) → j < length l.params.items → word c.memory (c.gpr 7 + param_word j) ≡ Some (param j)
   pub apart : (x : ℕ) → InBlock (c.gpr 7) x → InFrame (c.gpr 4 - frame_size) x → ⊥
 
--- a step on the way: RSP is as at the entry or lowered, nothing changed outside the frame, and the instruction reads and writes bytes of the frame and the block alone
+-- a step on the way: RSP is as at the entry or lowered, nothing changed outside the frame, and the instruction reads and writes bytes of the frame and the block alone; until RSP is lowered no byte changed, and the instruction reads and writes none
 pub record AfterEntry (c u : Core) (i : Ins) : Type 0 where
   pub stack : (u.gpr 4 ≡ c.gpr 4) ⊎ (u.gpr 4 + frame_size ≡ c.gpr 4)
+  pub not_yet : u.gpr 4 ≡ c.gpr 4 → (x : ℕ) → (u.memory x ≡ c.memory x) × (Touches i u x → ⊥)
   pub block : u.gpr 7 ≡ c.gpr 7
   pub outside : (x : ℕ) → (InFrame (c.gpr 4 - frame_size) x → ⊥) → u.memory x ≡ c.memory x
   pub touches : (x : ℕ) → Touches i u x → InFrame (c.gpr 4 - frame_size) x ⊎ InBlock (c.gpr 7) x
