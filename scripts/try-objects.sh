@@ -1,6 +1,6 @@
 #!/bin/sh
-# Links the object of kernels/volume.orc with examples/volume.c by each C compiler and linker at hand, runs the
-# program, and says what it saw. Usage, from anywhere: scripts/try-objects.sh [ORCC]
+# Links the objects of kernels/volume.orc and kernels/blend.orc with examples/volume.c and examples/blend.c by each C
+# compiler and linker at hand, runs the programs, and says what it saw. Usage, from anywhere: scripts/try-objects.sh [ORCC]
 # ORCC is the program, crates/orcc/out/orcc unless given. Ends with status 0 where every program linked and agreed.
 set -eu
 top=$(cd "$(dirname "$0")/.." && pwd)
@@ -15,9 +15,9 @@ say() { printf '%s\n' "$*"; }
 
 # Builds and runs the example with these words for make.
 try() {
-    rm -f volume
-    if make -s ORCC="$orcc" "$@" > log 2>&1 && ./volume > said; then
-        say "$*: $(cat said)"
+    rm -f volume blend
+    if make -s ORCC="$orcc" "$@" > log 2>&1 && ./volume > said && ./blend >> said; then
+        say "$*: $(tr '\n' ';' < said)"
     else
         failed=1
         say "$*: FAILED"
