@@ -39,4 +39,4 @@ pub record IsWrongUsage (words : List Word) : Type 0 where
 
 -- the line that names the listed forms
 abbrev pub usage_line : List ℕ
-usage_line = codes "usage: orcc asm | c | check | fmt | run | emulate | dis | gen S | obj | jobs W S" ++ 10 ∷ []
+usage_line = codes "usage: orcc asm | c | check | fmt | run | emulate | dis | gen S | jobs W S | obj" ++ 10 ∷ []

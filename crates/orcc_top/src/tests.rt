@@ -141,7 +141,7 @@ fn each_command_answers(rt: HostRuntime) -> Result<(), AllocError> {
             &[],
             b"",
             Status::Usage,
-            b"usage: orcc asm | c | check | fmt | run | emulate | dis | gen S | obj | jobs W S\n",
+            b"usage: orcc asm | c | check | fmt | run | emulate | dis | gen S | jobs W S | obj\n",
         ),
     ];
     for (words, input, status, said) in rows {
@@ -543,7 +543,7 @@ fn parts_are_played(rt: HostRuntime) -> Result<(), AllocError> {
             &["jobs", "65", "0"],
             RETURNS,
             Status::Usage,
-            b"usage: orcc asm | c | check | fmt | run | emulate | dis | gen S | obj | jobs W S\n",
+            b"usage: orcc asm | c | check | fmt | run | emulate | dis | gen S | jobs W S | obj\n",
         ),
     ];
     for (words, input, status, said) in rows {

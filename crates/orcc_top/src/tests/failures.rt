@@ -6,7 +6,7 @@ use std::process::Abort;
 
 /// A job for the text that adds rows of bytes.
 const JOB: &str =
-    r#"{"function":"add8","n":3,"m":1,"arrays":[{"base":4096,"stride":0},{"base":8192,"stride":0},{"base":12288,"stride":0}],"params":[],"memory":[{"at":4096,"bytes":"000000"},{"at":8192,"bytes":"01ff80"},{"at":12288,"bytes":"010180"}],"budget":1000}"#;
+    r#"{"function":"add8","n":3,"m":1,"arrays":[{"base":4096,"stride":0,"size":1},{"base":8192,"stride":0,"size":1},{"base":12288,"stride":0,"size":1}],"params":[],"memory":[{"at":4096,"bytes":"000000"},{"at":8192,"bytes":"01ff80"},{"at":12288,"bytes":"010180"}],"budget":1000}"#;
 
 /// The commands that read no job, each with an input that it accepts.
 const COMMANDS: [(&str, &str); 5] = [
@@ -74,27 +74,32 @@ fn puts_fail(
 fn each_call_fails(
     rt: &impl Abort,
     alloc: Global,
-    word: &str,
+    words: &[&str],
     input: &[u8],
 ) -> Result<(), AllocError> {
-    let whole = run(alloc, &[word], input)?;
-    assert_eq!(rt; whole.status, Status::Done, "{word}");
-    takes_fail(rt, alloc, &[word], input)?;
-    puts_fail(rt, alloc, &[word], input, Stream::Output)
+    let whole = run(alloc, words, input)?;
+    assert_eq!(rt; whole.status, Status::Done, "{words:?}");
+    takes_fail(rt, alloc, words, input)?;
+    puts_fail(rt, alloc, words, input, Stream::Output)
 }
 
 #[test]
 fn a_failing_stream_is_told(rt: HostRuntime) -> Result<(), AllocError> {
     let alloc = rt.alloc();
     for (word, input) in COMMANDS {
-        each_call_fails(&rt, alloc, word, input.as_bytes())?;
+        each_call_fails(&rt, alloc, &[word], input.as_bytes())?;
     }
     let image = run(alloc, &["asm"], ADD8.as_bytes())?.output;
-    each_call_fails(&rt, alloc, "dis", image.as_slice())?;
+    each_call_fails(&rt, alloc, &["dis"], image.as_slice())?;
     let called = [image.as_slice(), JOB.as_bytes()].concat(alloc)?;
-    each_call_fails(&rt, alloc, "run", called.as_slice())?;
+    each_call_fails(&rt, alloc, &["run"], called.as_slice())?;
+    each_call_fails(&rt, alloc, &["jobs", "2", "5"], called.as_slice())?;
     let meant = [ADD8.as_bytes(), b"%%\n", JOB.as_bytes()].concat(alloc)?;
-    each_call_fails(&rt, alloc, "emulate", meant.as_slice())?;
+    each_call_fails(&rt, alloc, &["emulate"], meant.as_slice())?;
+    // Of `gen` one put alone, since each run makes eight functions and runs them.
+    let ran = run_with(alloc, &["gen", "7"], b"", 60_000, Some((Stream::Output, 2)))?;
+    assert_eq!(rt; ran.status, Status::WriteFault);
+    assert!(rt; ran.output.as_slice() == b"g0 sum ".as_slice() && ran.notes.is_empty());
     puts_fail(&rt, alloc, &["asm"], b"x", Stream::Notes)?;
     puts_fail(&rt, alloc, &[], b"", Stream::Notes)
 }
