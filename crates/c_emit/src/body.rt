@@ -43,7 +43,7 @@ fn array_of(f: &Function, p: u16) -> u8
 fn number_of(f: &Function, kind: VarKind, p: u16) -> u8
     requires { p < length f.now.vars }
     ensures value { result ≡ program.count_before kind f.now.vars p }
-    ensures few { result < 72 }
+    ensures few { result < 184 }
 {
     // which says how few variables there are, so that the number fits
     let _few = variable(f, p);

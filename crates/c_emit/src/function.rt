@@ -16,7 +16,7 @@ use std::alloc::{AllocError, Global};
 /// The number of variables of a kind.
 fn count_of(f: &Function, kind: VarKind) -> u8
     ensures value { result ≡ program.count_of kind f.now.vars }
-    ensures few { result ≤ 72 }
+    ensures few { result ≤ 184 }
 {
     count(f.vars.as_slice(), kind) as u8
 }

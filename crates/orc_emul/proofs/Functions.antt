@@ -31,7 +31,7 @@ use Rattle.orc_emul.specs.State.{Fits}
 -- the limits, one by one
 pub record Limits (vars : List Var) : Type 0 where
   pub accumulators : count_of kind.Accumulator vars ≤ 4
-  pub all : length vars ≤ 72
+  pub all : length vars ≤ 184
 
 pub limits_kept : (f : FunctionValue) → is_function f ≡ true → Limits f.vars
 limits_kept f h = record { accumulators = (few_vars f.vars (kept_of f h).limits).accumulators; all = vars_few f h }

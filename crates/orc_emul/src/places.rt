@@ -15,7 +15,7 @@ pub fn variable(f: &Function, p: u16) -> &Var
     requires { p < length f.now.vars }
     ensures value { result.now ≡ var_at f.now.vars p }
     ensures size { result.now.size ≤ 8 }
-    ensures few { length f.now.vars ≤ 72 }
+    ensures few { length f.now.vars ≤ 184 }
 {
     &f.vars.as_slice()[usize::from(p)]
 }

@@ -14,8 +14,8 @@ pub struct Unmapped {
 }
 
 /// The greatest number of variables of a function: 8 sources, 4 dests, 4 accumulators, 8 parameters, 32 constants and
-/// 16 temps.
-pub const MOST_VARS: usize = 72;
+/// 128 temps.
+pub const MOST_VARS: usize = 184;
 
 /// The temps and the running sums, by the variable's place.
 #[derive(Debug, Drop)]

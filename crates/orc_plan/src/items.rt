@@ -12,7 +12,7 @@ use orc_program::{Operand, Pattern, Var, VarKind};
 
 /// The accumulator at a place.
 fn acc_item(vars: &[Var], place: u16) -> Item
-    requires { length vars.now ≤ 72 }
+    requires { length vars.now ≤ 184 }
     ensures { result ≡ acc_item vars.now place }
 {
     Item::Acc {
@@ -23,7 +23,7 @@ fn acc_item(vars: &[Var], place: u16) -> Item
 
 /// A result that is no temp.
 pub(crate) fn result_item(vars: &[Var], operand: Operand) -> Item
-    requires { length vars.now ≤ 72 }
+    requires { length vars.now ≤ 184 }
     ensures { result ≡ result_item vars.now operand }
 {
     match operand {
@@ -59,7 +59,7 @@ fn pattern_item(known: &[Pattern], number: Operand, way: u8) -> Item
 
 /// The source at a place, which is used in this way.
 fn var_item(vars: &[Var], known: &[Pattern], temps: &[u16], way: u8, place: u16) -> Item
-    requires vars { length vars.now ≤ 72 }
+    requires vars { length vars.now ≤ 184 }
     requires known { length known.now ≤ 48 }
     requires temps { length temps.now ≤ 200 }
     ensures { result ≡ var_item vars.now known.now temps.now way place (var_at vars.now place).kind }
@@ -81,7 +81,7 @@ pub(crate) fn source_item(
     way: u8,
     operand: Operand,
 ) -> Item
-    requires vars { length vars.now ≤ 72 }
+    requires vars { length vars.now ≤ 184 }
     requires known { length known.now ≤ 48 }
     requires temps { length temps.now ≤ 200 }
     ensures { result ≡ source_item vars.now known.now temps.now way operand }

@@ -22,7 +22,7 @@ type Temps = ArrayVec<u16, 200>;
 
 /// Adds the items of results, with the next number for each temp.
 fn add_results(vars: &[Var], next: u16, operands: &[Operand], items: &mut ArrayVec<Item, 2>)
-    requires few { length vars.now ≤ 72 }
+    requires few { length vars.now ≤ 184 }
     requires numbers { next + length operands.now ≤ 202 }
     requires room { length items.old.items + length operands.now ≤ 2 }
     ensures { items.new.items ≡ items.old.items ++ result_items vars.now next operands.now }
@@ -41,7 +41,7 @@ fn add_results(vars: &[Var], next: u16, operands: &[Operand], items: &mut ArrayV
 
 /// The items of results, after so many values were made.
 fn result_items(vars: &[Var], next: u16, operands: &[Operand]) -> ArrayVec<Item, 2>
-    requires vars { length vars.now ≤ 72 }
+    requires vars { length vars.now ≤ 184 }
     requires numbers { next ≤ 200 }
     requires few { length operands.now ≤ 2 }
     ensures { result.items ≡ result_items vars.now next operands.now }
@@ -61,7 +61,7 @@ fn add_sources(
     operands: &[Operand],
     items: &mut ArrayVec<Item, 2>,
 )
-    requires vars { length vars.now ≤ 72 }
+    requires vars { length vars.now ≤ 184 }
     requires known { length known.now ≤ 48 }
     requires temps { length temps.now ≤ 200 }
     requires place { position ≡ length items.old.items }
@@ -83,7 +83,7 @@ fn source_items(
     op: Op,
     operands: &[Operand],
 ) -> ArrayVec<Item, 2>
-    requires vars { length vars.now ≤ 72 }
+    requires vars { length vars.now ≤ 184 }
     requires known { length known.now ≤ 48 }
     requires temps { length temps.now ≤ 200 }
     requires few { length operands.now ≤ 2 }
@@ -96,7 +96,7 @@ fn source_items(
 
 /// The step of an instruction, after values of these temps were made.
 fn step_of(vars: &[Var], known: &[Pattern], temps: &[u16], insn: &Insn) -> Step
-    requires vars { length vars.now ≤ 72 }
+    requires vars { length vars.now ≤ 184 }
     requires known { length known.now ≤ 48 }
     requires temps { length temps.now ≤ 200 }
     ensures { result ≡ step_of vars.now known.now temps.now insn.now }
@@ -135,7 +135,7 @@ fn add_steps(
     temps: &mut Temps,
     steps: &mut ArrayVec<Step, 100>,
 )
-    requires vars { length vars.now ≤ 72 }
+    requires vars { length vars.now ≤ 184 }
     requires known { length known.now ≤ 48 }
     requires temps { length temps.old.items + 2 * length insns.now ≤ 200 }
     requires room { length steps.old.items + length insns.now ≤ 100 }

@@ -41,7 +41,7 @@ pub record FewVars (vars : List Var) : Type 0 where
   pub accumulators : count_of kind.Accumulator vars ≤ 4
   pub params : count_of kind.Param vars ≤ 8
   pub consts : count_of kind.Const vars ≤ 32
-  pub temps : count_of kind.Temp vars ≤ 16
+  pub temps : count_of kind.Temp vars ≤ 128
 
 pub few_vars : (vars : List Var) → keeps_limits vars ≡ true → FewVars vars
 few_vars vars h =
@@ -58,11 +58,11 @@ few_vars vars h =
       accumulators = at_most (count_of kind.Accumulator vars) 4 c.0;
       params = at_most (count_of kind.Param vars) 8 d.0;
       consts = at_most (count_of kind.Const vars) 32 e.0;
-      temps = at_most (count_of kind.Temp vars) 16 g.0;
+      temps = at_most (count_of kind.Temp vars) 128 g.0;
     }
 
--- a function has at most 72 variables
-pub vars_few : (f : FunctionValue) → is_function f ≡ true → length f.vars ≤ 72
+-- a function has at most 184 variables
+pub vars_few : (f : FunctionValue) → is_function f ≡ true → length f.vars ≤ 184
 vars_few f h =
     let few = few_vars f.vars (kept_of f h).limits in
     omega (arith, length_by_kinds f.vars, few.sources, few.dests, few.accumulators, few.params, few.consts, few.temps)

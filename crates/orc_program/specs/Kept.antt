@@ -25,7 +25,7 @@ most_of kind.Dest = 4
 most_of kind.Accumulator = 4
 most_of kind.Param = 8
 most_of kind.Const = 32
-most_of kind.Temp = 16
+most_of kind.Temp = 128
 
 -- the greatest number of functions of a program
 abbrev pub most_functions : ℕ

@@ -6,7 +6,7 @@ use Rattle.orc_program.specs.declared.program.Var.{Var}
 use Rattle.orc_program.specs.declared.program.VarKind.TheVariants as kind
 use Rattle.orc_program.specs.declared.program.Insn.{Insn}
 use Rattle.orc_program.specs.declared.program.Operand.{Operand}
-use Rattle.orc_program.specs.Program.{FunctionValue, is_of, operand_is, count_of, array_count, temps_among}
+use Rattle.orc_program.specs.Program.{FunctionValue, is_of, operand_is, is_temp, count_of, array_count, temps_among}
 use Rattle.orc_program.specs.Checks.{operand_sizes, patterns_of}
 
 -- ---- values: value k of instruction i is its temp result number k
@@ -59,13 +59,21 @@ live_count vars insns j = sum_by (λ i. count_by (is_live vars insns j i) (range
 unfoldable pub need_of : List Var → List Insn → ℕ → ℕ
 need_of vars insns j = live_count vars insns j + length (made_at vars insns j)
 
--- the places that hold values of temps
+-- the places that hold values of temps: the vector registers among them, and then slots of 16 bytes in the frame
 abbrev pub places : ℕ
-places = 10
+places = 74
+
+-- those of the places that are vector registers
+abbrev pub registers : ℕ
+registers = 10
 
 -- the largest need, 0 without instructions
 abbrev pub largest_need : FunctionValue → ℕ
 largest_need f = fold max 0 (map (need_of f.vars f.insns) (range_with_len 0 (length f.insns)))
+
+-- some instruction needs more values than there are registers
+abbrev pub spills : FunctionValue → Bool
+spills f = nat_lt registers (largest_need f)
 
 -- ---- lanes
 
@@ -99,17 +107,17 @@ is_array_operand vars o = operand_is kind.Dest vars o || operand_is kind.Source 
 abbrev pub source_cost : List Var → Operand → ℕ
 source_cost vars o = if is_array_operand vars o then 2 else 1
 
--- the cost of a result: 2 of a dest or an accumulator, and 0 of a temp
-abbrev pub result_cost : List Var → Operand → ℕ
-result_cost vars o = if operand_is kind.Dest vars o || operand_is kind.Accumulator vars o then 2 else 0
+-- the cost of a result: 2 of a dest or an accumulator, and of a temp 1 where the function spills, else 0
+abbrev pub result_cost : Bool → List Var → Operand → ℕ
+result_cost spills vars o = if operand_is kind.Dest vars o || operand_is kind.Accumulator vars o then 2 else (if spills && is_temp vars o then 1 else 0)
 
 -- the cost of an instruction: its sources', its results', and the class of its opcode
-abbrev pub insn_cost : List Var → Insn → ℕ
-insn_cost vars insn = sum_by (source_cost vars) insn.sources.items + sum_by (result_cost vars) insn.results.items + (row insn.op).class
+abbrev pub insn_cost : Bool → List Var → Insn → ℕ
+insn_cost spills vars insn = sum_by (source_cost vars) insn.sources.items + sum_by (result_cost spills vars) insn.results.items + (row insn.op).class
 
 -- E: the sum over all instructions
 abbrev pub cost : FunctionValue → ℕ
-cost f = sum_by (insn_cost f.vars) f.insns
+cost f = sum_by (insn_cost (spills f) f.vars) f.insns
 
 -- ---- steps
 

@@ -77,8 +77,8 @@ pub fn most_of(kind: VarKind) -> usize
     match kind {
         VarKind::Dest | VarKind::Accumulator => 4,
         VarKind::Source | VarKind::Param => 8,
-        VarKind::Temp => 16,
         VarKind::Const => 32,
+        VarKind::Temp => 128,
     }
 }
 

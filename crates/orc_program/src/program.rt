@@ -93,7 +93,7 @@ pub struct Notes {
 }
 
 /// A function that is typed right: its variables have distinct names and keep the limits (4 dests, 8 sources, 4 accumulators,
-/// 8 parameters, 32 constants, 16 temps), and each instruction passes [`check_insn`](crate::check_insn) against those before it, so there
+/// 8 parameters, 32 constants, 128 temps), and each instruction passes [`check_insn`](crate::check_insn) against those before it, so there
 /// are at most 100 instructions and 48 patterns. Sizes, words and notes are ones that a line without a fault can have.
 #[derive(Debug, Drop)]
 pub struct Function {

@@ -11,7 +11,7 @@ use Rattle.orc_frame.proofs.slots.layout.Goals as goal
 pub params-requires-clause-short : goal.params-requires-clause-short
 params-requires-clause-short c =
     let f : FunctionValue = record { name = c.f.inside.name; two_d = c.f.inside.two_d; vars = c.f.inside.vars; insns = c.f.inside.insns; notes = c.f.inside.notes } in
-    let few : length c.f.inside.vars ≤ 72 = vars_few f c.f.invariant in
+    let few : length c.f.inside.vars ≤ 184 = vars_few f c.f.invariant in
     omega (arith, ap length c.as_slice-2.ensures, few)
 
 pub returns-clause-value : goal.returns-clause-value
