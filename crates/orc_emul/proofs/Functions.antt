@@ -30,11 +30,15 @@ use Rattle.orc_emul.specs.State.{Fits}
 
 -- the limits, one by one
 pub record Limits (vars : List Var) : Type 0 where
+  pub dests : count_of kind.Dest vars ≤ 4
+  pub sources : count_of kind.Source vars ≤ 8
   pub accumulators : count_of kind.Accumulator vars ≤ 4
   pub all : length vars ≤ 184
 
 pub limits_kept : (f : FunctionValue) → is_function f ≡ true → Limits f.vars
-limits_kept f h = record { accumulators = (few_vars f.vars (kept_of f h).limits).accumulators; all = vars_few f h }
+limits_kept f h =
+    let few = few_vars f.vars (kept_of f h).limits in
+    record { dests = few.dests; sources = few.sources; accumulators = few.accumulators; all = vars_few f h }
 
 -- ---- sizes
 

@@ -41,7 +41,7 @@ pub fn count_before(f: &Function, kind: VarKind, p: u16) -> usize
 pub fn array_number(f: &Function, p: u16) -> usize
     requires { p < length f.now.vars }
     ensures value { result ≡ program.array_number f.now.vars p }
-    ensures few { result ≤ 144 }
+    ensures few { result ≤ 12 }
 {
     if variable(f, p).kind == VarKind::Dest {
         count_before(f, VarKind::Dest, p)

@@ -57,6 +57,9 @@ length-places_before k vars i l = length-filter (λ p. is_of k (var_at vars p)) 
 pub before_less : (k : VarKind) (vars : List Var) (p : ℕ) → p < length vars → is_of k (var_at vars p) ≡ true → count_before k vars p < count_of k vars
 before_less k vars p l e = omega (arith, count_by_more_yes (is_of k) vars p no_var l e, sum_by-take-le (λ v. cond (is_of k v) 1 0) vars (p + 1))
 
+pub before_few : (k : VarKind) (vars : List Var) (p : ℕ) → count_before k vars p ≤ count_of k vars
+before_few k vars p = sum_by-take-le (λ v. cond (is_of k v) 1 0) vars p
+
 pub places_room : (k : VarKind) (vars : List Var) (i : ℕ) → i < length vars → is_of k (var_at vars i) ≡ true → length (places_before k vars i) < count_of k vars
 places_room k vars i l e = omega (arith, before_less k vars i l e, length-places_before k vars i (omega (arith, l)))
 
