@@ -6,7 +6,7 @@ use Rattle.std.proofs.lemmas.Bool.Decides.{nat_tests}
 use Rattle.std.proofs.lemmas.List.{get_or_append_left}
 use Rattle.std.proofs.lemmas.List.Folds.{list_any-append}
 use Rattle.std.proofs.Math.Seq.{get_or-append_seam}
-use Rattle.orc_program.specs.Need.{is_in, places}
+use Rattle.orc_program.specs.Need.{is_in}
 use Rattle.orc_plan.specs.Placing.{is_taken, Holds, Extends}
 
 -- ---- tests of numbers
@@ -32,7 +32,7 @@ is_in_any p (v ∷ vs) a h e = go (λ s. is_in_any p vs a s e) (or_cases (a == v
     go later (inl s) = ap (λ b. b || list_any p vs) (ap p (sym (same_is a v s)) ∙ e)
     go later (inr s) = either (p v) (list_any p vs) (later s)
 
--- ---- ten places that are all taken hold ten values
+-- ---- so many places that are all taken hold as many values
 
 taken_kept : (f : ℕ → ℕ) (p m : ℕ) → m ≢ p → (vs : List ℕ) → list_any (λ v. f v == p) (filter (λ v. not (f v == m)) vs) ≡ list_any (λ v. f v == p) vs
 taken_kept f p m ne [] = refl
@@ -65,10 +65,10 @@ all_below f (suc m) vs h =
     let less = all_below f m (filter (λ v. not (f v == m)) vs) (λ p l. taken_kept f p m (omega arith) vs ∙ h p (omega arith)) in
     omega (arith, less, shorter f m vs (h m (omega arith)))
 
--- where each of ten places is taken, ten values are held
-pub all_taken : (held at : List ℕ) → ((p : ℕ) → p < 10 → is_taken held at p ≡ true) → 10 ≤ length held
+-- where each of the first places is taken, as many values are held
+pub all_taken : (most : ℕ) (held at : List ℕ) → ((p : ℕ) → p < most → is_taken held at p ≡ true) → most ≤ length held
 unfolding is_taken
-all_taken held at h = all_below (slice_index at) 10 held h
+all_taken most held at h = all_below (slice_index at) most held h
 
 -- ---- one more value
 
@@ -90,9 +90,9 @@ old_place at p v l = get_or_append_left at (p ∷ []) 0 v l
 pub new_place : (at : List ℕ) (p : ℕ) → slice_index (at ++ p ∷ []) (length at) ≡ p
 new_place at p = get_or-append_seam at p [] 0
 
-pub holds_more : (held at : List ℕ) (v p : ℕ) → Holds held at → v ≡ length at → p < places → is_taken held at p ≡ false → Holds (held ++ v ∷ []) (at ++ p ∷ [])
+pub holds_more : {most : ℕ} (held at : List ℕ) (v p : ℕ) → Holds most held at → v ≡ length at → p < most → is_taken held at p ≡ false → Holds most (held ++ v ∷ []) (at ++ p ∷ [])
 unfolding is_taken
-holds_more held at v p h e l free = record { made = made; below = below; apart = λ a b x y s. apart a b (in_more held v a x) (in_more held v b y) s }
+holds_more {most = most} held at v p h e l free = record { made = made; below = below; apart = λ a b x y s. apart a b (in_more held v a x) (in_more held v b y) s }
   where
     made : (a : ℕ) → is_in a (held ++ v ∷ []) ≡ true → a < length (at ++ p ∷ [])
     made a x = go (in_more held v a x)
@@ -101,7 +101,7 @@ holds_more held at v p h e l free = record { made = made; below = below; apart =
         go (inl s) = omega (arith, h.made a s, length-append at (p ∷ []))
         go (inr s) = omega (arith, length-append at (p ∷ []))
 
-    below : (a : ℕ) → a < length (at ++ p ∷ []) → slice_index (at ++ p ∷ []) a < places
+    below : (a : ℕ) → a < length (at ++ p ∷ []) → slice_index (at ++ p ∷ []) a < most
     below a x = grind (arith, h.below a, old_place at p a, new_place at p, length-append at (p ∷ []), x)
 
     -- a held value isn't in the new place
@@ -127,7 +127,7 @@ pub extends_both : (a b c : List ℕ) (m n k : ℕ) → Extends a b m → Extend
 extends_both a b c m n k x y e = record { longer = omega (arith, x.longer, y.longer); same = λ v l. y.same v (omega (arith, x.longer)) ∙ x.same v l }
 
 -- the same as the code has it
-pub holds_pushed : (held at h a new_held new_at : List ℕ) (v p : ℕ) → Holds held at → v ≡ length at → p < places → h ≡ held → a ≡ at → is_taken h a p ≡ false → new_held ≡ held ++ v ∷ [] → new_at ≡ at ++ p ∷ [] → Holds new_held new_at
-holds_pushed held at h a new_held new_at v p holds next below e s free t u =
+pub holds_pushed : {most : ℕ} (held at h a new_held new_at : List ℕ) (v p : ℕ) → Holds most held at → v ≡ length at → p < most → h ≡ held → a ≡ at → is_taken h a p ≡ false → new_held ≡ held ++ v ∷ [] → new_at ≡ at ++ p ∷ [] → Holds most new_held new_at
+holds_pushed {most = most} held at h a new_held new_at v p holds next below e s free t u =
     let free' : is_taken held at p ≡ false = sym (ap (λ (vs : List ℕ). is_taken vs a p) e ∙ ap (λ (vs : List ℕ). is_taken held vs p) s) ∙ free in
-    subst (λ (vs : List ℕ). Holds vs new_at) (sym t) (subst (λ (vs : List ℕ). Holds (held ++ v ∷ []) vs) (sym u) (holds_more held at v p holds next below free'))
+    subst (λ (vs : List ℕ). Holds most vs new_at) (sym t) (subst (λ (vs : List ℕ). Holds most (held ++ v ∷ []) vs) (sym u) (holds_more held at v p holds next below free'))

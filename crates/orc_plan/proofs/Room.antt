@@ -3,14 +3,14 @@ use Rattle.std.proofs.Common.{◌≡◌, ℕ, zero, suc, ◌+◌, ◌<◌, ◌�
 use Rattle.std.specs.List.{list_any, list_all}
 use Rattle.std.proofs.lemmas.List.{take_all}
 use Rattle.std.proofs.lemmas.List.Elements.{filter-append}
-use Rattle.orc_program.specs.Need.{is_in, places}
+use Rattle.orc_program.specs.Need.{is_in, places, registers}
 use Rattle.orc_plan.specs.declared.steps.Step.{Step}
 use Rattle.orc_plan.specs.declared.steps.Item.{Item}
 use Rattle.orc_plan.specs.declared.steps.Item.TheVariants as item
 use Rattle.orc_plan.specs.Core.{values_among, made_by, read_by, made_in, counts_from, is_numbered}
-use Rattle.orc_plan.specs.Need.{is_read_in, made_at, need_in}
-use Rattle.orc_plan.specs.Places.{Apart, NeedsFew, GoodPlaces}
-use Rattle.orc_plan.specs.Placing.{counted_from, Holds, Extends, HasRoom, PlacesAll}
+use Rattle.orc_plan.specs.Need.{is_read_in, made_at, need_in, widest}
+use Rattle.orc_plan.specs.Places.{Apart, GoodPlaces}
+use Rattle.orc_plan.specs.Placing.{counted_from, NeedAtMost, Holds, Extends, HasRoom, PlacesAll}
 use Rattle.orc_plan.proofs.Holding.{extends_both}
 
 both : (a b : Bool) → (a && b) ≡ true → (a ≡ true) × (b ≡ true)
@@ -61,7 +61,7 @@ in_filter p (v ∷ vs) a h = go (p v) (in_filter p vs a) h
     go true f s = either (a == v) (is_in a (filter p vs)) (is_in a vs) f s
     go false f s = later (a == v) (is_in a vs) (f s)
 
-pub holds_kept : (p : ℕ → Bool) (held at : List ℕ) → Holds held at → Holds (filter p held) at
+pub holds_kept : {most : ℕ} (p : ℕ → Bool) (held at : List ℕ) → Holds most held at → Holds most (filter p held) at
 holds_kept p held at h = record {
   made = λ a x. h.made a (in_filter p held a x);
   below = h.below;
@@ -92,7 +92,7 @@ counted_later held s ss j =
 
 -- ---- room for a step, and for those after it
 
-pub first_numbered : (held at : List ℕ) (s : Step) (ss : List Step) → HasRoom held at (s ∷ ss) → counts_from (length at) (made_by s) ≡ true
+pub first_numbered : {most : ℕ} (held at : List ℕ) (s : Step) (ss : List Step) → HasRoom most held at (s ∷ ss) → counts_from (length at) (made_by s) ≡ true
 first_numbered held at s ss h =
     let n = length at in
     let later = is_numbered (n + length (made_by s)) ss in
@@ -103,25 +103,25 @@ later_numbered n s ss h =
     let later = is_numbered (n + length (made_by s)) ss in
     (both (counts_from n (made_by s)) later (both (list_all (λ v. nat_lt v n) (read_by s)) (counts_from n (made_by s) && later) h).1).1
 
-pub first_few : (held at : List ℕ) (s : Step) (ss : List Step) → HasRoom held at (s ∷ ss) → length (filter (is_read_in (s ∷ ss)) held) + length (made_by s) ≤ places
+pub first_few : {most : ℕ} (held at : List ℕ) (s : Step) (ss : List Step) → HasRoom most held at (s ∷ ss) → length (filter (is_read_in (s ∷ ss)) held) + length (made_by s) ≤ most
 first_few held at s ss h =
     omega (arith, h.few 0 (omega arith), ap length (counted_first held s ss), length-append (filter (is_read_in (s ∷ ss)) held) (made_by s))
 
-pub room_after : (held at after : List ℕ) (s : Step) (ss : List Step) → HasRoom held at (s ∷ ss) → length (made_by s) ≤ 2
-    → Holds (held_after held s ss) after → Extends at after (length (made_by s)) → HasRoom (held_after held s ss) after ss
-room_after held at after s ss h two holds more = record {
+pub room_after : {most : ℕ} (held at after : List ℕ) (s : Step) (ss : List Step) → HasRoom most held at (s ∷ ss) → length (made_by s) ≤ 2
+    → Holds most (held_after held s ss) after → Extends at after (length (made_by s)) → HasRoom most (held_after held s ss) after ss
+room_after {most = most} held at after s ss h two holds more = record {
   holds = holds;
   numbered = subst (λ n. is_numbered n ss ≡ true) (sym more.longer) (later_numbered (length at) s ss h.numbered);
   room = omega (arith, h.room, two, more.longer);
-  few = λ j l. subst (λ (vs : List ℕ). length vs ≤ places) (sym (counted_later held s ss j)) (h.few (suc j) (omega arith));
+  few = λ j l. subst (λ (vs : List ℕ). length vs ≤ most) (sym (counted_later held s ss j)) (h.few (suc j) (omega arith));
 }
 
 -- values that are apart stay so where more places stand behind
-apart_after : (vs old new : List ℕ) (k : ℕ) → Holds vs old → Extends old new k → Apart new vs
+apart_after : {most : ℕ} (vs old new : List ℕ) (k : ℕ) → Holds most vs old → Extends old new k → Apart new vs
 apart_after vs old new k h more a b x y s = h.apart a b x y (sym (more.same a (h.made a x)) ∙ s ∙ more.same b (h.made b y))
 
-pub placed_after : (held at after end : List ℕ) (s : Step) (ss : List Step) → Holds (held_after held s ss) after → Extends at after (length (made_by s))
-    → PlacesAll (held_after held s ss) after end ss → PlacesAll held at end (s ∷ ss)
+pub placed_after : {most : ℕ} (held at after end : List ℕ) (s : Step) (ss : List Step) → Holds most (held_after held s ss) after → Extends at after (length (made_by s))
+    → PlacesAll most (held_after held s ss) after end ss → PlacesAll most held at end (s ∷ ss)
 placed_after held at after end s ss holds more rest = record {
   extends = extends_both at after end (length (made_by s)) (length (made_in ss)) (length (made_in (s ∷ ss))) more rest.extends (sym (length-append (made_by s) (made_in ss)));
   below = rest.below;
@@ -142,45 +142,50 @@ first_and_rest (x ∷ xs) s l e = ap (λ (y : Step). y ∷ xs) (sym e) ∙ ap (�
 new_held : (held live made new : List ℕ) (steps : List Step) (s : Step) (rest : List Step) → steps ≡ s ∷ rest → live ≡ filter (is_read_in steps) held → made ≡ made_by s → new ≡ live ++ made → new ≡ held_after held s rest
 new_held held live made new steps s rest e l m n = n ∙ ap (λ (vs : List ℕ). vs ++ made) (l ∙ ap (λ (ss : List Step). filter (is_read_in ss) held) e) ∙ ap (λ (vs : List ℕ). filter (is_read_in (s ∷ rest)) held ++ vs) m
 
-pub room_later : (held live made new at after : List ℕ) (steps : List Step) (s : Step) (rest : List Step) → steps ≡ s ∷ rest → live ≡ filter (is_read_in steps) held → made ≡ made_by s → new ≡ live ++ made
-    → HasRoom held at steps → length made ≤ 2 → Holds new after → Extends at after (length made) → HasRoom new after rest
-room_later held live made new at after steps s rest e l m n h two holds more =
+pub room_later : {most : ℕ} (held live made new at after : List ℕ) (steps : List Step) (s : Step) (rest : List Step) → steps ≡ s ∷ rest → live ≡ filter (is_read_in steps) held → made ≡ made_by s → new ≡ live ++ made
+    → HasRoom most held at steps → length made ≤ 2 → Holds most new after → Extends at after (length made) → HasRoom most new after rest
+room_later {most = most} held live made new at after steps s rest e l m n h two holds more =
     let same = new_held held live made new steps s rest e l m n in
-    subst (λ (vs : List ℕ). HasRoom vs after rest) (sym same)
-    (room_after held at after s rest (subst (λ (ss : List Step). HasRoom held at ss) e h) (subst (λ (vs : List ℕ). length vs ≤ 2) m two)
-    (subst (λ (vs : List ℕ). Holds vs after) same holds) (subst (λ (vs : List ℕ). Extends at after (length vs)) m more))
+    subst (λ (vs : List ℕ). HasRoom most vs after rest) (sym same)
+    (room_after held at after s rest (subst (λ (ss : List Step). HasRoom most held at ss) e h) (subst (λ (vs : List ℕ). length vs ≤ 2) m two)
+    (subst (λ (vs : List ℕ). Holds most vs after) same holds) (subst (λ (vs : List ℕ). Extends at after (length vs)) m more))
 
-pub placed_later : (held live made new at after end : List ℕ) (steps : List Step) (s : Step) (rest : List Step) → steps ≡ s ∷ rest → live ≡ filter (is_read_in steps) held → made ≡ made_by s → new ≡ live ++ made
-    → Holds new after → Extends at after (length made) → PlacesAll new after end rest → PlacesAll held at end steps
-placed_later held live made new at after end steps s rest e l m n holds more placed =
+pub placed_later : {most : ℕ} (held live made new at after end : List ℕ) (steps : List Step) (s : Step) (rest : List Step) → steps ≡ s ∷ rest → live ≡ filter (is_read_in steps) held → made ≡ made_by s → new ≡ live ++ made
+    → Holds most new after → Extends at after (length made) → PlacesAll most new after end rest → PlacesAll most held at end steps
+placed_later {most = most} held live made new at after end steps s rest e l m n holds more placed =
     let same = new_held held live made new steps s rest e l m n in
-    subst (λ (ss : List Step). PlacesAll held at end ss) (sym e)
-    (placed_after held at after end s rest (subst (λ (vs : List ℕ). Holds vs after) same holds) (subst (λ (vs : List ℕ). Extends at after (length vs)) m more)
-    (subst (λ (vs : List ℕ). PlacesAll vs after end rest) same placed))
+    subst (λ (ss : List Step). PlacesAll most held at end ss) (sym e)
+    (placed_after held at after end s rest (subst (λ (vs : List ℕ). Holds most vs after) same holds) (subst (λ (vs : List ℕ). Extends at after (length vs)) m more)
+    (subst (λ (vs : List ℕ). PlacesAll most vs after end rest) same placed))
 
 -- ---- the whole
 
-pub room_at_first : (steps : List Step) → is_numbered 0 steps ≡ true → length steps ≤ 100 → NeedsFew steps → HasRoom [] [] steps
+pub room_at_first : (most : ℕ) (steps : List Step) → is_numbered 0 steps ≡ true → length steps ≤ 100 → NeedAtMost most steps → HasRoom most [] [] steps
 unfolding need_in
-room_at_first steps h l few = record {
+room_at_first most steps h l few = record {
   holds = record { made = λ v x. absurd (true≢false (sym x)); below = λ v x. absurd (omega arith); apart = λ a b x y s. absurd (true≢false (sym x)) };
   numbered = h;
   room = omega arith;
   few = λ j x. few j x;
 }
 
-pub good_at_last : (steps : List Step) (at : List ℕ) → PlacesAll [] [] at steps → GoodPlaces steps at
-good_at_last steps at h = record { one_each = omega (arith, h.extends.longer); below = h.below; apart = λ j l. h.apart j l }
+pub good_at_last : (most : ℕ) (steps : List Step) (at : List ℕ) → most ≤ places → (widest steps ≤ registers → most ≡ registers) → PlacesAll most [] [] at steps → GoodPlaces steps at
+good_at_last most steps at low near h = record {
+  one_each = omega (arith, h.extends.longer);
+  below = λ v l. omega (arith, h.below v l, low);
+  near = λ w v l. omega (arith, h.below v l, near w);
+  apart = λ j l. h.apart j l;
+}
 
-pub live_holds : (held given live at : List ℕ) (steps : List Step) → given ≡ held → live ≡ filter (is_read_in steps) given → Holds held at → Holds live at
-live_holds held given live at steps g l h = subst (λ (vs : List ℕ). Holds vs at) (sym (l ∙ ap (filter (is_read_in steps)) g)) (holds_kept (is_read_in steps) held at h)
+pub live_holds : {most : ℕ} (held given live at : List ℕ) (steps : List Step) → given ≡ held → live ≡ filter (is_read_in steps) given → Holds most held at → Holds most live at
+live_holds {most = most} held given live at steps g l h = subst (λ (vs : List ℕ). Holds most vs at) (sym (l ∙ ap (filter (is_read_in steps)) g)) (holds_kept (is_read_in steps) held at h)
 
-pub room_of : (core steps : List Step) (held at : List ℕ) → held ≡ [] → at ≡ [] → steps ≡ core → is_numbered 0 core ≡ true → length steps ≤ 100 → NeedsFew core → HasRoom held at steps
-room_of core steps held at h a e n l few =
-    subst (λ (vs : List ℕ). HasRoom vs at steps) (sym h) (subst (λ (vs : List ℕ). HasRoom [] vs steps) (sym a)
-    (subst (λ (ss : List Step). HasRoom [] [] ss) (sym e) (room_at_first core n (subst (λ (ss : List Step). length ss ≤ 100) e l) few)))
+pub room_of : (most : ℕ) (core steps : List Step) (held at : List ℕ) → held ≡ [] → at ≡ [] → steps ≡ core → is_numbered 0 core ≡ true → length steps ≤ 100 → NeedAtMost most core → HasRoom most held at steps
+room_of most core steps held at h a e n l few =
+    subst (λ (vs : List ℕ). HasRoom most vs at steps) (sym h) (subst (λ (vs : List ℕ). HasRoom most [] vs steps) (sym a)
+    (subst (λ (ss : List Step). HasRoom most [] [] ss) (sym e) (room_at_first most core n (subst (λ (ss : List Step). length ss ≤ 100) e l) few)))
 
-pub good_of : (core steps copy : List Step) (held old at : List ℕ) → held ≡ [] → old ≡ [] → steps ≡ core → copy ≡ core → PlacesAll held old at steps → GoodPlaces copy at
-good_of core steps copy held old at h a e c p =
+pub good_of : (most : ℕ) (core steps copy : List Step) (held old at : List ℕ) → held ≡ [] → old ≡ [] → steps ≡ core → copy ≡ core → most ≤ places → (widest core ≤ registers → most ≡ registers) → PlacesAll most held old at steps → GoodPlaces copy at
+good_of most core steps copy held old at h a e c low near p =
     subst (λ (ss : List Step). GoodPlaces ss at) (e ∙ sym c)
-    (good_at_last steps at (subst (λ (vs : List ℕ). PlacesAll vs [] at steps) h (subst (λ (vs : List ℕ). PlacesAll held vs at steps) a p)))
+    (good_at_last most steps at low (subst (λ (ss : List Step). widest ss ≤ registers → most ≡ registers) (sym e) near) (subst (λ (vs : List ℕ). PlacesAll most vs [] at steps) h (subst (λ (vs : List ℕ). PlacesAll most held vs at steps) a p)))

@@ -256,6 +256,10 @@ same_widest f =
     ap (λ n. fold max 0 (map (need_in (steps_of f)) (range_with_len 0 n))) (same_count f)
     ∙ ap (fold max 0) (map_same (need_in (steps_of f)) (need_of f.vars f.insns) (same_need f) (range_with_len 0 (length f.insns)))
 
+-- the same as the code has it
+pub widest_is : (f : FunctionValue) (core : List Step) (n : ℕ) → n ≡ widest core → core ≡ steps_of f → n ≡ largest_need f
+widest_is f core n is same = is ∙ ap widest same ∙ same_widest f
+
 lines_after : (vars : List Var) (known : List Pattern) (temps : List ℕ) (insns : List Insn) → map (λ (s : Step). s.line) (steps_after vars known temps insns) ≡ map (λ (i : Insn). i.line) insns
 lines_after vars known temps [] = refl
 lines_after vars known temps (insn ∷ insns) = ap (λ (ns : List ℕ). insn.line ∷ ns) (lines_after vars known (temps ++ made_by vars insn) insns)

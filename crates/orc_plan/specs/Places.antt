@@ -1,10 +1,10 @@
 -- Places of values.
 use Rattle.std.specs.Prelude.{◌≡◌, ℕ, ◌<◌, ◌≤◌, true, List, length, map, slice_index}
-use Rattle.orc_program.specs.Need.{is_in, places}
+use Rattle.orc_program.specs.Need.{is_in, places, registers}
 use Rattle.orc_plan.specs.declared.steps.Step.{Step}
 use Rattle.orc_plan.specs.declared.steps.Pressure.{Pressure}
 use Rattle.orc_plan.specs.Core.{CoreValue, made_in}
-use Rattle.orc_plan.specs.Need.{counted, need_in}
+use Rattle.orc_plan.specs.Need.{counted, need_in, widest}
 
 -- Steps with a place for each value.
 pub record PlacedValue : Type 0 where
@@ -19,6 +19,8 @@ Apart places vs = (a b : ℕ) → is_in a vs ≡ true → is_in b vs ≡ true �
 pub record GoodPlaces (steps : List Step) (at : List ℕ) : Type 0 where
   pub one_each : length at ≡ length (made_in steps)
   pub below : (v : ℕ) → v < length at → slice_index at v < places
+  -- all of them registers where no Need(j) is above their number
+  pub near : widest steps ≤ registers → (v : ℕ) → v < length at → slice_index at v < registers
   pub apart : (j : ℕ) → j < length steps → Apart at (counted steps j)
 
 -- each step needs no more values than there are places

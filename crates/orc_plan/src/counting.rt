@@ -9,7 +9,7 @@ ghost use Rattle.orc_plan.specs.Need.{is_read_in, need_in, widest};
 use crate::steps::{Core, Item, Step};
 
 /// Whether one of the items is the value of this number.
-fn has_value(items: &[Item], value: u16) -> bool
+pub(crate) fn has_value(items: &[Item], value: u16) -> bool
     ensures { result ≡ is_in value (values_among items.now) }
 {
     let [item, rest @ ..] = items else {

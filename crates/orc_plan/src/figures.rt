@@ -3,8 +3,11 @@
 ghost use Rattle.std.specs.Prelude.{◌≡◌, ◌*◌, ◌≤◌, length, map, max};
 ghost use Rattle.std.specs.List.{fold, sum_by};
 ghost use Rattle.orc_program.specs.Checks.{operand_sizes};
-ghost use Rattle.orc_program.specs.Need.{largest, declared_size, insn_size, lanes, cost, source_cost, result_cost, insn_cost};
+ghost use Rattle.orc_program.specs.Need.{largest, declared_size, insn_size, lanes, spills, cost, source_cost, result_cost, insn_cost};
 
+use crate::counting::widest_need;
+use crate::lowering::lower;
+use crate::placing::REGISTERS;
 use orc_ops::{Op, info};
 use orc_program::variables::kind_at;
 use orc_program::{Function, Insn, Operand, Var, VarKind, is_count, result_size, source_size};
@@ -87,15 +90,24 @@ fn source_cost(vars: &[Var], operand: Operand) -> u32
     }
 }
 
-/// The cost of a result: 2 of a dest or an accumulator, 0 of a temp.
-fn result_cost(vars: &[Var], operand: Operand) -> u32
-    ensures cost { result ≡ result_cost vars.now operand }
+/// Whether some instruction needs more values of temps than there are registers.
+#[tactic(auto, using(crate::proofs::SameNeed::widest_is))]
+fn spills(f: &Function) -> bool
+    ensures { result ≡ spills f.now }
+{
+    widest_need(&lower(f)) > REGISTERS as u32
+}
+
+/// The cost of a result: 2 of a dest or an accumulator, and of a temp 1 where the function spills, else 0.
+fn result_cost(spills: bool, vars: &[Var], operand: Operand) -> u32
+    ensures cost { result ≡ result_cost spills vars.now operand }
     ensures few { result ≤ 2 }
 {
     match operand {
         Operand::Var(place) => match kind_at(vars, place) {
             VarKind::Dest | VarKind::Accumulator => 2,
-            VarKind::Source | VarKind::Param | VarKind::Const | VarKind::Temp => 0,
+            VarKind::Temp => u32::from(spills),
+            VarKind::Source | VarKind::Param | VarKind::Const => 0,
         },
         Operand::Number(_) => 0,
     }
@@ -114,43 +126,44 @@ fn sources_cost(vars: &[Var], operands: &[Operand]) -> u32
 }
 
 /// The cost of results.
-fn results_cost(vars: &[Var], operands: &[Operand]) -> u32
+fn results_cost(spills: bool, vars: &[Var], operands: &[Operand]) -> u32
     requires { length operands.now ≤ 2 }
-    ensures cost { result ≡ sum_by (result_cost vars.now) operands.now }
+    ensures cost { result ≡ sum_by (result_cost spills vars.now) operands.now }
     ensures few { result ≤ 2 * length operands.now }
 {
     let [operand, rest @ ..] = operands else {
         return 0;
     };
-    result_cost(vars, *operand) + results_cost(vars, rest)
+    result_cost(spills, vars, *operand) + results_cost(spills, vars, rest)
 }
 
 /// The cost of an instruction: its sources', its results', and the class of its opcode.
-fn insn_cost(vars: &[Var], insn: &Insn) -> u32
-    ensures cost { result ≡ insn_cost vars.now insn.now }
+fn insn_cost(spills: bool, vars: &[Var], insn: &Insn) -> u32
+    ensures cost { result ≡ insn_cost spills vars.now insn.now }
     ensures few { result ≤ 300 }
 {
     let sources = sources_cost(vars, insn.sources.as_slice());
-    let results = results_cost(vars, insn.results.as_slice());
+    let results = results_cost(spills, vars, insn.results.as_slice());
     sources + results + u32::from(info(insn.op).class)
 }
 
 /// The cost of instructions.
-fn cost_of(vars: &[Var], insns: &[Insn]) -> u32
+fn cost_of(spills: bool, vars: &[Var], insns: &[Insn]) -> u32
     requires { length insns.now ≤ 100 }
-    ensures cost { result ≡ sum_by (insn_cost vars.now) insns.now }
+    ensures cost { result ≡ sum_by (insn_cost spills vars.now) insns.now }
     ensures few { result ≤ 300 * length insns.now }
 {
     let [insn, rest @ ..] = insns else {
         return 0;
     };
-    insn_cost(vars, insn) + cost_of(vars, rest)
+    insn_cost(spills, vars, insn) + cost_of(spills, vars, rest)
 }
 
 /// The sum over all instructions of the class of the opcode, 2 for each source that is a dest or a source variable, 1 for each other
-/// source, and 2 for each result that is a dest or an accumulator; a result that is a temp costs nothing.
+/// source, and 2 for each result that is a dest or an accumulator; a result that is a temp costs 1 where some instruction needs more than
+/// ten values of temps at once, else nothing.
 pub fn cost(f: &Function) -> u32
     ensures { result ≡ cost f.now }
 {
-    cost_of(f.vars.as_slice(), f.insns.as_slice())
+    cost_of(spills(f), f.vars.as_slice(), f.insns.as_slice())
 }

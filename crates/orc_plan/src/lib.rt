@@ -1,8 +1,8 @@
 //! Functions as steps over value numbers, how many values each step needs at once, and places for them.
 //!
 //! [`lower`] turns a function into a [`Core`]: one step per instruction, with numbered values in place of temps. [`need`] counts the values
-//! that a step needs at once and [`widest_need`] is the largest such count. [`place`] gives each value one of ten places, or refuses with
-//! [`Pressure`] where some step needs more. [`lanes`] and [`cost`] are figures of a function. [`places_stand`] is a law: a temp that is read
+//! that a step needs at once and [`widest_need`] is the largest such count. [`place`] gives each value one of 74 places, ten of which are
+//! registers, or refuses with [`Pressure`] where some step needs more. [`lanes`] and [`cost`] are figures of a function. [`places_stand`] is a law: a temp that is read
 //! stands in its place until it is read for the last time.
 //!
 //! `specs/` says what steps keep (`Core`), what they need (`Need`), when places are good (`Places`), what the steps of a function are
@@ -16,6 +16,7 @@ mod items;
 mod laws;
 mod lowering;
 mod placing;
+mod spilling;
 mod steps;
 mod variables;
 

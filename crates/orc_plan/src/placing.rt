@@ -1,22 +1,26 @@
 //! Places for values: a step frees the places of values that neither it nor a later step reads, and gives free ones to the values that it makes.
 
-ghost use Rattle.std.specs.Prelude.{◌≡◌, ◌+◌, ◌*◌, ◌<◌, ◌≤◌, ◌++◌, ◌∷◌, [], true, false, length, filter, slice_index, MatchOption, MatchResult};
-ghost use Rattle.orc_program.specs.Need.{is_in, places};
+ghost use Rattle.std.specs.Prelude.{◌≡◌, ◌+◌, ◌*◌, ◌<◌, ◌≤◌, ◌++◌, ◌∷◌, ℕ, [], true, false, length, filter, slice_index, MatchOption, MatchResult};
+ghost use Rattle.orc_program.specs.Need.{is_in, places, registers};
 ghost use Rattle.orc_plan.specs.Core.{values_among, counts_from};
-ghost use Rattle.orc_plan.specs.Need.{is_read_in};
+ghost use Rattle.orc_plan.specs.Need.{is_read_in, widest};
 ghost use Rattle.orc_plan.specs.Places.{NeedsFew, IsPressure};
-ghost use Rattle.orc_plan.specs.Placing.{is_taken, Holds, Extends, HasRoom, PlacesAll};
+ghost use Rattle.orc_plan.specs.Placing.{is_taken, NeedAtMost, Holds, Extends, HasRoom, PlacesAll};
 
 use crate::copying::copy_of;
-use crate::counting::{is_read_in, need};
+use crate::counting::{is_read_in, need, widest_need};
+use crate::spilling::{Spilled, spilled_values};
 use crate::steps::{Core, Item, Placed, Pressure, Step};
 use arrayvec::ArrayVec;
 
-/// The number of places that hold values of temps.
-const PLACES: usize = 10;
+/// The number of places that hold values of temps: the registers, and then the spill slots of the frame.
+pub(crate) const PLACES: usize = 74;
+
+/// The number of those places that are vector registers.
+pub(crate) const REGISTERS: usize = 10;
 
 /// The values that are held at one time.
-type Held = ArrayVec<u16, PLACES>;
+pub(crate) type Held = ArrayVec<u16, PLACES>;
 
 /// The place of each value, by its number.
 type Places = ArrayVec<u8, 200>;
@@ -42,23 +46,45 @@ pub fn place_of(at: &[u8], value: u16) -> u8
     }
 }
 
-/// The first place in which no held value is.
+/// The first place from `from` to below `most` in which no held value is.
+fn first_free(held: &[u16], at: &[u8], from: u8, most: u8) -> Option<u8>
+    ensures { MatchOption result ((p : ℕ) → from ≤ p → p < most → is_taken held.now at.now p ≡ true) (λ place. (place < most) × (is_taken held.now at.now place ≡ false)) }
+{
+    for place in from..most {
+        if !is_taken(held, at, place) {
+            return Some(place);
+        }
+    }
+    None
+}
+
+/// A place below `most` in which no held value is: the first such place from `from` on, and where there is none the first of all.
 #[tactic(auto, using(crate::proofs::Holding::all_taken))]
-fn free_place(held: &[u16], at: &[u8]) -> u8
-    requires { length held.now < places }
-    ensures below { result < places }
+fn free_place(held: &[u16], at: &[u8], from: u8, most: u8) -> u8
+    requires { length held.now < most }
+    ensures below { result < most }
     ensures free { is_taken held.now at.now result ≡ false }
 {
-    for place in 0..PLACES as u8 {
-        if !is_taken(held, at, place) {
-            return place;
-        }
+    if let Some(place) = first_free(held, at, from, most) {
+        return place;
+    }
+    if let Some(place) = first_free(held, at, 0, most) {
+        return place;
     }
     0
 }
 
+/// The place from which on a place for the value is sought: the first spill slot for one that is better held in the frame, else the first
+/// register.
+fn wished_place(value: u16, spilled: &Spilled) -> u8 {
+    match spilled.get(usize::from(value)) {
+        Some(true) => REGISTERS as u8,
+        _ => 0,
+    }
+}
+
 /// The held values that one of the steps reads.
-fn still_held(held: &[u16], steps: &[Step]) -> Held
+pub(crate) fn still_held(held: &[u16], steps: &[Step]) -> Held
     requires { length held.now ≤ places }
     ensures { result.items ≡ filter (is_read_in steps.now) held.now }
 {
@@ -71,31 +97,34 @@ fn still_held(held: &[u16], steps: &[Step]) -> Held
     kept
 }
 
-/// Gives a free place to the next value.
+/// Gives a free place below `most` to the next value.
 #[tactic(auto, using(crate::proofs::Holding::holds_more, crate::proofs::Holding::extends_one))]
-fn hold_value(value: u16, held: &mut Held, at: &mut Places)
-    requires holds { Holds held.old.items at.old.items }
+fn hold_value(value: u16, spilled: &Spilled, most: u8, held: &mut Held, at: &mut Places)
+    requires holds { Holds most held.old.items at.old.items }
     requires next { value ≡ length at.old.items }
-    requires few { length held.old.items < places }
+    requires few { length held.old.items < most }
+    requires places { most ≤ places }
     requires room { length at.old.items < 200 }
     ensures held { held.new.items ≡ held.old.items ++ value ∷ [] }
-    ensures holds { Holds held.new.items at.new.items }
+    ensures holds { Holds most held.new.items at.new.items }
     ensures extends { Extends at.old.items at.new.items 1 }
 {
-    let place = free_place(held.as_slice(), at.as_slice());
+    let from = wished_place(value, spilled);
+    let place = free_place(held.as_slice(), at.as_slice(), from, most);
     held.push(value);
     at.push(place);
 }
 
-/// Gives a free place to each value among the items.
+/// Gives a free place below `most` to each value among the items.
 #[tactic(auto, using(crate::proofs::Holding::extends_none, crate::proofs::Holding::extends_both))]
-fn hold(items: &[Item], held: &mut Held, at: &mut Places)
-    requires holds { Holds held.old.items at.old.items }
+fn hold(items: &[Item], spilled: &Spilled, most: u8, held: &mut Held, at: &mut Places)
+    requires holds { Holds most held.old.items at.old.items }
     requires numbered { counts_from (length at.old.items) (values_among items.now) ≡ true }
-    requires few { length held.old.items + length (values_among items.now) ≤ places }
+    requires few { length held.old.items + length (values_among items.now) ≤ most }
+    requires places { most ≤ places }
     requires room { length at.old.items + length (values_among items.now) ≤ 200 }
     ensures held { held.new.items ≡ held.old.items ++ values_among items.now }
-    ensures holds { Holds held.new.items at.new.items }
+    ensures holds { Holds most held.new.items at.new.items }
     ensures extends { Extends at.old.items at.new.items (length (values_among items.now)) }
 {
     let [item, rest @ ..] = items else {
@@ -103,24 +132,27 @@ fn hold(items: &[Item], held: &mut Held, at: &mut Places)
     };
     match item {
         Item::Value(value) => {
-            hold_value(*value, held, at);
-            hold(rest, held, at);
+            hold_value(*value, spilled, most, held, at);
+            hold(rest, spilled, most, held, at);
         }
-        Item::Array(_) | Item::Acc { .. } | Item::Pattern(_) => hold(rest, held, at),
+        Item::Array(_) | Item::Acc { .. } | Item::Pattern(_) => {
+            hold(rest, spilled, most, held, at)
+        }
     }
 }
 
-/// Gives a place to each value that the steps make.
-fn place_all(steps: &[Step], held: &Held, at: &mut Places)
-    requires { HasRoom held.now.items at.old.items steps.now }
-    ensures { PlacesAll held.now.items at.old.items at.new.items steps.now }
+/// Gives a place below `most` to each value that the steps make.
+fn place_all(steps: &[Step], spilled: &Spilled, most: u8, held: &Held, at: &mut Places)
+    requires room { HasRoom most held.now.items at.old.items steps.now }
+    requires places { most ≤ places }
+    ensures { PlacesAll most held.now.items at.old.items at.new.items steps.now }
 {
     let [step, rest @ ..] = steps else {
         return;
     };
     let mut held = still_held(held.as_slice(), steps);
-    hold(step.results.as_slice(), &mut held, at);
-    place_all(rest, &held, at);
+    hold(step.results.as_slice(), spilled, most, &mut held, at);
+    place_all(rest, spilled, most, &held, at);
 }
 
 /// The first step that needs more values than there are places.
@@ -139,16 +171,40 @@ fn first_pressure(core: &Core) -> Option<Pressure>
     None
 }
 
-/// Gives each value one of ten places, such that no two values that count in one step's need share a place. `Err` exactly where some
-/// step's need is above ten: the first such step's line and need.
+/// How many of the places are given: the registers alone where no step needs more, else all.
+#[tactic(auto, using(crate::proofs::Values::below_widest))]
+fn places_used(core: &Core) -> u8
+    ensures few { result ≤ places }
+    ensures near { widest core.now.steps ≤ registers → result ≡ registers }
+    ensures enough { NeedsFew core.now.steps → NeedAtMost result core.now.steps }
+{
+    if widest_need(core) > REGISTERS as u32 {
+        PLACES as u8
+    } else {
+        REGISTERS as u8
+    }
+}
+
+/// Gives each value one of 74 places, and one of the first ten where no step's need is above ten, such that no two values that count in one
+/// step's need share a place. `Err` exactly where some step's need is above 74: the first such step's line and need.
+///
+/// The first ten places are registers and the others spill slots in the frame. Where there are more values than registers, those go to slots
+/// whose next use is farthest.
 pub fn place(core: &Core) -> Result<Placed, Pressure>
     ensures { MatchResult result (λ placed. (placed.core ≡ core.now) × NeedsFew core.now.steps) (IsPressure core.now.steps) }
 {
     if let Some(pressure) = first_pressure(core) {
         return Err(pressure);
     }
+    let steps = core.steps.as_slice();
     let mut places = ArrayVec::new();
-    place_all(core.steps.as_slice(), &ArrayVec::new(), &mut places);
+    place_all(
+        steps,
+        &spilled_values(steps),
+        places_used(core),
+        &ArrayVec::new(),
+        &mut places,
+    );
     Ok(Placed {
         core: copy_of(core),
         places,

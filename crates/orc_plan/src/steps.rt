@@ -75,7 +75,8 @@ impl Model for Core {
     ghost invariant = { λ c. is_numbered 0 c.steps.items ≡ true };
 }
 
-/// Steps with a place below 10 for each value, such that no two values that one step needs at once share a place.
+/// Steps with a place below 74 for each value, and below 10 where no step needs more than ten values at once, such that no two values that one
+/// step needs at once share a place.
 #[derive(Debug, Drop)]
 pub struct Placed {
     /// The steps.

@@ -1,10 +1,17 @@
-use Rattle.std.proofs.Common.{◌≡◌, ◌+◌, true, ap, sym, subst, ◌∙◌}
+use Rattle.std.proofs.Common.{◌≡◌, ◌+◌, true, ap, sym, subst, ◌∙◌, arith}
 use Rattle.orc_program.specs.Program.{FunctionValue}
 use Rattle.orc_program.specs.Kept.{is_function}
+use Rattle.orc_program.proofs.Counts.{few_vars}
+use Rattle.orc_program.proofs.Sizes.{kept_of}
 use Rattle.c_run.specs.Tree.{CFunctionValue, is_c_function}
 use Rattle.c_emit.specs.Body.{emitted}
 use Rattle.c_emit.proofs.Whole.{emitted_kept, made}
 use Rattle.c_emit.proofs.function.function_of.Goals as goal
+
+pub overflow_add-result : goal.overflow_add-result
+overflow_add-result c =
+    let few = few_vars c.args.f.now.vars (kept_of c.args.f.now (subst (λ (f : FunctionValue). is_function f ≡ true) c.f.view_is c.f.invariant)).limits in
+    omega (arith, c.count_of.ensures.value, c.count_of-2.ensures.value, few.dests, few.sources)
 
 whole : (c : goal.After-from-2) → (let v : CFunctionValue = record { name = c.same_name.result; arrays = c.count_of.result + c.count_of-2.result; params = c.count_of-3.result; accs = c.count_of-4.result; temps = c.from.result + c.from-2.result; two_d = c.f.inside.two_d; body = c.in_ok-statements.statements } in v) ≡ emitted c.args.f.now
 whole c =

@@ -5,7 +5,7 @@ use Rattle.orc_plan.proofs.Room.{live_holds, values_few, first_and_rest, room_la
 use Rattle.orc_plan.proofs.placing.+place_all.Goals as goal
 
 pub hold-requires-clause-holds : goal.hold-requires-clause-holds
-hold-requires-clause-holds t c = live_holds c.args.held.now.items c.as_slice.result.now c.still_held-held.result.items c.args.at.now.items c.args.steps.now c.as_slice.ensures.value c.still_held-held.ensures c.requires.holds
+hold-requires-clause-holds t c = live_holds c.args.held.now.items c.as_slice.result.now c.still_held-held.result.items c.args.at.now.items c.args.steps.now c.as_slice.ensures.value c.still_held-held.ensures c.requires.room.holds
 
 pub hold-requires-clause-room : goal.hold-requires-clause-room
 hold-requires-clause-room t c = omega (arith, values_few c.as_slice-2.result.now)
@@ -13,10 +13,13 @@ hold-requires-clause-room t c = omega (arith, values_few c.as_slice-2.result.now
 pub place_all-requires : goal.place_all-requires
 place_all-requires t c = (
   omega arith,
-  room_later c.args.held.now.items c.still_held-held.result.items (values_among c.as_slice-2.result.now) c.hold.new.held.items c.args.at.now.items c.hold.new.at.items c.args.steps.now c.step-item.result _
-      (first_and_rest c.args.steps.now c.step-item.result c.in-len1-up.len_at_least c.step-item.is)
-      (c.still_held-held.ensures ∙ ap (filter (is_read_in c.args.steps.now)) c.as_slice.ensures.value) (ap values_among c.as_slice-2.ensures.value) c.hold.ensures.held
-      c.requires (omega (arith, values_few c.as_slice-2.result.now)) c.hold.ensures.holds c.hold.ensures.extends,
+  (
+    room_later c.args.held.now.items c.still_held-held.result.items (values_among c.as_slice-2.result.now) c.hold.new.held.items c.args.at.now.items c.hold.new.at.items c.args.steps.now c.step-item.result _
+        (first_and_rest c.args.steps.now c.step-item.result c.in-len1-up.len_at_least c.step-item.is)
+        (c.still_held-held.ensures ∙ ap (filter (is_read_in c.args.steps.now)) c.as_slice.ensures.value) (ap values_among c.as_slice-2.ensures.value) c.hold.ensures.held
+        c.requires.room (omega (arith, values_few c.as_slice-2.result.now)) c.hold.ensures.holds c.hold.ensures.extends,
+    c.requires.places,
+  ),
 )
 
 pub returns : goal.returns

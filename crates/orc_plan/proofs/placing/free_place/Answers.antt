@@ -3,4 +3,4 @@ use Rattle.orc_plan.proofs.Holding.{all_taken}
 use Rattle.orc_plan.proofs.placing.free_place.Goals as goal
 
 pub returns-clause-free : goal.returns-clause-free
-returns-clause-free c = absurd (omega (arith, all_taken c.args.held.now c.args.at.now (λ p l. c.loop-place.invariant p (omega arith))))
+returns-clause-free c = absurd (omega (arith, all_taken c.args.most c.args.held.now c.args.at.now (λ p l. c.in_default-first_free.ensures p (omega arith) l), c.requires))
