@@ -4,7 +4,7 @@ use Rattle.std.specs.List.{range_with_len}
 use Rattle.std.proofs.lemmas.List.FromFn.{length-range_with_len, get_or-map-range_with_len}
 use Rattle.std.proofs.lemmas.List.{length-map}
 use Rattle.orc_frame.specs.declared.frame.Layout.{Layout}
-use Rattle.orc_frame.specs.Layout.{displacements, frame_size, pattern_slot, sum_slot, row_slot, rows_slot, layout_of}
+use Rattle.orc_frame.specs.Layout.{displacements, frame_size, pattern_slot, sum_slot, row_slot, rows_slot, spill_slot, layout_of}
 use Rattle.orc_frame.specs.Frame.{IsLayout}
 use Rattle.orc_frame.proofs.Facts.{facts}
 use Rattle.std.proofs.Math.Facts.{to_z_pos, Fits-of_lt}
@@ -59,3 +59,7 @@ row_is l k h lk =
 pub rows_is : (l : Layout) → IsLayout l → to_z w32 (of_z w32 l.rows_at) ≡ pos rows_slot
 unfolding layout_of
 rows_is l h = read rows_slot l.rows_at (omega arith) (ap (λ (y : Layout). y.rows_at) h.2)
+
+pub spill_is : (l : Layout) → IsLayout l → to_z w32 (of_z w32 l.spill_at) ≡ pos (spill_slot 0)
+unfolding layout_of
+spill_is l h = read (spill_slot 0) l.spill_at (omega arith) (ap (λ (y : Layout). y.spill_at) h.2)

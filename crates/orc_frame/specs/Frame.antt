@@ -53,7 +53,7 @@ acc_size l g = slice_index l.acc_sizes.items g
 
 -- ---- before the rows
 
--- a core at the entry: RDI has the block's address, and the frame is to be the 1,024 bytes below RSP
+-- a core at the entry: RDI has the block's address, and the frame is to be the 2,048 bytes below RSP
 pub record Enters (l : Layout) (param : ℕ → ℕ) (c : Core) : Type 0 where
   pub bounded : Bounded c
   pub room : frame_size ≤ c.gpr 4

@@ -1,17 +1,18 @@
--- Where a function's numbers lie in the frame, the 1,024 bytes above RSP while its code runs.
-use Rattle.std.specs.Prelude.{ℕ, ◌+◌, ◌*◌, ◌==◌, ℤ, pos, ◌+ℤ◌, ◌≤ℤ◌, List, [], ◌∷◌, ◌++◌, length, map, if◌then◌else◌}
+-- Where a function's numbers lie in the frame, the 2,048 bytes above RSP while its code runs.
+use Rattle.std.specs.Prelude.{ℕ, ◌+◌, ◌-◌, ◌*◌, ◌==◌, ℤ, pos, ◌+ℤ◌, ◌≤ℤ◌, List, [], ◌∷◌, ◌++◌, length, map, if◌then◌else◌}
 use Rattle.std.specs.List.{range_with_len}
 use Rattle.orc_program.specs.declared.program.Var.{Var}
 use Rattle.orc_program.specs.declared.program.VarKind.TheVariants as kind
 use Rattle.orc_program.specs.Program.{FunctionValue, var_at, places_of}
 use Rattle.orc_program.specs.Checks.{patterns_of}
+use Rattle.orc_program.specs.Need.{places, registers}
 use Rattle.orc_frame.specs.declared.frame.Layout.{Layout}
 
 -- ---- displacements from RSP
 
 -- the bytes of the frame
 abbrev pub frame_size : ℕ
-frame_size = 1024
+frame_size = 2048
 
 -- of pattern k, which has 16 bytes
 abbrev pub pattern_slot : ℕ → ℕ
@@ -41,6 +42,14 @@ rows_slot = 984
 abbrev pub left_slot : ℕ
 left_slot = 992
 
+-- the spill slots: one for each place that is no register
+abbrev pub spill_slots : ℕ
+spill_slots = places - registers
+
+-- of spill slot k, which has 16 bytes: the place of number registers + k
+abbrev pub spill_slot : ℕ → ℕ
+spill_slot k = 1024 + 16 * k
+
 -- ---- the layout of a function
 
 -- the first n of such displacements
@@ -63,6 +72,7 @@ layout_of f = record {
   row_at = displacements row_slot 12;
   block_at = pos block_slot;
   rows_at = pos rows_slot;
+  spill_at = pos (spill_slot 0);
 }
 
 -- the place in a list of the first that is p, or the list's length
@@ -76,8 +86,11 @@ index_in (q ∷ qs) p = if q == p then 0 else 1 + index_in qs p
 abbrev pub with_size : ℕ → List ℤ → List (ℤ × ℕ)
 with_size n at = map (λ z. (z, n)) at
 
+abbrev pub spilled_of : Layout → List (ℤ × ℕ)
+spilled_of l = with_size 16 (map (λ k. l.spill_at +ℤ pos (16 * k)) (range_with_len 0 spill_slots))
+
 abbrev pub slots_of : Layout → List (ℤ × ℕ)
-slots_of l = with_size 16 l.pattern_at.items ++ (with_size 16 l.sum_at.items ++ (with_size 8 l.saved_at ++ (with_size 8 l.row_at ++ (l.block_at, 8) ∷ (l.rows_at, 8) ∷ (pos left_slot, 8) ∷ [])))
+slots_of l = with_size 16 l.pattern_at.items ++ (with_size 16 l.sum_at.items ++ (with_size 8 l.saved_at ++ (with_size 8 l.row_at ++ (l.block_at, 8) ∷ (l.rows_at, 8) ∷ (pos left_slot, 8) ∷ spilled_of l)))
 
 -- from a displacement on, each slot ends where or before the next begins, and the last within the frame
 abbrev pub LieApart : ℤ → List (ℤ × ℕ) → Type 0

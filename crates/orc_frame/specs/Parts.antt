@@ -1,7 +1,7 @@
 -- The parts of a call's memory beside the arrays: the frame, the return word, the argument block and the code.
 use Rattle.std.specs.Prelude.{ℕ, ◌+◌, ◌*◌, ◌<◌, ◌≤◌, length}
 use Rattle.x86_ins.specs.Way.{Placed}
-use Rattle.orc_frame.specs.Layout.{frame_size, sum_slot}
+use Rattle.orc_frame.specs.Layout.{frame_size, sum_slot, spill_slots, spill_slot}
 
 abbrev pub Between : ℕ → ℕ → ℕ → Type 0
 Between low high a = (low ≤ a) × (a < high)
@@ -13,6 +13,10 @@ InFrame rsp = Between rsp (rsp + frame_size)
 -- in it the running sums of so many accumulators
 abbrev pub InRunning : ℕ → ℕ → ℕ → Type 0
 InRunning rsp count = Between (rsp + sum_slot 0) (rsp + sum_slot count)
+
+-- in it the spill slots
+abbrev pub InSpilled : ℕ → ℕ → Type 0
+InSpilled rsp = Between (rsp + spill_slot 0) (rsp + spill_slot spill_slots)
 
 -- the return word, to which RSP points at the entry (System V ABI, AMD64 supplement, 3.2.2)
 abbrev pub InReturn : ℕ → ℕ → Type 0

@@ -2,7 +2,7 @@
 
 ghost use Rattle.std.specs.Prelude.{◌≡◌, ◌<◌, length, pos};
 ghost use Rattle.orc_frame.specs.Frame.{IsLayout};
-ghost use Rattle.orc_frame.specs.Layout.{pattern_slot, sum_slot, row_slot, rows_slot};
+ghost use Rattle.orc_frame.specs.Layout.{pattern_slot, sum_slot, row_slot, rows_slot, spill_slots, spill_slot};
 
 use crate::frame::Layout;
 
@@ -39,4 +39,13 @@ pub fn rows_at(layout: &Layout) -> i32
     ensures { result ≡ pos rows_slot }
 {
     layout.rows_at
+}
+
+/// Where the 16 bytes of a spill slot are.
+pub fn spill_slot_at(layout: &Layout, number: usize) -> i32
+    requires layout { IsLayout layout.now }
+    requires inside { number < spill_slots }
+    ensures { result ≡ pos (spill_slot number) }
+{
+    layout.spill_at + 16 * number as i32
 }

@@ -27,4 +27,6 @@ pub struct Layout {
     pub block_at: i32,
     /// The displacement of the word of the rows left.
     pub rows_at: i32,
+    /// The displacement of the first spill slot, which holds values of temps for which no register is left. Slot k is 16 * k bytes further.
+    pub spill_at: i32,
 }

@@ -1,4 +1,4 @@
-//! The frame of a function's code: the 1,024 bytes below RSP at the entry.
+//! The frame of a function's code: the 2,048 bytes below RSP at the entry.
 //!
 //! [`layout`] gives each number of a function its slot there. [`prologue`] gives the code that lowers RSP, saves registers, fills the
 //! patterns and clears the running sums; [`epilogue`] gives the code that stores each accumulator's word, restores registers and raises
@@ -13,7 +13,7 @@ mod pushes;
 mod slots;
 mod words;
 
-pub use displacements::{pattern_at, row_at, rows_at, sum_at};
+pub use displacements::{pattern_at, row_at, rows_at, spill_slot_at, sum_at};
 pub use frame::Layout;
 pub use lists::{epilogue, prologue};
 pub use pushes::{BLOCK, STACK, slot};

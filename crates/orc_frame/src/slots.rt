@@ -10,7 +10,7 @@ use orc_program::variables::same_kind;
 use orc_program::{Function, Var, VarKind, patterns};
 
 /// The bytes of the frame.
-pub const FRAME_SIZE: usize = 1024;
+pub const FRAME_SIZE: usize = 2048;
 
 /// The displacement of the word in which the elements that are left in a row's body wait while its head is done.
 pub const LEFT_AT: i32 = 992;
@@ -34,6 +34,7 @@ pub fn layout(f: &Function) -> Layout
         row_at: [880, 888, 896, 904, 912, 920, 928, 936, 944, 952, 960, 968],
         block_at: 976,
         rows_at: 984,
+        spill_at: 1024,
     }
 }
 
