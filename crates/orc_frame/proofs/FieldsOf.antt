@@ -1,10 +1,11 @@
 -- What a function's layout says of patterns and running sums.
 use Rattle.std.proofs.Common.{◌≡◌, ℕ, ◌*◌, ◌<◌, List, length, get_or, slice_index_or, pos, ℤ, ◌^◌, sym, ap, ◌∙◌, subst, arith}
+use Rattle.std.specs.Prelude.{◌+ℤ◌, ◌*ℤ◌}
 use Rattle.std.specs.List.{range_with_len}
 use Rattle.std.proofs.lemmas.List.FromFn.{length-range_with_len, get_or-map-range_with_len}
 use Rattle.std.proofs.lemmas.List.{length-map}
 use Rattle.orc_frame.specs.declared.frame.Layout.{Layout}
-use Rattle.orc_frame.specs.Layout.{displacements, frame_size, pattern_slot, sum_slot, row_slot, rows_slot, spill_slot, layout_of}
+use Rattle.orc_frame.specs.Layout.{displacements, frame_size, pattern_slot, sum_slot, row_slot, rows_slot, spill_slots, spill_slot, layout_of}
 use Rattle.orc_frame.specs.Frame.{IsLayout}
 use Rattle.orc_frame.proofs.Facts.{facts}
 use Rattle.std.proofs.Math.Facts.{to_z_pos, Fits-of_lt}
@@ -63,3 +64,9 @@ rows_is l h = read rows_slot l.rows_at (omega arith) (ap (λ (y : Layout). y.row
 pub spill_is : (l : Layout) → IsLayout l → to_z w32 (of_z w32 l.spill_at) ≡ pos (spill_slot 0)
 unfolding layout_of
 spill_is l h = read (spill_slot 0) l.spill_at (omega arith) (ap (λ (y : Layout). y.spill_at) h.2)
+
+pub spill_total : (l : Layout) (k : ℕ) → IsLayout l → k < spill_slots → to_z w32 (of_z w32 l.spill_at) +ℤ to_z w32 (of_z w32 (pos 16 *ℤ to_z w32 k)) ≡ pos (spill_slot k)
+spill_total l k h lk =
+    let far : to_z w32 (of_z w32 (pos 16 *ℤ to_z w32 k)) ≡ pos (16 * k) =
+    ap (λ z. to_z w32 (of_z w32 (pos 16 *ℤ z))) (to_z_pos w32 (let n : k < 2 ^ 31 = omega (arith, lk) in n)) ∙ to_z_pos w32 (let n : 16 * k < 2 ^ 31 = omega (arith, lk) in n) in
+    ap (λ z. z +ℤ to_z w32 (of_z w32 (pos 16 *ℤ to_z w32 k))) (spill_is l h) ∙ ap (λ z. pos (spill_slot 0) +ℤ z) far
