@@ -1,6 +1,7 @@
 -- Need of a function's steps is Need of its instructions.
-use Rattle.std.proofs.Common.{◌≡◌, ℕ, zero, suc, ◌+◌, ◌-◌, ◌<◌, Bool, true, false, not, ◌||◌, ◌&&◌, ◌==◌, nat_lt, List, [], ◌∷◌, ◌++◌, refl, sym, ap, ◌∙◌, arith, length, map, max, filter, take, drop, slice_index, sum_by, count_by, append_assoc, append-nil, length-append, add-one, if◌then◌else◌, true≢false}
+use Rattle.std.proofs.Common.{◌≡◌, ℕ, zero, suc, ◌+◌, ◌-◌, ◌<◌, ◌≤◌, ◌⊎◌, inl, inr, Bool, true, false, not, ◌||◌, ◌&&◌, ◌==◌, nat_lt, List, [], ◌∷◌, ◌++◌, refl, sym, ap, ◌∙◌, arith, length, map, max, filter, take, drop, slice_index, sum_by, count_by, append_assoc, append-nil, length-append, add-one, if◌then◌else◌, true≢false}
 use Rattle.std.specs.List.{list_any, range_with_len, flat_map, fold}
+use Rattle.std.proofs.lemmas.Bool.{cases_lt}
 use Rattle.std.proofs.lemmas.Bool.Decides.{nat_tests}
 use Rattle.std.proofs.lemmas.List.{get_or-append-add, get_or_append_left, drop-append-le}
 use Rattle.std.proofs.lemmas.List.Elements.{filter-append}
@@ -14,12 +15,12 @@ use Rattle.orc_program.specs.declared.program.Pattern.{Pattern}
 use Rattle.orc_program.specs.Program.{FunctionValue}
 use Rattle.orc_program.specs.Checks.{patterns_of}
 use Rattle.orc_program.specs.Need as program
-use Rattle.orc_program.specs.Need.{is_in, made_by, read_by, read_at, temp_of, is_made_again, is_read_at, is_live, live_count, need_of, largest_need}
+use Rattle.orc_program.specs.Need.{is_in, made_by, read_by, read_at, temp_of, is_made_again, is_read_at, is_live, live_count, need_of, registers, largest_need, spills}
 use Rattle.orc_plan.specs.declared.steps.Step.{Step}
 use Rattle.orc_plan.specs.Core as core
 use Rattle.orc_plan.specs.Core.{made_in}
 use Rattle.orc_plan.specs.Need.{is_read_in, made_at, need_in, widest}
-use Rattle.orc_plan.specs.Places.{line_at}
+use Rattle.orc_plan.specs.Places.{GoodPlaces, line_at}
 use Rattle.orc_plan.specs.Lowered.{temps_made, last_value, steps_after, steps_of}
 use Rattle.orc_plan.proofs.Holding.{is_same, same_is, other_is}
 use Rattle.orc_plan.proofs.Numbered.{results_made, sources_read}
@@ -259,6 +260,20 @@ same_widest f =
 -- the same as the code has it
 pub widest_is : (f : FunctionValue) (core : List Step) (n : ℕ) → n ≡ widest core → core ≡ steps_of f → n ≡ largest_need f
 widest_is f core n is same = is ∙ ap widest same ∙ same_widest f
+
+nowhere : (at : List ℕ) (v : ℕ) → length at ≤ v → slice_index at v ≡ 0
+nowhere [] v l = refl
+nowhere (p ∷ ps) zero l = absurd (omega (arith, l))
+nowhere (p ∷ ps) (suc v) l = nowhere ps v (omega (arith, l))
+
+-- where a value has a place that is no register, some instruction needs more values than there are registers
+pub only_spilled : (f : FunctionValue) (at : List ℕ) → GoodPlaces (steps_of f) at → (v : ℕ) → registers ≤ slice_index at v → spills f ≡ true
+only_spilled f at good v far = go (cases_lt registers (largest_need f)) (cases_lt v (length at))
+  where
+    go : (registers < largest_need f) ⊎ (largest_need f ≤ registers) → (v < length at) ⊎ (length at ≤ v) → spills f ≡ true
+    go (inl h) there = grind (arith, nat_tests, h)
+    go (inr h) (inl l) = absurd (omega (arith, far, good.near (omega (arith, h, same_widest f)) v l))
+    go (inr h) (inr l) = absurd (omega (arith, far, nowhere at v l))
 
 lines_after : (vars : List Var) (known : List Pattern) (temps : List ℕ) (insns : List Insn) → map (λ (s : Step). s.line) (steps_after vars known temps insns) ≡ map (λ (i : Insn). i.line) insns
 lines_after vars known temps [] = refl

@@ -73,7 +73,7 @@ fn add_passing(
 }
 
 #[test]
-fn the_eleventh_value_finds_no_place(rt: HostRuntime) -> Result<(), AllocError> {
+fn the_value_that_is_used_last_goes_to_the_frame(rt: HostRuntime) -> Result<(), AllocError> {
     let mut vars = [(VarKind::Temp, 1); 12];
     vars[0] = (VarKind::Dest, 1);
     vars[1] = (VarKind::Source, 1);
@@ -95,7 +95,9 @@ fn the_eleventh_value_finds_no_place(rt: HostRuntime) -> Result<(), AllocError> 
     }
     let core = lower(&f);
     assert_eq!(rt; widest_need(&core), 11);
-    assert_eq!(rt; place(&core).err(), Some(Pressure { line: 24, need: 11 }));
+    let placed = place(&core).expect(&rt, "so many places");
+    let at = placed.places.as_slice();
+    assert_eq!(rt; at, [0, 1, 2, 3, 4, 5, 6, 7, 8, 10, 9].as_slice());
     Ok(())
 }
 
