@@ -1,3 +1,4 @@
 pub mod Stores
+pub mod StandIn
 pub mod Code
 pub mod Regions
