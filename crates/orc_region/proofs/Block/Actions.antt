@@ -298,7 +298,7 @@ module _ (n : ℕ) (base size : ℕ → ℕ) (P : ℕ → Type 0) (numbers : Num
   load_source i (FromSlot k) w prefix x c live sig totals o wide fits at stack h framed there room bound stays =
       let p = rsp + spill_slot k in
       let z : ℕ → ℕ = λ b. or_else 0 (c.memory (p + b)) in
-      let mapped : (b : ℕ) → b < 16 → c.memory (p + b) ≡ Some (z b) = λ b lb. let v = mapped_value c.memory (p + b) (framed.spilled k o.0 b lb) in v.1 ∙ ap (λ m. Some (or_else 0 m)) (sym v.1) in
+      let mapped : (b : ℕ) → b < 16 → c.memory (p + b) ≡ Some (z b) = λ b lb. let v = mapped_value c.memory (p + b) (framed.spilled (p + b) (omega arith, (let few = o.0 in omega (arith, few, lb)))) in v.1 ∙ ap (λ m. Some (or_else 0 m)) (sym v.1) in
       let l = load_slot c x rsp (spill_slot k) z stack (let few = o.0 in omega (arith, ground.frame.low, few)) mapped in
       let byte : (q : ℕ) → q < count → (r : ℕ) → r < w * prefix → get_or (l.0.xmm x) (q * (w * prefix) + r) 0 ≡ digit ((sig q).values (slot_place k)) r = λ q lq r lr.
       let b = q * (w * prefix) + r in
@@ -575,7 +575,7 @@ module _ (n : ℕ) (base size : ℕ → ℕ) (P : ℕ → Type 0) (numbers : Num
         },
       )
   result_line i w prefix x (ToSlot k) g c first live sig totals Out few known wide fits at stack h framed bytes lanes stand o keeps =
-      let s = store_slot c x rsp (spill_slot k) stack (omega (arith, ground.frame.low, known)) (framed.spilled k known) in
+      let s = store_slot c x rsp (spill_slot k) stack (omega (arith, ground.frame.low, known)) (λ b lb. framed.spilled (rsp + spill_slot k + b) (omega arith, omega (arith, known, lb))) in
       let d = s.0 in
       let z : ℕ → ℕ = λ b. get_or (c.xmm x) b 0 in
       let f : IsFill 16 c.memory (rsp + spill_slot k) z d.memory = s.4 in

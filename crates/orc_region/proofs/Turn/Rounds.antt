@@ -79,7 +79,7 @@ module _ (n : ℕ) (base : ℕ → ℕ) (P : ℕ → Type 0) (numbers : Numbers)
             calm = record { stack = b.gpr 4 (λ e. omega (arith, e)) (λ e. omega (arith, e)) ∙ x.calm.stack; quiet = λ a k s. refl };
             agree = λ a nf. b.memory a (λ w. nf (free_frame a w)) ∙ x.agree a nf;
             mapped = x.mapped;
-            framed = framed_below numbers rsp frame c.memory d.memory h.totals (λ a l u. b.memory a (λ w. omega (arith, w.0, u))) (λ a l u. b.mapped a) x.framed;
+            framed = framed_below numbers rsp frame c.memory d.memory h.totals (λ a l u. b.memory a (λ w. omega (arith, w.0, u))) (λ a i. b.mapped a) x.framed;
             bounded = bounded;
           };
           emulated = h.emulated;
