@@ -1,6 +1,6 @@
 //! The lists of instructions of a function's blocks and turns.
 
-ghost use Rattle.std.specs.Prelude.{◌≡◌, ◌≢◌, ◌<◌, ◌≤◌, ◌+◌, ◌*◌, ◌++◌, ◌∷◌, [], All, OnOk, length, map, slice_index, true, pos};
+ghost use Rattle.std.specs.Prelude.{◌≡◌, ◌≢◌, ◌<◌, ◌≤◌, ◌+◌, ◌-◌, ◌*◌, ◌++◌, ◌∷◌, [], All, OnOk, length, map, slice_index, true, pos};
 ghost use Rattle.x86_ins.specs.declared.ins.AluOp.TheVariants.{Add};
 ghost use Rattle.x86_ins.specs.declared.ins.Ins.TheVariants.{AluImm, VecLoad, VecStore};
 ghost use Rattle.x86_ins.specs.declared.ins.MoveOp.TheVariants.{Movdqu};
@@ -10,7 +10,7 @@ ghost use Rattle.x86_ins.specs.Way.{Each};
 ghost use Rattle.x86_flow.specs.Moves.{IsWidth, away, load_far_code, store_either_code};
 ghost use Rattle.orc_frame.specs.Frame.{IsLayout};
 ghost use Rattle.orc_frame.specs.Layout.{pattern_slot, sum_slot};
-ghost use Rattle.orc_region.specs.StandIn.{spill_slot};
+ghost use Rattle.orc_region.specs.StandIn.{places, registers, spill_slot};
 ghost use Rattle.orc_region.specs.Code.{HasRule, pointer, place_register, aligned_first, far_by, source_of, target_of, source_far_code, sources_far_code, sum_code, result_far_code, results_far_code, advance_code, first_register, second_register, AddsRule, AddsAction, AddsActions, IsMoved, IsLoaded, IsStored, IsReady};
 
 use crate::homes::{Homes, REGISTERS, homes_of, names_of, place_register};
@@ -101,6 +101,16 @@ fn spill_slot_at(_layout: &Layout, number: usize) -> i32
     1024 + 16 * number as i32
 }
 
+/// Where the spill slot of a place past the registers is, in bytes above RSP.
+fn slot_of_place(layout: &Layout, place: u8) -> i32
+    requires layout { IsLayout layout.now }
+    requires slot { registers ≤ place }
+    requires inside { place < places }
+    ensures { result ≡ pos (spill_slot (place - registers)) }
+{
+    spill_slot_at(layout, usize::from(place - REGISTERS))
+}
+
 /// Adds what moves 16 bytes of the frame to a vector register.
 fn load_slot(list: &mut InsList, dst: Xmm, disp: i32) -> Result<(), AllocError>
     ensures { OnOk result (list.new ≡ list.old ++ VecLoad Movdqu dst (record { base = 4; disp = disp }) ∷ []) }
@@ -148,7 +158,7 @@ fn push_source(
                     src: place_register(place),
                 })
             } else {
-                load_slot(list, dst, spill_slot_at(layout, usize::from(place - REGISTERS)))
+                load_slot(list, dst, slot_of_place(layout, place))
             }
         }
         Item::Array(slot) => load_cells(list, sizes, slot as usize, dst, span),
@@ -223,7 +233,7 @@ fn push_result(
             if place < REGISTERS {
                 Ok(())
             } else {
-                store_slot(list, src, spill_slot_at(layout, usize::from(place - REGISTERS)))
+                store_slot(list, src, slot_of_place(layout, place))
             }
         }
         Item::Array(slot) => store_cells(list, sizes, slot as usize, src, span),

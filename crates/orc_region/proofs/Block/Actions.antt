@@ -294,7 +294,6 @@ module _ (n : ℕ) (base size : ℕ → ℕ) (P : ℕ → Type 0) (numbers : Num
           lanes = λ bytes q lq. lane_sub_lane (d.xmm x) w prefix q ((sig q).values p) (byte q lq);
         },
       )
-
   load_source i (FromSlot k) w prefix x c live sig totals o wide fits at stack h framed there room bound stays =
       let p = rsp + spill_slot k in
       let z : ℕ → ℕ = λ b. or_else 0 (c.memory (p + b)) in
