@@ -14,14 +14,13 @@ use Rattle.orc_program.specs.declared.program.VarKind.TheVariants as kind
 use Rattle.orc_program.specs.declared.program.Pattern.{Pattern}
 use Rattle.orc_program.specs.Program.{FunctionValue, count_of}
 use Rattle.orc_program.specs.Checks.{patterns_of}
-use Rattle.orc_program.specs.Need.{lanes}
+use Rattle.orc_program.specs.Need.{lanes, registers}
 use Rattle.orc_program.specs.Slots.{size_of_slot}
 use Rattle.orc_plan.specs.declared.steps.Item.{Item}
 use Rattle.orc_plan.specs.declared.steps.Item.TheVariants as item
 use Rattle.orc_plan.specs.declared.steps.Step.{Step}
 use Rattle.orc_plan.specs.Places.{GoodPlaces}
 use Rattle.orc_plan.specs.Lowered.{steps_of}
-use Rattle.orc_region.specs.StandIn.{places, registers, spill_slot}
 use Rattle.orc_region.specs.declared.span.Span.{Span}
 use Rattle.orc_region.specs.Regions.{aligned_row, plain_row}
 use Rattle.x86_ins.specs.declared.ins.Cond.TheVariants.{Ns}
@@ -30,7 +29,7 @@ use Rattle.x86_flow.specs.Flow.{Flow, Plain, Repeat, flat}
 use Rattle.x86_flow.specs.Moves.{IsWidth, away, load_far_code, store_either_code}
 use Rattle.x86_flow.specs.Tree.{flat_of}
 use Rattle.orc_frame.specs.declared.frame.Layout.{Layout}
-use Rattle.orc_frame.specs.Layout.{pattern_slot, sum_slot}
+use Rattle.orc_frame.specs.Layout.{pattern_slot, sum_slot, spill_slots, spill_slot}
 use Rattle.sse_laws.specs.Meets.{Meets, is_sum}
 use Rattle.sse_acc.specs.Sums.{AddsUp}
 
@@ -93,10 +92,6 @@ pointer (suc (suc (suc (suc k)))) = 8 + k
 -- the vector register of a place: XMM6 to XMM15
 abbrev pub place_register : ℕ → ℕ
 place_register p = 6 + p
-
--- the spill slots: the places that are no registers
-abbrev pub spill_slots : ℕ
-spill_slots = places - registers
 
 -- the place of a spill slot
 abbrev pub slot_place : ℕ → ℕ

@@ -1,4 +1,3 @@
 pub mod Stores
-pub mod StandIn
 pub mod Code
 pub mod Regions

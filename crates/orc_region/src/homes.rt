@@ -3,7 +3,7 @@
 ghost use Rattle.std.specs.Prelude.{◌≡◌, ◌≢◌, ◌<◌, ◌≤◌, ℕ, map, length, slice_index};
 ghost use Rattle.x86_ins.specs.Way.{Each};
 ghost use Rattle.x86_ins.specs.Renaming.{IsPermutation, renaming};
-ghost use Rattle.orc_region.specs.StandIn.{registers};
+ghost use Rattle.orc_program.specs.Need.{registers};
 ghost use Rattle.orc_region.specs.Code.{target_of, place_register, made_in, first_register, second_register, exchange, InPlaces};
 
 use orc_plan::{Item, place_of};

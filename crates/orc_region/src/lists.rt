@@ -9,14 +9,14 @@ ghost use Rattle.x86_ins.specs.Spelling.{IsIns};
 ghost use Rattle.x86_ins.specs.Way.{Each};
 ghost use Rattle.x86_flow.specs.Moves.{IsWidth, away, load_far_code, store_either_code};
 ghost use Rattle.orc_frame.specs.Frame.{IsLayout};
-ghost use Rattle.orc_frame.specs.Layout.{pattern_slot, sum_slot};
-ghost use Rattle.orc_region.specs.StandIn.{places, registers, spill_slot};
+ghost use Rattle.orc_frame.specs.Layout.{pattern_slot, sum_slot, spill_slot};
+ghost use Rattle.orc_program.specs.Need.{places, registers};
 ghost use Rattle.orc_region.specs.Code.{HasRule, pointer, place_register, aligned_first, far_by, source_of, target_of, source_far_code, sources_far_code, sum_code, result_far_code, results_far_code, advance_code, first_register, second_register, AddsRule, AddsAction, AddsActions, IsMoved, IsLoaded, IsStored, IsReady};
 
 use crate::homes::{Homes, REGISTERS, homes_of, names_of, place_register};
 use crate::rules::rule;
 use crate::span::Span;
-use orc_frame::{Layout, STACK, pattern_at, sum_at};
+use orc_frame::{Layout, STACK, pattern_at, spill_slot_at, sum_at};
 use orc_ops::Op;
 use orc_plan::{Item, Step, place_of};
 use std::alloc::AllocError;
@@ -91,14 +91,6 @@ fn store_cells(
     } else {
         push_store_far(list, span.count * size, src, pointer(slot), far)
     }
-}
-
-/// Where a spill slot is (stand-in).
-fn spill_slot_at(_layout: &Layout, number: usize) -> i32
-    requires { number < 64 }
-    ensures { result ≡ pos (spill_slot number) }
-{
-    1024 + 16 * number as i32
 }
 
 /// Where the spill slot of a place past the registers is, in bytes above RSP.

@@ -10,8 +10,9 @@ use Rattle.orc_program.specs.Meaning.{sub_lane, lanewise}
 use Rattle.x86_flow.proofs.Moves.{IsFill}
 use Rattle.sse_laws.specs.Meets.{is_shift, is_sum}
 use Rattle.x86_ins.specs.Way.{Each}
-use Rattle.orc_region.specs.StandIn.{registers}
-use Rattle.orc_region.specs.Code.{Action, Source, FromArray, FromPattern, FromPlace, FromSlot, Target, ToArray, ToSum, ToPlace, ToSlot, place_register, slot_place, spill_slots, first_register, second_register}
+use Rattle.orc_program.specs.Need.{registers}
+use Rattle.orc_frame.specs.Layout.{spill_slots}
+use Rattle.orc_region.specs.Code.{Action, Source, FromArray, FromPattern, FromPlace, FromSlot, Target, ToArray, ToSum, ToPlace, ToSlot, place_register, slot_place, first_register, second_register}
 use Rattle.orc_region.proofs.Arithmetic.Digits.{digit, byte_within, byte_further, byte_split, byte_apart}
 
 pub eq_yes : (x y : ℕ) → x ≡ y → (x == y) ≡ true

@@ -15,8 +15,8 @@ use Rattle.x86_flow.specs.Moves.{away}
 use Rattle.x86_flow.proofs.Moves.{IsFill, fill_is}
 use Rattle.sse_acc.specs.Sums.{sum_below, sum_of}
 use Rattle.sse_acc.proofs.Totals.{sum_below-zero, sum_below-suc, sum_below-same}
-use Rattle.orc_frame.specs.Layout.{pattern_slot, sum_slot, saved_slot}
-use Rattle.orc_region.specs.StandIn.{frame_size, spill_slot, InSpilled}
+use Rattle.orc_frame.specs.Layout.{pattern_slot, sum_slot, saved_slot, frame_size, spill_slot}
+use Rattle.orc_frame.specs.Parts.{InSpilled}
 use Rattle.orc_region.specs.Code.{ToSum}
 use Rattle.orc_region.proofs.Arithmetic.Digits.{digit, byte_within}
 use Rattle.orc_region.proofs.Block.Cells.{Numbers, adds_to, eq_yes}

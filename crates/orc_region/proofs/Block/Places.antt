@@ -2,7 +2,8 @@
 use Rattle.std.proofs.Common.{◌≡◌, ◌≢◌, ℕ, ◌+◌, ◌-◌, ◌<◌, ◌≤◌, true, false, nat_lt, if◌then◌else◌, get_or, Option, Some, refl, sym, ap, ap₂, ◌∙◌, subst, arith, ⊎_elim}
 use Rattle.std.proofs.lemmas.Bool.{cases_lt, lt-ltb, le-ltb}
 use Rattle.x86_ins.specs.Machine.{Core}
-use Rattle.orc_region.specs.StandIn.{registers, spill_slot}
+use Rattle.orc_program.specs.Need.{registers}
+use Rattle.orc_frame.specs.Layout.{spill_slot}
 use Rattle.orc_region.specs.Code.{Source, FromPlace, FromSlot, Target, ToPlace, ToSlot, place_register, slot_place, from_place, to_place}
 
 -- ---- where a value comes from and where it goes

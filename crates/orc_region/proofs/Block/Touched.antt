@@ -13,8 +13,7 @@ use Rattle.x86_flow.proofs.Moves.{each_width}
 use Rattle.x86_flow.proofs.Spelled.{each_both}
 use Rattle.x86_flow.proofs.Touching.{touches_none, touches_in}
 use Rattle.x86_flow.proofs.Words.{at_away}
-use Rattle.orc_frame.specs.Layout.{pattern_slot, sum_slot}
-use Rattle.orc_region.specs.StandIn.{frame_size, spill_slot}
+use Rattle.orc_frame.specs.Layout.{pattern_slot, sum_slot, frame_size, spill_slot}
 use Rattle.orc_ops.specs.declared.opcode.Op.{Op}
 use Rattle.orc_ops.specs.Table.{size_of_result, size_of_source}
 use Rattle.orc_region.specs.Stores.{IsMovdquStore}

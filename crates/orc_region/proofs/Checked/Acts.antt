@@ -12,7 +12,7 @@ use Rattle.orc_program.specs.declared.program.Pattern.{Pattern}
 use Rattle.orc_program.specs.Program.{FunctionValue, var_at, same_kind, is_of, temps_among, is_temp}
 use Rattle.orc_program.specs.Checks.{number_in, way_of, uses_from, patterns_of, source_fault, sources_fault, result_fault, results_fault, insn_fault}
 use Rattle.orc_program.specs.Kept.{is_function, all_pass, is_shaped, is_in_range, has_no_fault, result_count, source_count}
-use Rattle.orc_program.specs.Need.{is_in, made_by, read_by}
+use Rattle.orc_program.specs.Need.{is_in, made_by, read_by, places, registers, spills}
 use Rattle.orc_program.proofs.Sizes.{both, kept_of}
 use Rattle.x86_ins.specs.Way.{Each}
 use Rattle.sse_laws.specs.Meets.{is_sum}
@@ -23,7 +23,6 @@ use Rattle.orc_plan.specs.Lowered.{last_value, acc_item, result_item, result_ite
 use Rattle.orc_plan.specs.Standing.{Stands, StandAt, AllStand}
 use Rattle.orc_plan.proofs.Last.{last_below}
 use Rattle.orc_program.specs.Slots.{slot_of}
-use Rattle.orc_region.specs.StandIn.{places, registers, spills}
 use Rattle.orc_region.specs.Code.{Source, FromArray, FromPattern, FromPlace, FromSlot, Target, ToPlace, ToSlot, slot_place, to_place, source_of, target_of, patterns_in, place_register, made_in, first_register, second_register}
 use Rattle.orc_region.proofs.Block.Places.{by_target}
 use Rattle.orc_region.proofs.Block.Emulated.{IsTemp}

@@ -22,8 +22,9 @@ use Rattle.orc_plan.specs.declared.steps.Step.{Step}
 use Rattle.orc_plan.specs.Lowered.{last_value, acc_item, result_item, pattern_item, var_item, source_item}
 use Rattle.orc_plan.specs.Standing.{Stands}
 use Rattle.orc_frame.specs.Frame.{no_pattern}
-use Rattle.orc_region.specs.StandIn.{places, registers, spills}
-use Rattle.orc_region.specs.Code.{Source, FromArray, FromPattern, FromPlace, FromSlot, Target, ToArray, ToSum, ToPlace, ToSlot, slot_place, spill_slots, to_place, source_of, target_of, patterns_in}
+use Rattle.orc_program.specs.Need.{places, registers, spills}
+use Rattle.orc_frame.specs.Layout.{spill_slots}
+use Rattle.orc_region.specs.Code.{Source, FromArray, FromPattern, FromPlace, FromSlot, Target, ToArray, ToSum, ToPlace, ToSlot, slot_place, to_place, source_of, target_of, patterns_in}
 use Rattle.orc_region.proofs.Block.Places.{by_source, by_target}
 use Rattle.orc_region.proofs.Block.Emulated.{IsCells, IsDest, IsSum, IsTemp}
 use Rattle.orc_region.proofs.Checked.Passing.{none_left, unchecked, size_ok, no_sum}

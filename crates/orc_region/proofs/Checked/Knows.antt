@@ -15,8 +15,7 @@ use Rattle.orc_program.specs.declared.call.Call.{Call}
 use Rattle.orc_program.specs.Program.{FunctionValue, var_at, same_kind, is_array_kind, count_of, count_before, places_of}
 use Rattle.orc_program.specs.Slots.{slot_of, size_of_slot}
 use Rattle.orc_program.specs.Checks.{way_of}
-use Rattle.orc_program.specs.Need.{made_by, is_array_operand, source_cost}
-use Rattle.orc_region.specs.StandIn.{spills, result_cost, insn_cost, cost}
+use Rattle.orc_program.specs.Need.{made_by, is_array_operand, source_cost, spills, result_cost, insn_cost, cost}
 use Rattle.orc_program.specs.Kept.{is_function}
 use Rattle.orc_program.proofs.PatternLaws.{patterns_few}
 use Rattle.x86_flow.specs.Moves.{IsWidth}

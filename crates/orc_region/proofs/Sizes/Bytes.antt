@@ -17,8 +17,7 @@ use Rattle.x86_ins.specs.Way.{Each}
 use Rattle.x86_flow.specs.Flow.{size}
 use Rattle.x86_flow.specs.Moves.{IsWidth, away, store_either_code}
 use Rattle.x86_flow.proofs.Spelled.{IsFine, fine_alu_imm, fits_up, each_both, size_within, fine_load_far, fine_store_far, fine_aligned_store, fine_vec_load, fine_vec_store}
-use Rattle.orc_frame.specs.Layout.{pattern_slot, sum_slot}
-use Rattle.orc_region.specs.StandIn.{spill_slot}
+use Rattle.orc_frame.specs.Layout.{pattern_slot, sum_slot, spill_slot}
 use Rattle.orc_region.specs.Code.{Action, IsRule, Source, FromArray, FromPattern, FromPlace, FromSlot, Target, ToArray, ToSum, ToPlace, ToSlot, Plan, pointer, place_register, made_in, first_register, second_register, rule_register, rule_code, at_pointer, unaligned, aligned_first, source_far_code, sources_far_code, sum_code, result_far_code, results_far_code, action_far_code, actions_far_code, actions_code, advance_code, block_far, blocks_code, turn_code, blocks_turn_code}
 use Rattle.orc_region.proofs.Block.Keeping.{ins_of}
 use Rattle.orc_region.proofs.Block.RuleRegisters.{register_small}

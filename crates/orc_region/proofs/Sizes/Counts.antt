@@ -8,8 +8,9 @@ use Rattle.x86_ins.specs.Renaming.{renamed}
 use Rattle.x86_ins.specs.Way.{Each}
 use Rattle.x86_flow.specs.Moves.{IsWidth, load_far_code, store_either_code}
 use Rattle.x86_flow.proofs.Moves.{each_width}
-use Rattle.orc_region.specs.StandIn.{registers}
-use Rattle.orc_region.specs.Code.{Action, IsRule, Source, FromArray, FromPattern, FromPlace, FromSlot, Target, ToArray, ToSum, ToPlace, ToSlot, Plan, pointer, spill_slots, at_pointer, unaligned, first_register, second_register, rule_register, rule_code, source_far_code, sources_far_code, sum_code, result_far_code, results_far_code, action_far_code, actions_code, actions_far_code, advance_code, block_far, blocks_code, turn_code, blocks_turn_code}
+use Rattle.orc_program.specs.Need.{registers}
+use Rattle.orc_frame.specs.Layout.{spill_slots}
+use Rattle.orc_region.specs.Code.{Action, IsRule, Source, FromArray, FromPattern, FromPlace, FromSlot, Target, ToArray, ToSum, ToPlace, ToSlot, Plan, pointer, at_pointer, unaligned, first_register, second_register, rule_register, rule_code, source_far_code, sources_far_code, sum_code, result_far_code, results_far_code, action_far_code, actions_code, actions_far_code, advance_code, block_far, blocks_code, turn_code, blocks_turn_code}
 use Rattle.orc_region.proofs.Sizes.Cost.{from_weight, from_weights, to_weight, to_weights, weight, weights}
 
 -- a slot of an array whose elements can be moved so many at once, one of the frame, or a place's register

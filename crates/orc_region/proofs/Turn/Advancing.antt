@@ -15,7 +15,7 @@ use Rattle.orc_bits.specs.Numbers.{wrap}
 use Rattle.x86_flow.specs.Does.{Line}
 use Rattle.x86_flow.proofs.Moves.{line_append}
 use Rattle.x86_flow.proofs.Touching.{touches_none}
-use Rattle.orc_region.specs.StandIn.{InChanged}
+use Rattle.orc_frame.specs.Parts.{InChanged}
 use Rattle.orc_region.specs.Code.{Plan, Action, pointer, at_pointer, unaligned, action_far_code, actions_far_code, actions_code, block_far, blocks_code, blocks_turn_code, advance_code, turn_code}
 use Rattle.orc_region.proofs.Block.Registers.{not_0, not_1, not_4, not_7, pointer_one}
 use Rattle.sse_acc.specs.Sums.{sum_below}

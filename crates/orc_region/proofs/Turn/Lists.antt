@@ -1,15 +1,16 @@
 -- Turns of so many elements of a function's code: their lists are what the plan says, they are allowed, and their instructions and bytes are few.
-use Rattle.std.proofs.Common.{◌≡◌, ℕ, ◌+◌, ◌*◌, ◌≤◌, true, false, pos, List, [], ◌∷◌, ◌++◌, length, slice_index, sym, ap, ap₂, ◌∙◌, subst, arith, All, IsTrue, inl, inr, ⊎_elim}
-use Rattle.std.proofs.lemmas.Bool.{cases_lt}
+use Rattle.std.proofs.Common.{◌≡◌, ℕ, ◌+◌, ◌*◌, ◌<◌, ◌≤◌, ◌⊎◌, true, false, pos, List, [], ◌∷◌, ◌++◌, length, slice_index, sym, ap, ap₂, ◌∙◌, subst, arith, All, IsTrue, inl, inr, ⊎_elim}
+use Rattle.std.proofs.lemmas.Bool.{cases_lt, lt-ltb}
 use Rattle.std.proofs.lemmas.List.{get_or_past}
 use Rattle.orc_program.specs.declared.program.VarKind.TheVariants as kind
 use Rattle.orc_program.specs.Program.{FunctionValue, count_of}
 use Rattle.orc_program.specs.Kept.{is_function}
-use Rattle.orc_region.specs.StandIn.{registers, spills, cost}
+use Rattle.orc_program.specs.Need.{registers, largest_need, cost}
 use Rattle.orc_program.specs.Slots.{size_of_slot}
 use Rattle.orc_plan.specs.Lowered.{steps_of, sizes_of}
 use Rattle.orc_plan.specs.Places.{GoodPlaces}
 use Rattle.orc_plan.proofs.Standing.{all_stand}
+use Rattle.orc_plan.proofs.SameNeed.{same_widest}
 use Rattle.x86_ins.specs.declared.ins.Ins.{Ins}
 use Rattle.x86_ins.specs.declared.ins.AluOp.TheVariants.{Sub}
 use Rattle.x86_ins.specs.declared.ins.Ins.TheVariants.{AluImm}
@@ -44,7 +45,11 @@ module _ (f : FunctionValue) (h : is_function f ≡ true) (at : List ℕ) (good 
   steps = slice_index (sizes_of f)
 
   paid_is : IsPaid f at
-  paid_is v g = absurd (⊎_elim (λ l. let b = good.below v l in omega (arith, b, g)) (λ m. let z = get_or_past at v 0 m in omega (arith, z, g)) (cases_lt v (length at)))
+  paid_is v g = ⊎_elim (λ many. lt-ltb registers (largest_need f) many) (λ few. absurd (near few (cases_lt v (length at)))) (cases_lt registers (largest_need f))
+    where
+      near : largest_need f ≤ registers → (v < length at) ⊎ (length at ≤ v) → ⊥
+      near few (inl l) = let b = good.near (subst (λ n. n ≤ registers) (sym (same_widest f)) few) v l in omega (arith, b, g)
+      near few (inr m) = let z = get_or_past at v 0 m in omega (arith, z, g)
 
   pub stand_is : AllPlaced f at
   stand_is = record { stand = all_stand f h at good; paid = paid_is }

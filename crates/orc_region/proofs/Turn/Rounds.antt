@@ -15,7 +15,8 @@ use Rattle.orc_region.specs.Code.{Action, Plan, pointer, aligned_first, action_f
 use Rattle.orc_region.specs.Regions.{plain_row, aligned_row}
 use Rattle.orc_region.proofs.Block.Registers.{not_0, not_1}
 use Rattle.orc_region.proofs.Block.Cells.{Numbers}
-use Rattle.orc_region.specs.StandIn.{frame_size, InChanged}
+use Rattle.orc_frame.specs.Layout.{frame_size}
+use Rattle.orc_frame.specs.Parts.{InChanged}
 use Rattle.orc_region.proofs.Block.Frames.{framed_below}
 use Rattle.orc_region.proofs.Block.Actions.{IsFit}
 use Rattle.orc_region.proofs.Block.Touched.{TouchesPart}
