@@ -22,7 +22,7 @@ use Rattle.orc_bits.specs.Lanes.{lane}
 use Rattle.orc_bits.proofs.LaneLaws.{lane_of_digits}
 use Rattle.sse_acc.specs.Sums.{sum_of}
 use Rattle.sse_acc.proofs.Totals.{sum_below-same}
-use Rattle.orc_frame.specs.Layout.{layout_of, pattern_slot, sum_slot, saved_slot, spill_slot, frame_size, row_slot}
+use Rattle.orc_frame.specs.Layout.{layout_of, pattern_slot, sum_slot, saved_slot, frame_size, row_slot}
 use Rattle.orc_frame.specs.Frame.{IsLayout, Prepares, Finishes, Enters, Prepared, Ends, AfterEntry, AfterRows, acc_size, no_pattern, pattern_at, pattern_byte, saved}
 use Rattle.orc_frame.specs.Frame.{number_of as held}
 use Rattle.orc_frame.proofs.Facts.{Facts, facts}

@@ -23,7 +23,7 @@ use Rattle.orc_plan.specs.Lowered.{last_value, acc_item, result_item, result_ite
 use Rattle.orc_plan.specs.Standing.{Stands, StandAt, AllStand}
 use Rattle.orc_plan.proofs.Last.{last_below}
 use Rattle.orc_program.specs.Slots.{slot_of}
-use Rattle.orc_region.specs.Code.{Source, FromArray, FromPattern, FromPlace, FromSlot, Target, ToPlace, ToSlot, slot_place, to_place, source_of, target_of, patterns_in, place_register, made_in, first_register, second_register}
+use Rattle.orc_region.specs.Code.{Source, FromArray, FromPattern, FromPlace, FromSlot, Target, ToPlace, to_place, source_of, target_of, patterns_in, place_register, made_in, first_register, second_register}
 use Rattle.orc_region.proofs.Block.Places.{by_target}
 use Rattle.orc_region.proofs.Block.Emulated.{IsTemp}
 use Rattle.orc_region.proofs.Block.Elements.{Follows}
