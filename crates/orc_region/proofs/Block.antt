@@ -6,6 +6,7 @@ pub mod Emulated
 pub mod Frames
 pub mod Keeping
 pub mod Names
+pub mod Places
 pub mod Registers
 pub mod RuleRegisters
 pub mod Touched

@@ -1,5 +1,5 @@
 -- The code of a function: the compiler's plan.
-use Rattle.std.specs.Prelude.{◌≡◌, ℕ, zero, suc, ◌+◌, ◌*◌, ◌/◌, ◌<◌, ◌≤◌, ◌==◌, ◌&&◌, nat_lt, Bool, true, false, if◌then◌else◌, pos, List, [], ◌∷◌, ◌++◌, length, map, slice_index}
+use Rattle.std.specs.Prelude.{◌≡◌, ℕ, zero, suc, ◌+◌, ◌-◌, ◌*◌, ◌/◌, ◌<◌, ◌≤◌, ◌==◌, ◌&&◌, nat_lt, Bool, true, false, if◌then◌else◌, pos, List, [], ◌∷◌, ◌++◌, length, map, slice_index}
 use Rattle.x86_ins.specs.declared.ins.AluOp.TheVariants.{Add, Sub}
 use Rattle.x86_ins.specs.declared.ins.Ins.{Ins}
 use Rattle.x86_ins.specs.declared.ins.Ins.TheVariants.{AluImm, Vec, VecLoad, VecStore}
@@ -14,7 +14,7 @@ use Rattle.orc_program.specs.declared.program.VarKind.TheVariants as kind
 use Rattle.orc_program.specs.declared.program.Pattern.{Pattern}
 use Rattle.orc_program.specs.Program.{FunctionValue, count_of}
 use Rattle.orc_program.specs.Checks.{patterns_of}
-use Rattle.orc_program.specs.Need.{lanes}
+use Rattle.orc_program.specs.Need.{lanes, registers}
 use Rattle.orc_program.specs.Slots.{size_of_slot}
 use Rattle.orc_plan.specs.declared.steps.Item.{Item}
 use Rattle.orc_plan.specs.declared.steps.Item.TheVariants as item
@@ -29,28 +29,30 @@ use Rattle.x86_flow.specs.Flow.{Flow, Plain, Repeat, flat}
 use Rattle.x86_flow.specs.Moves.{IsWidth, away, load_far_code, store_either_code}
 use Rattle.x86_flow.specs.Tree.{flat_of}
 use Rattle.orc_frame.specs.declared.frame.Layout.{Layout}
-use Rattle.orc_frame.specs.Layout.{pattern_slot, sum_slot}
+use Rattle.orc_frame.specs.Layout.{pattern_slot, sum_slot, spill_slots, spill_slot}
 use Rattle.sse_laws.specs.Meets.{Meets, is_sum}
 use Rattle.sse_acc.specs.Sums.{AddsUp}
 
--- where a source comes from: the elements of an array's slot, a pattern, or the place of a value
+-- where a source comes from: the elements of an array's slot, a pattern, or a value, from the register of its place or from a spill slot
 pub data Source : Type 0 where
   FromArray : ℕ → Source
   FromPattern : ℕ → Source
   FromPlace : ℕ → Source
+  FromSlot : ℕ → Source
 
--- where a result goes: the elements of an array's slot, a running sum, or the place of a value
+-- where a result goes: the elements of an array's slot, a running sum, or a value, to the register of its place or to a spill slot
 pub data Target : Type 0 where
   ToArray : ℕ → Target
   ToSum : ℕ → Target
   ToPlace : ℕ → Target
+  ToSlot : ℕ → Target
 
 -- what an instruction's code does
 pub record Action : Type 0 where
   pub op : Op
   -- how many adjacent sub-lanes of an element it works on
   pub prefix : ℕ
-  -- one or two arrays or places, or one sum
+  -- one or two arrays, places or spill slots, or one sum
   pub to : List Target
   -- one or two
   pub sources : List Source
@@ -91,11 +93,16 @@ pointer (suc (suc (suc (suc k)))) = 8 + k
 abbrev pub place_register : ℕ → ℕ
 place_register p = 6 + p
 
--- the register in which a result is made that the rule makes in register x: the place's own, where it goes to a place
+-- the place of a spill slot
+abbrev pub slot_place : ℕ → ℕ
+slot_place k = registers + k
+
+-- the register in which a result is made that the rule makes in register x: the place's own, where it goes to one
 abbrev pub made_in : ℕ → Target → ℕ
 made_in x (ToArray k) = x
 made_in x (ToSum g) = x
 made_in x (ToPlace p) = place_register p
+made_in x (ToSlot k) = x
 
 -- the register of the first source and of the first result
 abbrev pub first_register : List Target → ℕ
@@ -123,6 +130,7 @@ abbrev pub source_far_code : ℕ → (ℕ → ℕ) → (ℕ → ℕ) → ℕ →
 source_far_code count size far x (FromArray k) = load_far_code (count * size k) x (pointer k) (far k)
 source_far_code count size far x (FromPattern j) = VecLoad Movdqu x (away 4 (pattern_slot j)) ∷ []
 source_far_code count size far x (FromPlace p) = Vec Movdqa x (place_register p) ∷ []
+source_far_code count size far x (FromSlot k) = VecLoad Movdqu x (away 4 (spill_slot k)) ∷ []
 
 -- the first source goes to register x, and the second to register y
 abbrev pub sources_far_code : ℕ → (ℕ → ℕ) → (ℕ → ℕ) → ℕ → ℕ → List Source → List Ins
@@ -139,11 +147,12 @@ sum_code other = []
 abbrev pub rule_code : Action → List Ins
 rule_code a = map (renamed (rule_register a.to)) a.rule
 
--- a result comes from a vector register, for some slots by aligned stores, and a running sum from XMM2; that of a place is there
+-- a result comes from a vector register, for some slots by aligned stores, and a running sum from XMM2; what goes to a place's register is there
 abbrev pub result_far_code : ℕ → (ℕ → ℕ) → (ℕ → ℕ) → (ℕ → Bool) → ℕ → Target → List Ins
 result_far_code count size far aligned x (ToArray k) = store_either_code (aligned k) (count * size k) x (pointer k) (far k)
 result_far_code count size far aligned x (ToSum g) = VecStore Movdqu 2 (away 4 (sum_slot g)) ∷ []
 result_far_code count size far aligned x (ToPlace p) = []
+result_far_code count size far aligned x (ToSlot k) = VecStore Movdqu x (away 4 (spill_slot k)) ∷ []
 
 -- the first result comes from XMM0, and after it a second one from XMM1
 abbrev pub results_far_code : ℕ → (ℕ → ℕ) → (ℕ → ℕ) → (ℕ → Bool) → List Target → List Ins
@@ -217,16 +226,23 @@ blocks_turn_code p aligned count b = blocks_code p aligned count b ++ (advance_c
 
 -- ---- from steps with places to a plan
 
+-- where a value at a place comes from, and where it goes: to the place's register, or to a spill slot
+abbrev pub from_place : ℕ → Source
+from_place p = if nat_lt p registers then FromPlace p else FromSlot (p - registers)
+
+abbrev pub to_place : ℕ → Target
+to_place p = if nat_lt p registers then ToPlace p else ToSlot (p - registers)
+
 -- where an item of a step comes from as a source; no source is a sum
 abbrev pub source_of : List ℕ → Item → Source
-source_of at (item.Value v) = FromPlace (slice_index at v)
+source_of at (item.Value v) = from_place (slice_index at v)
 source_of at (item.Array slot) = FromArray slot
 source_of at (item.Acc slot size) = FromArray slot
 source_of at (item.Pattern j) = FromPattern j
 
 -- where it goes as a result; no result is a pattern
 abbrev pub target_of : List ℕ → Item → Target
-target_of at (item.Value v) = ToPlace (slice_index at v)
+target_of at (item.Value v) = to_place (slice_index at v)
 target_of at (item.Array slot) = ToArray slot
 target_of at (item.Acc slot size) = ToSum slot
 target_of at (item.Pattern j) = ToArray j
@@ -333,23 +349,26 @@ IsElements f tree =
 abbrev pub IsMoved : (ℕ → ℕ) → ℕ → ℕ → Type 0
 IsMoved size count k = (k < 12) × IsWidth (count * size k)
 
--- a result that goes to a place goes to one that there is
+-- a result that goes to a place's register goes to one that there is
 abbrev pub InPlaces : Target → Type 0
 InPlaces (ToArray k) = Unit {0}
 InPlaces (ToSum g) = Unit {0}
-InPlaces (ToPlace p) = p < 10
+InPlaces (ToPlace p) = p < registers
+InPlaces (ToSlot k) = Unit {0}
 
 -- a source can be loaded, where the function has this layout
 abbrev pub IsLoaded : Layout → (ℕ → ℕ) → ℕ → Source → Type 0
 IsLoaded l size count (FromArray k) = IsMoved size count k
 IsLoaded l size count (FromPattern j) = j < length l.patterns.items
-IsLoaded l size count (FromPlace p) = p < 10
+IsLoaded l size count (FromPlace p) = p < registers
+IsLoaded l size count (FromSlot k) = k < spill_slots
 
 -- a result can be stored
 abbrev pub IsStored : Layout → (ℕ → ℕ) → ℕ → Target → Type 0
 IsStored l size count (ToArray k) = IsMoved size count k
 IsStored l size count (ToSum g) = g < length l.acc_sizes.items
-IsStored l size count (ToPlace p) = p < 10
+IsStored l size count (ToPlace p) = p < registers
+IsStored l size count (ToSlot k) = k < spill_slots
 
 pub record IsReady (l : Layout) (at : List ℕ) (size : ℕ → ℕ) (count : ℕ) (step : Step) : Type 0 where
   pub has_rule : HasRule count step.op

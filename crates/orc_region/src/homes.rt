@@ -3,10 +3,14 @@
 ghost use Rattle.std.specs.Prelude.{◌≡◌, ◌≢◌, ◌<◌, ◌≤◌, ℕ, map, length, slice_index};
 ghost use Rattle.x86_ins.specs.Way.{Each};
 ghost use Rattle.x86_ins.specs.Renaming.{IsPermutation, renaming};
+ghost use Rattle.orc_program.specs.Need.{registers};
 ghost use Rattle.orc_region.specs.Code.{target_of, place_register, made_in, first_register, second_register, exchange, InPlaces};
 
 use orc_plan::{Item, place_of};
 use x86_ins::Xmm;
+
+/// The number of places that are vector registers. Each place past them is a slot of the frame.
+pub const REGISTERS: u8 = 10;
 
 /// The registers in which an instruction's results are made, which are also those of its sources.
 #[derive(Clone, Copy)]
@@ -19,20 +23,27 @@ pub struct Homes {
 
 /// The register of a place: XMM6 to XMM15.
 pub fn place_register(place: u8) -> Xmm
-    requires { place < 10 }
+    requires { place < registers }
     ensures { result ≡ place_register place }
 {
     Xmm { number: 6 + place }
 }
 
-/// The register in which a result is made that a rule makes in XMM `number`: that of its place, where it goes to one.
+/// The register in which a result is made that a rule makes in XMM `number`: that of its place, where it has one.
 fn made_in(at: &[u8], number: u8, item: Item) -> Xmm
     requires few { number < 6 }
     requires places { InPlaces (target_of at.now item) }
     ensures { result ≡ made_in number (target_of at.now item) }
 {
     match item {
-        Item::Value(value) => place_register(place_of(at, value)),
+        Item::Value(value) => {
+            let place = place_of(at, value);
+            if place < REGISTERS {
+                place_register(place)
+            } else {
+                Xmm { number }
+            }
+        }
         Item::Array(_) | Item::Acc { .. } | Item::Pattern(_) => Xmm { number },
     }
 }

@@ -1,6 +1,6 @@
 //! The lists of instructions of a function's blocks and turns.
 
-ghost use Rattle.std.specs.Prelude.{◌≡◌, ◌≢◌, ◌<◌, ◌≤◌, ◌+◌, ◌*◌, ◌++◌, ◌∷◌, [], All, OnOk, length, map, slice_index, true, pos};
+ghost use Rattle.std.specs.Prelude.{◌≡◌, ◌≢◌, ◌<◌, ◌≤◌, ◌+◌, ◌-◌, ◌*◌, ◌++◌, ◌∷◌, [], All, OnOk, length, map, slice_index, true, pos};
 ghost use Rattle.x86_ins.specs.declared.ins.AluOp.TheVariants.{Add};
 ghost use Rattle.x86_ins.specs.declared.ins.Ins.TheVariants.{AluImm, VecLoad, VecStore};
 ghost use Rattle.x86_ins.specs.declared.ins.MoveOp.TheVariants.{Movdqu};
@@ -9,13 +9,14 @@ ghost use Rattle.x86_ins.specs.Spelling.{IsIns};
 ghost use Rattle.x86_ins.specs.Way.{Each};
 ghost use Rattle.x86_flow.specs.Moves.{IsWidth, away, load_far_code, store_either_code};
 ghost use Rattle.orc_frame.specs.Frame.{IsLayout};
-ghost use Rattle.orc_frame.specs.Layout.{pattern_slot, sum_slot};
+ghost use Rattle.orc_frame.specs.Layout.{pattern_slot, sum_slot, spill_slot};
+ghost use Rattle.orc_program.specs.Need.{places, registers};
 ghost use Rattle.orc_region.specs.Code.{HasRule, pointer, place_register, aligned_first, far_by, source_of, target_of, source_far_code, sources_far_code, sum_code, result_far_code, results_far_code, advance_code, first_register, second_register, AddsRule, AddsAction, AddsActions, IsMoved, IsLoaded, IsStored, IsReady};
 
-use crate::homes::{Homes, homes_of, names_of, place_register};
+use crate::homes::{Homes, REGISTERS, homes_of, names_of, place_register};
 use crate::rules::rule;
 use crate::span::Span;
-use orc_frame::{Layout, STACK, pattern_at, sum_at};
+use orc_frame::{Layout, STACK, pattern_at, spill_slot_at, sum_at};
 use orc_ops::Op;
 use orc_plan::{Item, Step, place_of};
 use std::alloc::AllocError;
@@ -92,6 +93,16 @@ fn store_cells(
     }
 }
 
+/// Where the spill slot of a place past the registers is, in bytes above RSP.
+fn slot_of_place(layout: &Layout, place: u8) -> i32
+    requires layout { IsLayout layout.now }
+    requires slot { registers ≤ place }
+    requires inside { place < places }
+    ensures { result ≡ pos (spill_slot (place - registers)) }
+{
+    spill_slot_at(layout, usize::from(place - REGISTERS))
+}
+
 /// Adds what moves 16 bytes of the frame to a vector register.
 fn load_slot(list: &mut InsList, dst: Xmm, disp: i32) -> Result<(), AllocError>
     ensures { OnOk result (list.new ≡ list.old ++ VecLoad Movdqu dst (record { base = 4; disp = disp }) ∷ []) }
@@ -114,7 +125,7 @@ fn store_slot(list: &mut InsList, src: Xmm, disp: i32) -> Result<(), AllocError>
     })
 }
 
-/// Adds what brings a source to a register: elements of an array, a pattern, or a value from its place.
+/// Adds what brings a source to a register: elements of an array, a pattern, or a value from its place, a register or a slot of the frame.
 fn push_source(
     list: &mut InsList,
     at: &[u8],
@@ -130,11 +141,18 @@ fn push_source(
     ensures { OnOk result (list.new ≡ list.old ++ source_far_code span.count (slice_index sizes.now) (far_by span.first (slice_index sizes.now)) dst (source_of at.now item)) }
 {
     match item {
-        Item::Value(value) => list.push(Ins::Vec {
-            op: VecOp::Movdqa,
-            dst,
-            src: place_register(place_of(at, value)),
-        }),
+        Item::Value(value) => {
+            let place = place_of(at, value);
+            if place < REGISTERS {
+                list.push(Ins::Vec {
+                    op: VecOp::Movdqa,
+                    dst,
+                    src: place_register(place),
+                })
+            } else {
+                load_slot(list, dst, slot_of_place(layout, place))
+            }
+        }
         Item::Array(slot) => load_cells(list, sizes, slot as usize, dst, span),
         Item::Acc { slot, .. } => load_cells(list, sizes, slot as usize, dst, span),
         Item::Pattern(number) => load_slot(list, dst, pattern_at(layout, number as usize)),
@@ -185,7 +203,8 @@ fn push_sum(
     }
 }
 
-/// Adds what stores a result: elements of an array, or a running sum. A value is in its place already.
+/// Adds what stores a result: elements of an array, a running sum, or a value whose place is a slot of the frame. One whose place is a register
+/// is there already.
 fn push_result(
     list: &mut InsList,
     at: &[u8],
@@ -201,7 +220,14 @@ fn push_result(
     ensures { OnOk result (list.new ≡ list.old ++ result_far_code span.count (slice_index sizes.now) (far_by span.first (slice_index sizes.now)) (aligned_first span.aligned) src (target_of at.now item)) }
 {
     match item {
-        Item::Value(_) => Ok(()),
+        Item::Value(value) => {
+            let place = place_of(at, value);
+            if place < REGISTERS {
+                Ok(())
+            } else {
+                store_slot(list, src, slot_of_place(layout, place))
+            }
+        }
         Item::Array(slot) => store_cells(list, sizes, slot as usize, src, span),
         Item::Pattern(slot) => store_cells(list, sizes, slot as usize, src, span),
         Item::Acc { slot, .. } => store_slot(list, SUM, sum_at(layout, slot as usize)),

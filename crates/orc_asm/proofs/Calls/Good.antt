@@ -23,7 +23,7 @@ abbrev pub memory : Memory
 memory a =
     if a == 65536 then Some 5
     else if inside 4096 4400 a then Some (if a == 4096 then 1 else if a == 4114 then 1 else 0)
-    else if inside 1047552 1048584 a then Some 0
+    else if inside 1046528 1048584 a then Some 0
     else None
 
 abbrev pub core : Core
@@ -49,7 +49,7 @@ abbrev pub subject : Subject
 subject = subject_of doubles
 
 abbrev Known : ℕ → Type 0
-Known a = (a ≡ 65536) ⊎ (((4096 ≤ a) × (a < 4400)) ⊎ ((1047552 ≤ a) × (a < 1048584)))
+Known a = (a ≡ 65536) ⊎ (((4096 ≤ a) × (a < 4400)) ⊎ ((1046528 ≤ a) × (a < 1048584)))
 
 mapped : (a : ℕ) → Known a → IsMapped memory a
 mapped a h = grind (arith)

@@ -30,11 +30,10 @@ use Rattle.orc_frame.proofs.Fills.{IsKnown}
 use Rattle.orc_frame.proofs.Apart.{length-acc_sizes_of}
 use Rattle.orc_program.proofs.Places.{length-places_of}
 use Rattle.orc_frame.specs.Subject.{Call as Arguments, InDests, rows}
-use Rattle.orc_frame.specs.Parts.{InFrame, InRunning, InBlock, InSums, param_word, sum_word, block_size}
+use Rattle.orc_frame.specs.Parts.{InFrame, InRunning, InChanged, InBlock, InSums, param_word, sum_word, block_size}
 use Rattle.orc_frame.specs.GoodCall.{GoodCall}
 use Rattle.orc_frame.specs.Function.{IsCellByte, subject_of}
 use Rattle.orc_plan.specs.Lowered.{steps_of}
-use Rattle.orc_plan.specs.Standing.{AllStand}
 use Rattle.orc_program.specs.Need.{lanes, turns}
 use Rattle.x86_ins.specs.declared.ins.Cond.TheVariants.{Ns}
 use Rattle.x86_flow.specs.Flow.{Flow, Plain, Repeat}
@@ -51,7 +50,7 @@ use Rattle.orc_region.proofs.Turn.Advancing.{Setting, IsCell, IsDestCell, Inside
 use Rattle.orc_region.proofs.Turn.Rounds.{Outside, At, plain_done, aligned_done}
 use Rattle.orc_region.proofs.Sizes.Steps.{regions_of}
 use Rattle.orc_region.proofs.Checked.Direct.{pattern_of, number_of}
-use Rattle.orc_region.proofs.Checked.Acts.{StandsIn, nothing_stands}
+use Rattle.orc_region.proofs.Checked.Acts.{AllPlaced, StandsIn, nothing_stands}
 use Rattle.orc_region.proofs.Checked.Knows.{width_of, numbers_of, all_meant, all_known}
 use Rattle.orc_region.proofs.Checked.Layouts.{patterns_are, params_are, sizes_are}
 use Rattle.orc_region.proofs.Checked.Numbered.{nth_is, sum_size, number_is}
@@ -87,7 +86,7 @@ fills f = is_filled (count_of kind.Dest f.vars) (lanes f) (size_of_slot f.vars 0
 pub record Done (f : FunctionValue) (at : List ℕ) (single wide aligned : List Ins) (each some : ℕ) : Type 0 where
   pub is : is_function f ≡ true
   pub arrays : Arrays f
-  pub stand : AllStand f.vars (patterns_of f.vars f.insns) at [] f.insns
+  pub stand : AllPlaced f at
   pub positive : 0 < lanes f
   pub most : lanes f ≤ 16
   pub one : List Action
@@ -187,9 +186,9 @@ module _ (f : FunctionValue) (at : List ℕ) (single wide aligned : List Ins) (e
   is_frame = record { few_patterns = few_patterns; few_sums = known.few.accs; low = (let a = stack_room in omega (arith, a)) }
 
   -- the frame's slots stay
-  module _ (c d : Core) (same : (x : ℕ) → lowered ≤ x → x < lowered + row_slot 0 → (InRunning lowered numbers.sums x → ⊥) → d.memory x ≡ c.memory x) where
+  module _ (c d : Core) (same : (x : ℕ) → lowered ≤ x → x < lowered + row_slot 0 → (InChanged lowered numbers.sums x → ⊥) → d.memory x ≡ c.memory x) where
     words_stay : ((j : ℕ) → j < 6 → word c.memory (lowered + saved_slot j) ≡ Some (s.core.gpr (saved j))) → (j : ℕ) → j < 6 → word d.memory (lowered + saved_slot j) ≡ Some (s.core.gpr (saved j))
-    words_stay h j l = word_same d.memory c.memory (lowered + saved_slot j) (omega (arith, stack_room, l)) (λ x a b. same x (omega (arith, a)) (omega (arith, b, l)) (λ i. omega (arith, i.1, a, known.few.accs))) ∙ h j l
+    words_stay h j l = word_same d.memory c.memory (lowered + saved_slot j) (omega (arith, stack_room, l)) (λ x a b. same x (omega (arith, a)) (omega (arith, b, l)) (λ i. ⊎_elim (λ t. omega (arith, t.1, a, known.few.accs)) (λ t. omega (arith, t.0, b, l)) i)) ∙ h j l
 
   kept_on : (e : State) (c d : Core) → Kept e c → ((x : ℕ) → (InRows lowered (s.core.gpr 7) (stack_low f known code s args back good) good.block_low x → ⊥) → d.memory x ≡ c.memory x) → Kept e d
   kept_on e c d h same =
@@ -197,7 +196,7 @@ module _ (f : FunctionValue) (at : List ℕ) (single wide aligned : List Ins) (e
       record {
         saved_words = words_stay c d (λ x l u n. at x l u) h.saved_words;
         totals = h.totals;
-        framed = framed_below numbers lowered is_frame c.memory d.memory h.totals (λ x l u. at x l (omega (arith, u))) h.framed;
+        framed = framed_below numbers lowered is_frame c.memory d.memory h.totals (λ x l u. at x l (omega (arith, u))) (λ x i m. subst (λ o. is_some o ≡ true) (sym (same x (λ t. omega (arith, t.1, i.0)))) m) h.framed;
         agrees = h.agrees;
       }
 
@@ -289,6 +288,7 @@ module _ (f : FunctionValue) (at : List ℕ) (single wide aligned : List Ins) (e
                 bytes = λ g r. lit< tt;
                 sums = λ g l b lb. ap (λ a. d.memory (a + sum_slot g + b)) (sym stack) ∙ h.sums g (omega (arith, l, sums_count)) b lb;
                 totals_are = λ g l. ap (cut (8 * width_of f g)) (no_lanes (width_of f g));
+                spilled = λ x i. h.frame x ((let l = i.0 in omega (arith, l, stack)), (let u = i.1 in omega (arith, u, stack)));
               };
               agrees = λ p l k. sym (zero-mod (2 ^ (8 * (var_at f.vars p).size)));
             };
@@ -320,8 +320,8 @@ module _ (f : FunctionValue) (at : List ℕ) (single wide aligned : List Ins) (e
     apart : (k : ℕ) → Slot k → (i : ℕ) → i < args.n → (j : ℕ) → j < size k → Frame (base k + i * size k + j) → ⊥
     apart k h i l j lj w = cell_frame (base k + i * size k + j) (cell_cells f known code s args back good r row k h i l j lj) w
 
-    sums_frame : (a : ℕ) → InRunning lowered numbers.sums a → Frame a
-    sums_frame a h = (omega (arith, h.0), omega (arith, h.1, known.few.accs))
+    changed_frame : (a : ℕ) → InChanged lowered numbers.sums a → Frame a
+    changed_frame a h = ⊎_elim (λ i. (omega (arith, i.0), omega (arith, i.1, known.few.accs))) (λ i. (omega (arith, i.0), i.1)) h
 
     setting : (count : ℕ) (actions : List Action) → AreActions at count (steps_of f) actions → Setting args.n base Slot numbers lowered (plan_with f actions) Emul Frame
     setting count actions are = record {
@@ -339,7 +339,7 @@ module _ (f : FunctionValue) (at : List ℕ) (single wide aligned : List Ins) (e
       few = (arrays f known code s args back good).few;
       emulates = reaches f Args r base size Slot (separate f known code s args back good r row) (low f known code s args back good r row) has cells numbers (number_of f) (λ j. refl) (StandsIn at) actions ([], steps_of f) (nothing_stands at (steps_of f)) (all_meant f done.is at done.stand count actions are) e;
       apart = apart;
-      sums = sums_frame;
+      changed = changed_frame;
     }
 
     abbrev first_plan : Plan
@@ -388,7 +388,7 @@ module _ (f : FunctionValue) (at : List ℕ) (single wide aligned : List Ins) (e
       -- what holds at each step in a row
       calmly : (u : Core) (i : Ins) → Outside args.n base Slot numbers lowered first_plan Emul Frame first_setting (s.core.gpr 7) c.memory Q stack_room in_frame u → TouchesPart args.n base size Slot lowered Free u i → Q u i
       calmly u i w t = (
-        record { stack = inr w.stack; quiet = λ a nc nf ns. w.quiet a (λ i. nc (row_dest a i)) (λ i. nf (sums_frame a i)) (λ i. nf (free_frame a i)) ∙ h.steady.quiet a nc nf },
+        record { stack = inr w.stack; quiet = λ a nc nf ns. w.quiet a (λ i. nc (row_dest a i)) (λ i. nf (changed_frame a i)) (λ i. nf (free_frame a i)) ∙ h.steady.quiet a nc nf },
         part_wide f known code s args back good r row u i t,
       )
 
@@ -446,7 +446,7 @@ module _ (f : FunctionValue) (at : List ℕ) (single wide aligned : List Ins) (e
       row_done : (d : Core) (p : Place args.n d) → RowDone f known code s args back good Kept (count_of kind.Accumulator f.vars) r row e (state p.e p.emulated.temps p.emulated.sums) c d
       row_done d p =
           let w = p.inside in
-          let quiet : (a : ℕ) → (IsDestCell args.n base Slot numbers lowered first_plan Emul Frame first_setting a → ⊥) → (InRunning lowered numbers.sums a → ⊥) → (InFree f known code s args back good Kept a → ⊥) → d.memory a ≡ c.memory a = λ a k t z. w.calm.quiet a k t ∙ p.near a k t z in
+          let quiet : (a : ℕ) → (IsDestCell args.n base Slot numbers lowered first_plan Emul Frame first_setting a → ⊥) → (InChanged lowered numbers.sums a → ⊥) → (InFree f known code s args back good Kept a → ⊥) → d.memory a ≡ c.memory a = λ a k t z. w.calm.quiet a k t ∙ p.near a k t z in
           record {
             emulated = p.emulated.is;
             stack = w.calm.stack;
@@ -454,7 +454,10 @@ module _ (f : FunctionValue) (at : List ℕ) (single wide aligned : List Ins) (e
             quiet = quiet;
             agree = w.agree;
             mapped = w.mapped;
-            running = λ a i. let x = in_sum lowered (count_of kind.Accumulator f.vars) a i in ap is_some (ap d.memory x.here ∙ w.framed.sums x.sum x.few x.byte x.inside);
+            changed = λ a i. ⊎_elim
+                (λ j. let x = in_sum lowered (count_of kind.Accumulator f.vars) a j in ap is_some (ap d.memory x.here ∙ w.framed.sums x.sum x.few x.byte x.inside))
+                (λ j. w.framed.spilled a j)
+                i;
             free = p.there;
             bounded = w.bounded;
             kept = record {

@@ -11,7 +11,6 @@ use Rattle.orc_program.proofs.Apart.{IsSize}
 use Rattle.orc_program.proofs.Sizes.{both, size_kept}
 use Rattle.orc_plan.specs.Lowered.{steps_of}
 use Rattle.orc_plan.specs.Places.{GoodPlaces}
-use Rattle.orc_plan.specs.Standing.{AllStand}
 use Rattle.x86_ins.specs.declared.ins.Ins.{Ins}
 use Rattle.x86_ins.specs.declared.ins.Ins.TheVariants.{Ret}
 use Rattle.x86_ins.specs.Spelling.{IsAllowed, spelling}
@@ -37,6 +36,7 @@ use Rattle.orc_asm.specs.RunsAs.{wide as wide_promise}
 use Rattle.orc_asm.specs.Function.{RunsFully}
 use Rattle.orc_region.specs.Code.{Action, AreActions, Turns, IsElements, is_filled, shift_of, elements_of}
 use Rattle.orc_asm.specs.Rows.{rows_flow, whole_flow}
+use Rattle.orc_region.proofs.Checked.Acts.{AllPlaced}
 use Rattle.orc_region.proofs.Checked.Several.{IsCount, one_count, lanes_count}
 use Rattle.orc_region.proofs.Checked.Layouts.{patterns_are, sizes_are}
 use Rattle.orc_region.proofs.Checked.Slots.{Limits, limits}
@@ -164,7 +164,7 @@ module _ (f : FunctionValue) (h : is_function f ≡ true) (l : Layout) (first la
   abbrev some : ℕ
   some = (subject_of f).operands
 
-  stand : AllStand f.vars (patterns_of f.vars f.insns) turns.at [] f.insns
+  stand : AllPlaced f turns.at
   stand = stand_is f h turns.at turns.good
 
   done : Done f turns.at single wide aligned each some

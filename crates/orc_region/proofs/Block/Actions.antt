@@ -1,12 +1,12 @@
 -- Blocks of actions do so many elements at once as emulation does them one by one.
-use Rattle.std.proofs.Common.{◌≡◌, ◌≢◌, ℕ, suc, ◌+◌, ◌*◌, ◌%◌, ◌^◌, ◌<◌, ◌≤◌, Bool, true, false, max, if◌then◌else◌, List, [], ◌∷◌, ◌++◌, get_or, Some, is_some, refl, sym, ap, ap₂, ◌∙◌, subst, arith, le_trans, map, ⊎_elim}
+use Rattle.std.proofs.Common.{◌≡◌, ◌≢◌, ℕ, suc, ◌+◌, ◌-◌, ◌*◌, ◌%◌, ◌^◌, ◌<◌, ◌≤◌, Bool, true, false, max, if◌then◌else◌, List, [], ◌∷◌, ◌++◌, get_or, Some, is_some, refl, sym, ap, ap₂, ◌∙◌, subst, arith, le_trans, map, inl, inr, ⊎_elim}
 use Rattle.std.proofs.lemmas.Bool.{cases_eq}
 use Rattle.std.proofs.Math.Nat.{le-max_left, le-max_right, mul-le-mul_left, mul-le-mul_right, mod-eq_of_lt, mod-mod}
 use Rattle.orc_bits.specs.Numbers.{cut}
 use Rattle.orc_bits.specs.Lanes.{lane, AreBytes, change}
 use Rattle.orc_bits.specs.Memory.{Memory, IsMapped}
 use Rattle.orc_bits.proofs.LaneLaws.{lane_of_digits, lane_one, lane-from_lanes, change_other, change_same}
-use Rattle.orc_bits.proofs.Memories.{or_else}
+use Rattle.orc_bits.proofs.Memories.{or_else, mapped_value}
 use Rattle.orc_ops.specs.declared.opcode.Op.{Op}
 use Rattle.orc_ops.specs.Table.{row, wide, to, size_of_result, size_of_source}
 use Rattle.orc_ops.specs.Stems.{apply}
@@ -31,9 +31,10 @@ use Rattle.sse_acc.specs.Sums.{AddsUp, sum_below, sum_of}
 use Rattle.sse_acc.specs.Sums.{number_of as adds_number}
 use Rattle.sse_acc.proofs.Totals.{sum_below-same}
 use Rattle.orc_program.specs.Meaning.{sub_lane, pack}
-use Rattle.orc_frame.specs.Layout.{pattern_slot, sum_slot, frame_size}
-use Rattle.orc_frame.specs.Parts.{InRunning}
-use Rattle.orc_region.specs.Code.{Action, IsRule, Source, FromArray, FromPattern, FromPlace, Target, ToArray, ToSum, ToPlace, pointer, place_register, made_in, first_register, second_register, rule_register, rule_code, source_far_code, sources_far_code, sum_code, result_far_code, results_far_code, action_code, action_far_code, actions_far_code}
+use Rattle.orc_frame.specs.Layout.{pattern_slot, sum_slot, frame_size, spill_slot}
+use Rattle.orc_program.specs.Need.{places, registers}
+use Rattle.orc_frame.specs.Parts.{InChanged}
+use Rattle.orc_region.specs.Code.{Action, IsRule, Source, FromArray, FromPattern, FromPlace, FromSlot, Target, ToArray, ToSum, ToPlace, ToSlot, pointer, place_register, slot_place, made_in, first_register, second_register, rule_register, rule_code, source_far_code, sources_far_code, sum_code, result_far_code, results_far_code, action_code, action_far_code, actions_far_code}
 use Rattle.orc_region.proofs.Block.RuleRegisters.{register_0, register_1, register_one, register_place, adds_renamed}
 use Rattle.orc_region.proofs.Block.Registers.{not_0}
 use Rattle.orc_region.proofs.Arithmetic.Digits.{digit, digit_small, byte_split, byte_within, byte_further}
@@ -41,18 +42,21 @@ use Rattle.orc_region.proofs.Arithmetic.SubLanes.{lane_sub_lane, packed_bytes}
 use Rattle.orc_region.proofs.Checked.Sized.{one_shift, shift_two}
 use Rattle.orc_region.proofs.Block.Cells.{Numbers, OfDests, Local, given_by, given, adds_to, results_add, live_target, live_targets, live_act, Lanes, Others, AtElements, IsOf, IsTo, IsFrom, IsBeside, AreFrom, IsMade, AreMade, AreTo, IsKept, IsKnown, AllKnown, Separate, Low, set_local, set_target, set_results, value_of, local_act, local, adds, store_lanes, store_others}
 use Rattle.orc_region.proofs.Block.Keeping.{line_bounded, each_front, each_back}
-use Rattle.orc_region.proofs.Block.Frames.{IsFrame, Framed, framed_same, framed_totals, framed_grown, load_slot, store_slot, pattern_lane, same_sum, no_sum, adds_all, sum_both}
+use Rattle.orc_region.proofs.Block.Places.{held, held_register, held_slot, held_same, held_beside}
+use Rattle.orc_region.proofs.Block.Frames.{IsFrame, Framed, framed_same, framed_totals, framed_spilled, framed_grown, load_slot, store_slot, pattern_lane, same_sum, no_sum, adds_all, sum_both}
 
 -- so many elements can be moved at once
 abbrev pub IsMovedFrom : ℕ → (ℕ → ℕ) → Source → Type 0
 IsMovedFrom count size (FromArray k) = IsWidth (count * size k)
 IsMovedFrom count size (FromPattern j) = Unit {0}
 IsMovedFrom count size (FromPlace p) = Unit {0}
+IsMovedFrom count size (FromSlot k) = Unit {0}
 
 abbrev pub IsMovedTo : ℕ → (ℕ → ℕ) → Target → Type 0
 IsMovedTo count size (ToArray k) = IsWidth (count * size k)
 IsMovedTo count size (ToSum g) = Unit {0}
 IsMovedTo count size (ToPlace p) = Unit {0}
+IsMovedTo count size (ToSlot k) = Unit {0}
 
 -- so many elements of the action's slots can be moved at once, and their lanes fit into a register
 pub record IsFit (count : ℕ) (size : ℕ → ℕ) (a : Action) : Type 0 where
@@ -128,11 +132,11 @@ module _ (n : ℕ) (base size : ℕ → ℕ) (P : ℕ → Type 0) (numbers : Num
   low : Low n base size P
   low = ground.low
 
-  -- but for dests' cells of these elements and for running sums memory is as at first
+  -- but for dests' cells of these elements, running sums and spill slots memory is as at first
   abbrev pub Rest : ℕ → Memory → Memory → Type 0
-  Rest i first mem = (a : ℕ) → (AtElements n base size (OfDests P) i count a → ⊥) → (InRunning rsp numbers.sums a → ⊥) → mem a ≡ first a
+  Rest i first mem = (a : ℕ) → (AtElements n base size (OfDests P) i count a → ⊥) → (InChanged rsp numbers.sums a → ⊥) → mem a ≡ first a
 
-  -- what lets Q be known at each step: but for RAX the general registers stand, and only dests' cells of these elements and running sums have changed
+  -- what lets Q be known at each step: but for RAX the general registers stand, and only dests' cells of these elements, running sums and spill slots have changed
   abbrev pub Keeps : ℕ → (ℕ → ℕ) → Memory → Type 0
   Keeps i gpr first = (u : Core) (ins : Ins) → ((r : ℕ) → r ≢ 0 → u.gpr r ≡ gpr r) → Rest i first u.memory → Q u ins
 
@@ -144,18 +148,26 @@ module _ (n : ℕ) (base size : ℕ → ℕ) (P : ℕ → Type 0) (numbers : Num
   abbrev pub Points : ℕ → (ℕ → ℕ) → Type 0
   Points i gpr = (k : ℕ) → P k → 0 < size k → (gpr (pointer k) + far k ≡ base k + i * size k) × (aligned k ≡ true → (count * size k ≡ 16) × ((base k + i * size k) % 16 ≡ 0))
 
-  -- at a place stands a value of so many bytes an element, of each of the elements
-  abbrev pub StandsAt : (ℕ → ℕ) → (ℕ → Local) → (ℕ → List ℕ) → ℕ → Type 0
-  StandsAt live sig x p = (q : ℕ) → q < count → (r : ℕ) → r < live p → get_or (x (place_register p)) (q * live p + r) 0 ≡ digit ((sig q).values p) r
+  -- in the 16 bytes at a place stands a value of so many bytes an element, of each of the elements
+  abbrev pub StandsAt : (ℕ → ℕ) → (ℕ → Local) → Core → ℕ → Type 0
+  StandsAt live sig c p = (q : ℕ) → q < count → (r : ℕ) → r < live p → q * live p + r < 16 → held rsp c p (q * live p + r) ≡ Some (digit ((sig q).values p) r)
 
-  abbrev pub Standing : (ℕ → ℕ) → (ℕ → Local) → (ℕ → List ℕ) → Type 0
-  Standing live sig x = (p : ℕ) → p < 10 → StandsAt live sig x p
+  abbrev pub Standing : (ℕ → ℕ) → (ℕ → Local) → Core → Type 0
+  Standing live sig c = (p : ℕ) → p < places → StandsAt live sig c p
+
+  -- it does so still where those bytes stay
+  still : (live : ℕ → ℕ) (sig : ℕ → Local) (c d : Core) (p : ℕ) → ((b : ℕ) → b < 16 → held rsp d p b ≡ held rsp c p b) → StandsAt live sig c p → StandsAt live sig d p
+  still live sig c d p same h q l r lr lb = same (q * live p + r) lb ∙ h q l r lr lb
+
+  -- where the vector register and the frame's memory stay
+  still_there : (live : ℕ → ℕ) (sig : ℕ → Local) (c d : Core) (p : ℕ) → p < places → d.xmm (place_register p) ≡ c.xmm (place_register p) → ((x : ℕ) → rsp + spill_slot 0 ≤ x → x < rsp + frame_size → d.memory x ≡ c.memory x) → StandsAt live sig c p → StandsAt live sig d p
+  still_there live sig c d p lp x same = still live sig c d p (λ b lb. held_same rsp c d p b x (same (rsp + spill_slot (p - registers) + b) (omega arith) (omega (arith, lp, lb))))
 
   -- what a block leaves
   pub record After (i : ℕ) (c d : Core) (first : Memory) (live : ℕ → ℕ) (sig : ℕ → Local) (totals : ℕ → ℕ) : Type 0 where
     pub gpr : (r : ℕ) → r ≢ 0 → d.gpr r ≡ c.gpr r
     pub lanes : Lanes n base size P i count d.memory sig
-    pub standing : Standing live sig d.xmm
+    pub standing : Standing live sig d
     pub framed : Framed numbers rsp d.memory totals
     pub others : Rest i first d.memory
     pub bounded : Bounded d
@@ -213,29 +225,36 @@ module _ (n : ℕ) (base size : ℕ → ℕ) (P : ℕ → Type 0) (numbers : Num
   InRegister w prefix sig (FromArray k) x = (q : ℕ) → q < count → (p : ℕ) → p < prefix → lane w (q * prefix + p) x ≡ sub_lane (8 * w) ((sig q).cells k) p
   InRegister w prefix sig (FromPattern j) x = (b : ℕ) → b < 16 → get_or x b 0 ≡ digit (numbers.number j) (b % numbers.period j)
   InRegister w prefix sig (FromPlace k) x = (q : ℕ) → q < count → (p : ℕ) → p < prefix → lane w (q * prefix + p) x ≡ sub_lane (8 * w) ((sig q).values k) p
+  InRegister w prefix sig (FromSlot k) x = (q : ℕ) → q < count → (p : ℕ) → p < prefix → lane w (q * prefix + p) x ≡ sub_lane (8 * w) ((sig q).values (slot_place k)) p
 
   -- what a source at a place is loaded from
-  abbrev IsThere : (ℕ → ℕ) → (ℕ → Local) → (ℕ → List ℕ) → Source → Type 0
-  IsThere live sig x (FromArray k) = Unit {0}
-  IsThere live sig x (FromPattern j) = Unit {0}
-  IsThere live sig x (FromPlace p) = StandsAt live sig x p
+  abbrev IsThere : (ℕ → ℕ) → (ℕ → Local) → Core → Source → Type 0
+  IsThere live sig c (FromArray k) = Unit {0}
+  IsThere live sig c (FromPattern j) = Unit {0}
+  IsThere live sig c (FromPlace p) = StandsAt live sig c p
+  IsThere live sig c (FromSlot k) = StandsAt live sig c (slot_place k)
 
-  is_there : (live : ℕ → ℕ) (sig : ℕ → Local) (x : ℕ → List ℕ) (w prefix : ℕ) (s : Source) → IsFrom n base size P numbers live w prefix s → Standing live sig x → IsThere live sig x s
-  is_there live sig x w prefix (FromArray k) o stand = tt
-  is_there live sig x w prefix (FromPattern j) o stand = tt
-  is_there live sig x w prefix (FromPlace p) o stand = stand p o.0
+  is_there : (live : ℕ → ℕ) (sig : ℕ → Local) (c : Core) (w prefix : ℕ) (s : Source) → IsFrom n base size P numbers live w prefix s → Standing live sig c → IsThere live sig c s
+  is_there live sig c w prefix (FromArray k) o stand = tt
+  is_there live sig c w prefix (FromPattern j) o stand = tt
+  is_there live sig c w prefix (FromPlace p) o stand = stand p (let l = o.0 in omega (arith, l))
+  is_there live sig c w prefix (FromSlot k) o stand = stand (slot_place k) (let l = o.0 in omega (arith, l))
 
   -- the elements of a value fit into a register
   abbrev HasRoom : ℕ → ℕ → Source → Type 0
   HasRoom w prefix (FromArray k) = Unit {0}
   HasRoom w prefix (FromPattern j) = Unit {0}
   HasRoom w prefix (FromPlace p) = count * (w * prefix) ≤ 16
+  HasRoom w prefix (FromSlot k) = count * (w * prefix) ≤ 16
 
   -- it stays where another register was loaded
-  there_still : (live : ℕ → ℕ) (sig : ℕ → Local) (x y : ℕ → List ℕ) (a b : ℕ) (s : Source) (ts : List Target) → a ≡ first_register ts → IsKept n base size P numbers ts s → ((z : ℕ) → z ≢ a → y z ≡ x z) → IsThere live sig x s → IsThere live sig y s
-  there_still live sig x y a b (FromArray k) ts e kept same h = tt
-  there_still live sig x y a b (FromPattern j) ts e kept same h = tt
-  there_still live sig x y a b (FromPlace p) ts e kept same h = λ q l r lr. ap (λ v. get_or v (q * live p + r) 0) (same (place_register p) (λ z. kept.0 (sym e ∙ sym z))) ∙ h q l r lr
+  there_still : (live : ℕ → ℕ) (sig : ℕ → Local) (c d : Core) (s : Source) (ts : List Target) → IsKept n base size P numbers ts s → d.memory ≡ c.memory → ((z : ℕ) → z ≢ first_register ts → d.xmm z ≡ c.xmm z) → IsThere live sig c s → IsThere live sig d s
+  there_still live sig c d (FromArray k) ts kept memory same h = tt
+  there_still live sig c d (FromPattern j) ts kept memory same h = tt
+  there_still live sig c d (FromPlace p) ts kept memory same h =
+      still live sig c d p (λ b lb. held_same rsp c d p b (same (place_register p) (λ z. kept.0 (sym z))) (ap (λ f. f (rsp + spill_slot (p - registers) + b)) memory)) h
+  there_still live sig c d (FromSlot k) ts kept memory same h =
+      still live sig c d (slot_place k) (λ b lb. held_slot rsp d k b ∙ ap (λ f. f (rsp + spill_slot k + b)) memory ∙ sym (held_slot rsp c k b)) h
 
   record GotFrom (s : Source) (w prefix x : ℕ) (sig : ℕ → Local) (c d : Core) : Type 0 where
     memory : d.memory ≡ c.memory
@@ -243,8 +262,12 @@ module _ (n : ℕ) (base size : ℕ → ℕ) (P : ℕ → Type 0) (numbers : Num
     others : (y : ℕ) → y ≢ x → d.xmm y ≡ c.xmm y
     lanes : AreBytes (d.xmm x) → InRegister w prefix sig s (d.xmm x)
 
+  -- of a value of so many bytes
+  bytes_at : (live : ℕ → ℕ) (sig : ℕ → Local) (c : Core) (p s : ℕ) → live p ≡ s → StandsAt live sig c p → (q : ℕ) → q < count → (r : ℕ) → r < s → q * s + r < 16 → held rsp c p (q * s + r) ≡ Some (digit ((sig q).values p) r)
+  bytes_at live sig c p s e stand q lq = subst (λ s. (r : ℕ) → r < s → q * s + r < 16 → held rsp c p (q * s + r) ≡ Some (digit ((sig q).values p) r)) e (stand q lq)
+
   load_source : (i : ℕ) (s : Source) (w prefix x : ℕ) (c : Core) (live : ℕ → ℕ) (sig : ℕ → Local) (totals : ℕ → ℕ) → IsFrom n base size P numbers live w prefix s → IsMovedFrom count size s → i + count ≤ n → Points i c.gpr → c.gpr 4 ≡ rsp
-      → Lanes n base size P i count c.memory sig → Framed numbers rsp c.memory totals → IsThere live sig c.xmm s → HasRoom w prefix s → Bounded c → Stays c → (d : Core) × Line Q (source_far_code count size far x s) c d × GotFrom s w prefix x sig c d
+      → Lanes n base size P i count c.memory sig → Framed numbers rsp c.memory totals → IsThere live sig c s → HasRoom w prefix s → Bounded c → Stays c → (d : Core) × Line Q (source_far_code count size far x s) c d × GotFrom s w prefix x sig c d
   load_source i (FromArray k) w prefix x c live sig totals o wide fits at stack h framed there room bound stays =
       let l = load_cells i k w prefix x c sig o wide fits at h stays in
       (l.0, l.1, record { memory = l.2.memory; gpr = l.2.gpr; others = l.2.others; lanes = l.2.lanes })
@@ -259,9 +282,10 @@ module _ (n : ℕ) (base size : ℕ → ℕ) (P : ℕ → Type 0) (numbers : Num
       let new = result_of (shape Movdqa) (c.xmm x) (c.xmm y) in
       let d : Core = with_lanes c (change c.xmm x new) in
       let byte : (q : ℕ) → q < count → (r : ℕ) → r < w * prefix → get_or (d.xmm x) (q * (w * prefix) + r) 0 ≡ digit ((sig q).values p) r = λ q lq r lr.
-      ap (λ v. get_or v (q * (w * prefix) + r) 0) (change_same c.xmm x new)
-      ∙ copied_byte (c.xmm x) (c.xmm y) (bound.xmm y) (q * (w * prefix) + r) (let within = byte_within q count (w * prefix) r lq lr in omega (arith, within, room))
-      ∙ subst (λ s. (r : ℕ) → r < s → get_or (c.xmm y) (q * s + r) 0 ≡ digit ((sig q).values p) r) o.1 (there q lq) r lr in (
+      let b = q * (w * prefix) + r in
+      let few : b < 16 = (let within = byte_within q count (w * prefix) r lq lr in omega (arith, within, room)) in
+      ap (λ v. get_or v b 0) (change_same c.xmm x new) ∙ copied_byte (c.xmm x) (c.xmm y) (bound.xmm y) b few
+      ∙ ap (or_else 0) (sym (held_register rsp c p b o.0) ∙ bytes_at live sig c p (w * prefix) o.1 there q lq r lr few) in (
         d,
         (stays c _ refl (λ r ne. refl), (d, refl, refl)),
         record {
@@ -271,12 +295,31 @@ module _ (n : ℕ) (base size : ℕ → ℕ) (P : ℕ → Type 0) (numbers : Num
           lanes = λ bytes q lq. lane_sub_lane (d.xmm x) w prefix q ((sig q).values p) (byte q lq);
         },
       )
+  load_source i (FromSlot k) w prefix x c live sig totals o wide fits at stack h framed there room bound stays =
+      let p = rsp + spill_slot k in
+      let z : ℕ → ℕ = λ b. or_else 0 (c.memory (p + b)) in
+      let mapped : (b : ℕ) → b < 16 → c.memory (p + b) ≡ Some (z b) = λ b lb. let v = mapped_value c.memory (p + b) (framed.spilled (p + b) (omega arith, (let few = o.0 in omega (arith, few, lb)))) in v.1 ∙ ap (λ m. Some (or_else 0 m)) (sym v.1) in
+      let l = load_slot c x rsp (spill_slot k) z stack (let few = o.0 in omega (arith, ground.frame.low, few)) mapped in
+      let byte : (q : ℕ) → q < count → (r : ℕ) → r < w * prefix → get_or (l.0.xmm x) (q * (w * prefix) + r) 0 ≡ digit ((sig q).values (slot_place k)) r = λ q lq r lr.
+      let b = q * (w * prefix) + r in
+      let few : b < 16 = (let within = byte_within q count (w * prefix) r lq lr in omega (arith, within, room)) in
+      l.2.bytes b few ∙ ap (or_else 0) (sym (held_slot rsp c k b) ∙ bytes_at live sig c (slot_place k) (w * prefix) o.1 there q lq r lr few) in (
+        l.0,
+        (stays c _ refl (λ r ne. refl), (l.0, l.1, refl)),
+        record {
+          memory = l.2.memory;
+          gpr = λ r ne. ap (λ f. f r) l.2.gpr;
+          others = l.2.others;
+          lanes = λ bytes q lq. lane_sub_lane (l.0.xmm x) w prefix q ((sig q).values (slot_place k)) (byte q lq);
+        },
+      )
 
   -- the first source of a lane
   first_value : (op : Op) (prefix : ℕ) (s : Source) (live : ℕ → ℕ) (sig : ℕ → Local) (x : List ℕ) → IsFrom n base size P numbers live (size_of_source op 0) prefix s → InRegister (size_of_source op 0) prefix sig s x
       → (q : ℕ) → q < count → (p : ℕ) → p < prefix → (q * prefix + p) * widest op + widest op ≤ 16 → (b : ℕ) → formula op (lane (size_of_source op 0) (q * prefix + p) x) b ≡ formula op (given_by numbers.number (size_of_source op 0) (sig q) s p) b
   first_value op prefix (FromArray k) live sig x o h q l p lp fits b = ap (λ v. formula op v b) (h q l p lp)
   first_value op prefix (FromPlace k) live sig x o h q l p lp fits b = ap (λ v. formula op v b) (h q l p lp)
+  first_value op prefix (FromSlot k) live sig x o h q l p lp fits b = ap (λ v. formula op v b) (h q l p lp)
   first_value op prefix (FromPattern j) live sig x o h q l p lp fits b =
       ap (λ v. formula op v b) (pattern_lane x (size_of_source op 0) (numbers.number j) (q * prefix + p) (λ k lk. h k lk ∙ ap (λ w. digit (numbers.number j) (k % w)) o.1) (narrower (q * prefix + p) (size_of_source op 0) (widest op) (first_width op) fits))
       ∙ formula_first op (numbers.number j) b
@@ -286,6 +329,7 @@ module _ (n : ℕ) (base size : ℕ → ℕ) (P : ℕ → Type 0) (numbers : Num
       → (q : ℕ) → q < count → (p : ℕ) → p < prefix → (q * prefix + p) * widest op + widest op ≤ 16 → (a : ℕ) → formula op a (second_of op (q * prefix + p) x) ≡ formula op a (given_by numbers.number (size_of_source op 1) (sig q) s p)
   second_value op prefix (FromArray k) live sig x o plain h q l p lp fits a = ap (formula op a) (second_is op (q * prefix + p) x plain ∙ h q l p lp)
   second_value op prefix (FromPlace k) live sig x o plain h q l p lp fits a = ap (formula op a) (second_is op (q * prefix + p) x plain ∙ h q l p lp)
+  second_value op prefix (FromSlot k) live sig x o plain h q l p lp fits a = ap (formula op a) (second_is op (q * prefix + p) x plain ∙ h q l p lp)
   second_value op prefix (FromPattern j) live sig x o plain h q l p lp fits a = go (is_shift (row op).kind) refl
     where
       bytes : (k : ℕ) → k < 16 → get_or (x 1) k 0 ≡ digit (numbers.number j) (k % size_of_source op 1)
@@ -329,20 +373,22 @@ module _ (n : ℕ) (base size : ℕ → ℕ) (P : ℕ → Type 0) (numbers : Num
   first_room op prefix (FromArray k) room = tt
   first_room op prefix (FromPattern j) room = tt
   first_room op prefix (FromPlace p) room = room.first
+  first_room op prefix (FromSlot k) room = room.first
 
   second_room : (op : Op) (prefix : ℕ) (s : Source) → IsBeside n base size P numbers op s → Room op prefix → HasRoom (size_of_source op 1) prefix s
   second_room op prefix (FromArray k) plain room = tt
   second_room op prefix (FromPattern j) plain room = tt
   second_room op prefix (FromPlace p) plain room = room.second plain
+  second_room op prefix (FromSlot k) plain room = room.second plain
 
   sources_line : (i : ℕ) (op : Op) (prefix : ℕ) (ss : List Source) (ts : List Target) (c : Core) (live : ℕ → ℕ) (sig : ℕ → Local) (totals : ℕ → ℕ) → AreFrom n base size P numbers live op prefix ss → Each (IsKept n base size P numbers ts) ss → first_register ts ≢ second_register ts
       → Fits op prefix → Room op prefix → Each (IsMovedFrom count size) ss → Each IsIns (sources_far_code count size far (first_register ts) (second_register ts) ss) → i + count ≤ n
-      → Points i c.gpr → c.gpr 4 ≡ rsp → Lanes n base size P i count c.memory sig → Framed numbers rsp c.memory totals → Standing live sig c.xmm → Bounded c → Stays c
+      → Points i c.gpr → c.gpr 4 ≡ rsp → Lanes n base size P i count c.memory sig → Framed numbers rsp c.memory totals → Standing live sig c → Bounded c → Stays c
       → (d : Core) × Line Q (sources_far_code count size far (first_register ts) (second_register ts) ss) c d × Read op prefix ss sig (first_register ts) (second_register ts) c d
   sources_line i op prefix [] ts c live sig totals known kept apart fits room wide ins w at stack h framed stand bound stays = absurd known
   sources_line i op prefix (s ∷ []) ts c live sig totals known kept apart fits room wide ins w at stack h framed stand bound stays =
       let a = first_register ts in
-      let x = load_source i s (size_of_source op 0) prefix a c live sig totals known.0 wide.0 w at stack h framed (is_there live sig c.xmm (size_of_source op 0) prefix s known.0 stand) (first_room op prefix s room) bound stays in
+      let x = load_source i s (size_of_source op 0) prefix a c live sig totals known.0 wide.0 w at stack h framed (is_there live sig c (size_of_source op 0) prefix s known.0 stand) (first_room op prefix s room) bound stays in
       let d = x.0 in
       let b = line_bounded Q (source_far_code count size far a s) c d ins x.1 bound in (
         d,
@@ -362,11 +408,11 @@ module _ (n : ℕ) (base size : ℕ → ℕ) (P : ℕ → Type 0) (numbers : Num
       let e = second_register ts in
       let one = source_far_code count size far a s in
       let two = source_far_code count size far e t in
-      let x = load_source i s (size_of_source op 0) prefix a c live sig totals known.0 wide.0 w at stack h framed (is_there live sig c.xmm (size_of_source op 0) prefix s known.0 stand) (first_room op prefix s room) bound stays in
+      let x = load_source i s (size_of_source op 0) prefix a c live sig totals known.0 wide.0 w at stack h framed (is_there live sig c (size_of_source op 0) prefix s known.0 stand) (first_room op prefix s room) bound stays in
       let b = x.0 in
       let at' : Points i b.gpr = λ j hj s. (ap (λ y. y + far j) (x.2.gpr (pointer j) (not_0 j)) ∙ (at j hj s).0, (at j hj s).1) in
       let h' : Lanes n base size P i count b.memory sig = λ j hj q l r lr. ap (λ f. f (base j + (i + q) * size j + r)) x.2.memory ∙ h j hj q l r lr in
-      let there : IsThere live sig b.xmm t = there_still live sig c.xmm b.xmm a e t ts refl kept.1.0 (λ z ne. x.2.others z ne) (is_there live sig c.xmm (size_of_source op 1) prefix t known.1 stand) in
+      let there : IsThere live sig b t = there_still live sig c b t ts kept.1.0 x.2.memory (λ z ne. x.2.others z ne) (is_there live sig c (size_of_source op 1) prefix t known.1 stand) in
       let y = load_source i t (size_of_source op 1) prefix e b live sig totals known.1 wide.1.0 w at' (x.2.gpr 4 (λ e. omega (arith, e)) ∙ stack) h' (subst (λ m. Framed numbers rsp m totals) (sym x.2.memory) framed) there (second_room op prefix t known.2 room) (line_bounded Q one c b (each_front IsIns one two ins) x.1 bound) (λ u i m g. stays u i (m ∙ x.2.memory) (λ r ne. g r ne ∙ x.2.gpr r ne)) in
       let d = y.0 in
       let line : Line Q (one ++ two) c d = line_append Q one two c b d x.1 y.1 in
@@ -429,7 +475,7 @@ module _ (n : ℕ) (base size : ℕ → ℕ) (P : ℕ → Type 0) (numbers : Num
   record Wrote (i : ℕ) (op : Op) (prefix : ℕ) (ts : List Target) (v : ℕ → ℕ × ℕ) (live : ℕ → ℕ) (sig : ℕ → Local) (totals : ℕ → ℕ) (first : Memory) (c d : Core) : Type 0 where
     gpr : (r : ℕ) → r ≢ 0 → d.gpr r ≡ c.gpr r
     lanes : Lanes n base size P i count d.memory (λ q. set_results n base size P (sig q) ts (v q))
-    standing : Standing (live_targets live op prefix ts) (λ q. set_results n base size P (sig q) ts (v q)) d.xmm
+    standing : Standing (live_targets live op prefix ts) (λ q. set_results n base size P (sig q) ts (v q)) d
     framed : Framed numbers rsp d.memory (λ g. totals g + sum_below count (λ q. results_add ts (v q) g))
     others : Rest i first d.memory
 
@@ -441,119 +487,159 @@ module _ (n : ℕ) (base size : ℕ → ℕ) (P : ℕ → Type 0) (numbers : Num
   rest_more i first c d o x a m s = x a m ∙ o a m s
 
   -- stores to cells leave the frame
+  frame_same : (i : ℕ) (c d : Memory) → i + count ≤ n → Others n base size (OfDests P) i count c d → (x : ℕ) → rsp ≤ x → x < rsp + frame_size → d x ≡ c x
+  frame_same i c d w o x l u = o x (λ at. ground.apart at.0 at.1.0 (i + at.2) (omega (arith, at.3, w)) at.4 at.5 (subst (λ a. rsp ≤ a) at.6 l) (subst (λ a. a < rsp + frame_size) at.6 u))
+
   frame_kept : (i : ℕ) (c d : Memory) (totals : ℕ → ℕ) → i + count ≤ n → Others n base size (OfDests P) i count c d → Framed numbers rsp c totals → Framed numbers rsp d totals
-  frame_kept i c d totals w o = framed_same numbers rsp ground.frame c d totals (λ x l u. o x (λ at. ground.apart at.0 at.1.0 (i + at.2) (omega (arith, at.3, w)) at.4 at.5 (subst (λ a. rsp ≤ a) at.6 l) (subst (λ a. a < rsp + frame_size) at.6 u)))
+  frame_kept i c d totals w o = framed_same numbers rsp ground.frame c d totals (frame_same i c d w o)
+
+  -- what a store of 16 bytes of the frame leaves that elements may change
+  slot_stored : (i far : ℕ) (mem end : Memory) (z : ℕ → ℕ) (first : Memory) (sig : ℕ → Local) → far + 16 ≤ frame_size → ((b : ℕ) → b < 16 → InChanged rsp numbers.sums (rsp + far + b)) → i + count ≤ n → IsFill 16 mem (rsp + far) z end → Lanes n base size P i count mem sig → Rest i first mem
+      → Lanes n base size P i count end sig × Rest i first end
+  slot_stored i far mem end z first sig inside changed w f h o = (
+    λ k hk q l r lr. f.outside (base k + (i + q) * size k + r) (λ j lj e. ground.apart k hk (i + q) (omega (arith, l, w)) r lr (omega (arith, e)) (omega (arith, e, lj, inside))) ∙ h k hk q l r lr,
+    λ x m s. f.outside x (λ j lj e. s (subst (InChanged rsp numbers.sums) (sym e) (changed j lj))) ∙ o x m s,
+  )
 
   nothing_added : (totals : ℕ → ℕ) (mem : Memory) (g : ℕ → ℕ → ℕ) → ((q h : ℕ) → g q h ≡ 0) → Framed numbers rsp mem totals → Framed numbers rsp mem (λ h. totals h + sum_below count (λ q. g q h))
   nothing_added totals mem g none = framed_totals numbers rsp mem totals (λ h. totals h + sum_below count (λ q. g q h)) (λ h. let e = sum_below-same count (λ q. g q h) (λ q. 0) (λ q l. none q h) ∙ no_sum count in omega (arith, e))
 
   -- ---- results that are no running sums
 
-  -- what one result leaves: cells are stored, and what goes to a place stands there
-  record Result (i : ℕ) (t : Target) (v : ℕ → ℕ) (sig : ℕ → Local) (totals : ℕ → ℕ) (first : Memory) (c d : Core) : Type 0 where
+  -- a value is made at a place, and others stand where they stood
+  made_at : (w prefix k : ℕ) (g : ℕ → ℕ → ℕ) (live : ℕ → ℕ) (sig : ℕ → Local) (d : Core) (y : List ℕ) → AreBytes y → ((q : ℕ) → q < count → (p : ℕ) → p < prefix → lane w (q * prefix + p) y ≡ g q p) → ((b : ℕ) → b < 16 → held rsp d k b ≡ Some (get_or y b 0))
+      → (p : ℕ) → (p ≢ k → StandsAt live sig d p) → StandsAt (change live k (w * prefix)) (λ q. set_target n base size P (sig q) (ToPlace k) (pack (8 * w) prefix (g q))) d p
+  made_at w prefix k g live sig d y bytes lanes made p stand = ⊎_elim here there (cases_eq p k)
+    where
+      value : ℕ → ℕ
+      value q = pack (8 * w) prefix (g q)
+
+      Here : ℕ → Type 0
+      Here j = StandsAt (change live k (w * prefix)) (λ q. set_target n base size P (sig q) (ToPlace k) (value q)) d j
+
+      at_place : Here k
+      at_place q lq b lb within =
+          let size_is : change live k (w * prefix) k ≡ w * prefix = change_same live k (w * prefix) in
+          ap (λ n. held rsp d k (q * n + b)) size_is
+          ∙ made (q * (w * prefix) + b) (subst (λ n. q * n + b < 16) size_is within)
+          ∙ ap Some (packed_bytes y bytes w prefix q (g q) (lanes q lq) b (subst (λ n. b < n) size_is lb) ∙ ap (λ v. digit v b) (sym (change_same (sig q).values k (value q))))
+
+      here : p ≡ k → Here p
+      here e = subst Here (sym e) at_place
+
+      there : p ≢ k → Here p
+      there ne q lq b lb within =
+          let size_is : change live k (w * prefix) p ≡ live p = change_other live k (w * prefix) p ne in
+          ap (λ n. held rsp d p (q * n + b)) size_is
+          ∙ stand ne q lq b (subst (λ n. b < n) size_is lb) (subst (λ n. q * n + b < 16) size_is within)
+          ∙ ap (λ v. Some (digit v b)) (sym (change_other (sig q).values k (value q) p ne))
+
+  -- what one result leaves: cells and spill slots are stored, and a value stands at its place; some places are left out
+  record Result (i w prefix : ℕ) (t : Target) (g : ℕ → ℕ → ℕ) (live : ℕ → ℕ) (sig : ℕ → Local) (totals : ℕ → ℕ) (first : Memory) (Out : ℕ → Type 0) (c d : Core) : Type 0 where
     gpr : (r : ℕ) → r ≢ 0 → d.gpr r ≡ c.gpr r
     xmm : d.xmm ≡ c.xmm
-    lanes : Lanes n base size P i count d.memory (λ q. set_target n base size P (sig q) t (v q))
+    lanes : Lanes n base size P i count d.memory (λ q. set_target n base size P (sig q) t (pack (8 * w) prefix (g q)))
+    standing : (p : ℕ) → p < places → (Out p → ⊥) → StandsAt (live_target live t (w * prefix)) (λ q. set_target n base size P (sig q) t (pack (8 * w) prefix (g q))) d p
     framed : Framed numbers rsp d.memory totals
     others : Rest i first d.memory
 
-  result_line : (i w prefix x : ℕ) (t : Target) (g : ℕ → ℕ → ℕ) (c : Core) (first : Memory) (sig : ℕ → Local) (totals : ℕ → ℕ) → IsMade n base size P numbers (w * prefix) t → IsMovedTo count size t → i + count ≤ n
-      → Points i c.gpr → Lanes n base size P i count c.memory sig → Framed numbers rsp c.memory totals → AreBytes (c.xmm (made_in x t)) → ((q : ℕ) → q < count → (p : ℕ) → p < prefix → lane w (q * prefix + p) (c.xmm (made_in x t)) ≡ g q p) → Rest i first c.memory → Keeps i c.gpr first
-      → (d : Core) × Line Q (result_far_code count size far aligned x t) c d × Result i t (λ q. pack (8 * w) prefix (g q)) sig totals first c d
-  result_line i w prefix x (ToSum k) g c first sig totals known wide fits at h framed bytes lanes o keeps = absurd known
-  result_line i w prefix x (ToPlace p) g c first sig totals known wide fits at h framed bytes lanes o keeps = (c, refl, record { gpr = λ r ne. refl; xmm = refl; lanes = h; framed = framed; others = o })
-  result_line i w prefix x (ToArray k) g c first sig totals known wide fits at h framed bytes lanes o keeps =
-      let s = store_cells i k w prefix x g c sig known wide fits at h (stay i c c.gpr first (λ r ne. refl) o keeps) bytes lanes in (
+  result_line : (i w prefix x : ℕ) (t : Target) (g : ℕ → ℕ → ℕ) (c : Core) (first : Memory) (live : ℕ → ℕ) (sig : ℕ → Local) (totals : ℕ → ℕ) (Out : ℕ → Type 0) → x < 6 → IsMade n base size P numbers (w * prefix) t → IsMovedTo count size t → i + count ≤ n
+      → Points i c.gpr → c.gpr 4 ≡ rsp → Lanes n base size P i count c.memory sig → Framed numbers rsp c.memory totals → AreBytes (c.xmm (made_in x t)) → ((q : ℕ) → q < count → (p : ℕ) → p < prefix → lane w (q * prefix + p) (c.xmm (made_in x t)) ≡ g q p)
+      → ((p : ℕ) → p < places → (Out p → ⊥) → made_in x t ≢ place_register p → StandsAt live sig c p) → Rest i first c.memory → Keeps i c.gpr first
+      → (d : Core) × Line Q (result_far_code count size far aligned x t) c d × Result i w prefix t g live sig totals first Out c d
+  result_line i w prefix x (ToSum k) g c first live sig totals Out few known wide fits at stack h framed bytes lanes stand o keeps = absurd known
+  result_line i w prefix x (ToPlace k) g c first live sig totals Out few known wide fits at stack h framed bytes lanes stand o keeps = (
+    c,
+    refl,
+    record {
+      gpr = λ r ne. refl;
+      xmm = refl;
+      lanes = h;
+      standing = λ p l out. made_at w prefix k g live sig c (c.xmm (place_register k)) bytes lanes (λ b lb. held_register rsp c k b known) p (λ ne. stand p l out (λ e. ne (omega (arith, e))));
+      framed = framed;
+      others = o;
+    },
+  )
+  result_line i w prefix x (ToArray k) g c first live sig totals Out few known wide fits at stack h framed bytes lanes stand o keeps =
+      let s = store_cells i k w prefix x g c sig known wide fits at h (stay i c c.gpr first (λ r ne. refl) o keeps) bytes lanes in
+      let same = frame_same i c.memory s.0.memory fits s.2.others in (
         s.0,
         s.1,
         record {
           gpr = s.2.gpr;
           xmm = s.2.xmm;
           lanes = s.2.lanes;
+          standing = λ p l out. still_there live sig c s.0 p l (ap (λ f. f (place_register p)) s.2.xmm) (λ x a u. same x (omega (arith, a)) u) (stand p l out (λ e. omega (arith, e, few)));
           framed = frame_kept i c.memory s.0.memory totals fits s.2.others framed;
           others = rest_more i first c.memory s.0.memory o s.2.others;
         },
       )
-
-  -- what stands at places after one result, but for places that are left out
-  stands_on : (w prefix x : ℕ) (t : Target) (g : ℕ → ℕ → ℕ) (live : ℕ → ℕ) (sig : ℕ → Local) (r : ℕ → List ℕ) (Out : ℕ → Type 0) → x < 6 → IsMade n base size P numbers (w * prefix) t → AreBytes (r (made_in x t))
-      → ((q : ℕ) → q < count → (p : ℕ) → p < prefix → lane w (q * prefix + p) (r (made_in x t)) ≡ g q p) → ((p : ℕ) → p < 10 → (Out p → ⊥) → made_in x t ≢ place_register p → StandsAt live sig r p)
-      → (p : ℕ) → p < 10 → (Out p → ⊥) → StandsAt (live_target live t (w * prefix)) (λ q. set_target n base size P (sig q) t (pack (8 * w) prefix (g q))) r p
-  stands_on w prefix x (ToSum k) g live sig r Out few known bytes lanes stand p l out = absurd known
-  stands_on w prefix x (ToArray k) g live sig r Out few known bytes lanes stand p l out = stand p l out (λ e. omega (arith, e, few))
-  stands_on w prefix x (ToPlace k) g live sig r Out few known bytes lanes stand p l out = ⊎_elim here there (cases_eq p k)
-    where
-      value : ℕ → ℕ
-      value q = pack (8 * w) prefix (g q)
-
-      Here : ℕ → Type 0
-      Here j = StandsAt (change live k (w * prefix)) (λ q. set_target n base size P (sig q) (ToPlace k) (value q)) r j
-
-      at_place : Here k
-      at_place q lq b lb =
-          let size_is : change live k (w * prefix) k ≡ w * prefix = change_same live k (w * prefix) in
-          ap (λ n. get_or (r (place_register k)) (q * n + b) 0) size_is
-          ∙ packed_bytes (r (place_register k)) bytes w prefix q (g q) (lanes q lq) b (subst (λ n. b < n) size_is lb)
-          ∙ ap (λ v. digit v b) (sym (change_same (sig q).values k (value q)))
-
-      here : p ≡ k → Here p
-      here e = subst Here (sym e) at_place
-
-      there : p ≢ k → Here p
-      there ne q lq b lb =
-          let size_is : change live k (w * prefix) p ≡ live p = change_other live k (w * prefix) p ne in
-          ap (λ n. get_or (r (place_register p)) (q * n + b) 0) size_is
-          ∙ stand p l out (λ e. ne (omega (arith, e))) q lq b (subst (λ n. b < n) size_is lb)
-          ∙ ap (λ v. digit v b) (sym (change_other (sig q).values k (value q) p ne))
+  result_line i w prefix x (ToSlot k) g c first live sig totals Out few known wide fits at stack h framed bytes lanes stand o keeps =
+      let s = store_slot c x rsp (spill_slot k) stack (omega (arith, ground.frame.low, known)) (λ b lb. framed.spilled (rsp + spill_slot k + b) (omega arith, omega (arith, known, lb))) in
+      let d = s.0 in
+      let z : ℕ → ℕ = λ b. get_or (c.xmm x) b 0 in
+      let f : IsFill 16 c.memory (rsp + spill_slot k) z d.memory = s.4 in
+      let kept = slot_stored i (spill_slot k) c.memory d.memory z first sig (omega (arith, known)) (λ b lb. inr (omega arith, omega (arith, known, lb))) fits f h o in
+      let beside : (p : ℕ) → p ≢ slot_place k → (b : ℕ) → b < 16 → held rsp d p b ≡ held rsp c p b = λ p ne b lb.
+      held_beside rsp c d p k b ne (ap (λ f. f (place_register p)) s.3) (λ j nj. f.outside (rsp + spill_slot j + b) (λ e le q. nj (omega (arith, q, lb, le)))) in (
+        d,
+        (stay i c c.gpr first (λ r ne. refl) o keeps c (VecStore Movdqu x (away 4 (spill_slot k))) refl (λ r ne. refl), (d, s.1, refl)),
+        record {
+          gpr = λ r ne. ap (λ f. f r) s.2;
+          xmm = s.3;
+          lanes = kept.0;
+          standing = λ p l out. made_at w prefix (slot_place k) g live sig d (c.xmm x) bytes lanes (λ b lb. held_slot rsp d k b ∙ f.inside b lb) p (λ ne. still live sig c d p (beside p ne) (stand p l out (λ e. omega (arith, e, few))));
+          framed = framed_spilled numbers rsp ground.frame c.memory d.memory totals k z f framed;
+          others = kept.1;
+        },
+      )
 
   no_sum_added : (bytes : ℕ) (t : Target) (v g : ℕ) → IsMade n base size P numbers bytes t → adds_to t v g ≡ 0
   no_sum_added bytes (ToArray k) v g known = refl
   no_sum_added bytes (ToPlace k) v g known = refl
+  no_sum_added bytes (ToSlot k) v g known = refl
   no_sum_added bytes (ToSum k) v g known = absurd known
 
-  -- what a rule leaves, before its results are stored: the values at places that have no result
-  abbrev Remains : List Target → (ℕ → ℕ) → (ℕ → Local) → (ℕ → List ℕ) → Type 0
-  Remains ts live sig x = (p : ℕ) → p < 10 → first_register ts ≢ place_register p → second_register ts ≢ place_register p → StandsAt live sig x p
+  -- what a rule leaves, before its results are stored: the values at places in whose registers no result is made
+  abbrev Remains : List Target → (ℕ → ℕ) → (ℕ → Local) → Core → Type 0
+  Remains ts live sig c = (p : ℕ) → p < places → first_register ts ≢ place_register p → second_register ts ≢ place_register p → StandsAt live sig c p
 
   one_result_line : (i : ℕ) (op : Op) (prefix : ℕ) (g : ℕ → ℕ → ℕ × ℕ) (t : Target) (c : Core) (first : Memory) (live : ℕ → ℕ) (sig : ℕ → Local) (totals : ℕ → ℕ) → IsMade n base size P numbers (size_of_result op 0 * prefix) t → IsMovedTo count size t → i + count ≤ n
-      → Points i c.gpr → Lanes n base size P i count c.memory sig → Framed numbers rsp c.memory totals → Holds op prefix g c.xmm (made_in 0 t) 1 → Remains (t ∷ []) live sig c.xmm → Rest i first c.memory → Keeps i c.gpr first
+      → Points i c.gpr → c.gpr 4 ≡ rsp → Lanes n base size P i count c.memory sig → Framed numbers rsp c.memory totals → Holds op prefix g c.xmm (made_in 0 t) 1 → Remains (t ∷ []) live sig c → Rest i first c.memory → Keeps i c.gpr first
       → (d : Core) × Line Q (result_far_code count size far aligned 0 t) c d × Wrote i op prefix (t ∷ []) (λ q. packed op prefix (g q)) live sig totals first c d
-  one_result_line i op prefix g t c first live sig totals known wide w at h framed holds remains o keeps =
-      let x = result_line i (size_of_result op 0) prefix 0 t (λ q p. (g q p).0) c first sig totals known wide w at h framed (holds.bytes (made_in 0 t)) holds.first o keeps in
-      let stand = stands_on (size_of_result op 0) prefix 0 t (λ q p. (g q p).0) live sig c.xmm (λ p. ⊥) (omega arith) known (holds.bytes (made_in 0 t)) holds.first (λ p l out ne. remains p l ne (λ e. omega (arith, e))) in (
+  one_result_line i op prefix g t c first live sig totals known wide w at stack h framed holds remains o keeps =
+      let x = result_line i (size_of_result op 0) prefix 0 t (λ q p. (g q p).0) c first live sig totals (λ p. ⊥) (omega arith) known wide w at stack h framed (holds.bytes (made_in 0 t)) holds.first (λ p l out ne. remains p l ne (λ e. omega (arith, e))) o keeps in (
         x.0,
         x.1,
         record {
           gpr = x.2.gpr;
           lanes = x.2.lanes;
-          standing = λ p l. subst (λ y. StandsAt (live_target live t (size_of_result op 0 * prefix)) (λ q. set_target n base size P (sig q) t (packed op prefix (g q)).0) y p) (sym x.2.xmm) (stand p l (λ z. z));
+          standing = λ p l. x.2.standing p l (λ z. z);
           framed = nothing_added totals x.0.memory (λ q h. adds_to t (packed op prefix (g q)).0 h) (λ q h. no_sum_added (size_of_result op 0 * prefix) t (packed op prefix (g q)).0 h known) x.2.framed;
           others = x.2.others;
         },
       )
 
   two_results_line : (i : ℕ) (op : Op) (prefix : ℕ) (g : ℕ → ℕ → ℕ × ℕ) (t u : Target) (more : List Target) (c : Core) (first : Memory) (live : ℕ → ℕ) (sig : ℕ → Local) (totals : ℕ → ℕ) → IsMade n base size P numbers (size_of_result op 0 * prefix) t → IsMade n base size P numbers (size_of_result op 1 * prefix) u
-      → made_in 0 t ≢ made_in 1 u → IsMovedTo count size t → IsMovedTo count size u → i + count ≤ n
-      → Points i c.gpr → Lanes n base size P i count c.memory sig → Framed numbers rsp c.memory totals → Holds op prefix g c.xmm (made_in 0 t) (made_in 1 u) → Remains (t ∷ u ∷ more) live sig c.xmm → Rest i first c.memory → Keeps i c.gpr first
+      → IsMovedTo count size t → IsMovedTo count size u → i + count ≤ n
+      → Points i c.gpr → c.gpr 4 ≡ rsp → Lanes n base size P i count c.memory sig → Framed numbers rsp c.memory totals → Holds op prefix g c.xmm (made_in 0 t) (made_in 1 u) → Remains (t ∷ u ∷ more) live sig c → Rest i first c.memory → Keeps i c.gpr first
       → (d : Core) × Line Q (result_far_code count size far aligned 0 t ++ result_far_code count size far aligned 1 u) c d × Wrote i op prefix (t ∷ u ∷ more) (λ q. packed op prefix (g q)) live sig totals first c d
-  two_results_line i op prefix g t u more c first live sig totals known known' apart wide wide' w at h framed holds remains o keeps =
+  two_results_line i op prefix g t u more c first live sig totals known known' wide wide' w at stack h framed holds remains o keeps =
       let one = result_far_code count size far aligned 0 t in
       let two = result_far_code count size far aligned 1 u in
-      let x = result_line i (size_of_result op 0) prefix 0 t (λ q p. (g q p).0) c first sig totals known wide w at h framed (holds.bytes (made_in 0 t)) holds.first o keeps in
+      let x = result_line i (size_of_result op 0) prefix 0 t (λ q p. (g q p).0) c first live sig totals (λ p. made_in 1 u ≡ place_register p) (omega arith) known wide w at stack h framed (holds.bytes (made_in 0 t)) holds.first (λ p l out ne. remains p l ne out) o keeps in
       let b = x.0 in
       let same : b.xmm (made_in 1 u) ≡ c.xmm (made_in 1 u) = ap (λ f. f (made_in 1 u)) x.2.xmm in
       let sig' : ℕ → Local = λ q. set_target n base size P (sig q) t (packed op prefix (g q)).0 in
-      let y = result_line i (size_of_result op 1) prefix 1 u (λ q p. (g q p).1) b first sig' totals known' wide' w (λ j hj s. (ap (λ y. y + far j) (x.2.gpr (pointer j) (not_0 j)) ∙ (at j hj s).0, (at j hj s).1)) x.2.lanes x.2.framed
-      (subst AreBytes (sym same) (holds.bytes (made_in 1 u))) (λ q l p lp. ap (lane (size_of_result op 1) (q * prefix + p)) same ∙ holds.second q l p lp) x.2.others (λ v ins gs m. keeps v ins (λ r ne. gs r ne ∙ x.2.gpr r ne) m) in
-      let d = y.0 in
-      let stand_one = stands_on (size_of_result op 0) prefix 0 t (λ q p. (g q p).0) live sig c.xmm (λ p. made_in 1 u ≡ place_register p) (omega arith) known (holds.bytes (made_in 0 t)) holds.first (λ p l out ne. remains p l ne out) in
-      let stand_two = stands_on (size_of_result op 1) prefix 1 u (λ q p. (g q p).1) (live_target live t (size_of_result op 0 * prefix)) sig' c.xmm (λ p. ⊥) (omega arith) known' (holds.bytes (made_in 1 u)) holds.second (λ p l out ne. stand_one p l ne) in (
+      let y = result_line i (size_of_result op 1) prefix 1 u (λ q p. (g q p).1) b first (live_target live t (size_of_result op 0 * prefix)) sig' totals (λ p. ⊥) (omega arith) known' wide' w (λ j hj s. (ap (λ y. y + far j) (x.2.gpr (pointer j) (not_0 j)) ∙ (at j hj s).0, (at j hj s).1))
+      (x.2.gpr 4 (λ e. omega (arith, e)) ∙ stack) x.2.lanes x.2.framed (subst AreBytes (sym same) (holds.bytes (made_in 1 u))) (λ q l p lp. ap (lane (size_of_result op 1) (q * prefix + p)) same ∙ holds.second q l p lp) (λ p l out ne. x.2.standing p l ne) x.2.others (λ v ins gs m. keeps v ins (λ r ne. gs r ne ∙ x.2.gpr r ne) m) in
+      let d = y.0 in (
         d,
         line_append Q one two c b d x.1 y.1,
         record {
           gpr = λ r ne. y.2.gpr r ne ∙ x.2.gpr r ne;
           lanes = y.2.lanes;
-          standing = λ p l. subst (λ z. StandsAt (live_targets live op prefix (t ∷ u ∷ more)) (λ q. set_results n base size P (sig q) (t ∷ u ∷ more) (packed op prefix (g q))) z p) (sym (y.2.xmm ∙ x.2.xmm)) (stand_two p l (λ z. z));
+          standing = λ p l. y.2.standing p l (λ z. z);
           framed = nothing_added totals d.memory (λ q h. adds_to t (packed op prefix (g q)).0 h + adds_to u (packed op prefix (g q)).1 h) (λ q h. let a = no_sum_added (size_of_result op 0 * prefix) t (packed op prefix (g q)).0 h known in let b = no_sum_added (size_of_result op 1 * prefix) u (packed op prefix (g q)).1 h known' in omega (arith, a, b)) y.2.framed;
           others = y.2.others;
         },
@@ -561,10 +647,10 @@ module _ (n : ℕ) (base size : ℕ → ℕ) (P : ℕ → Type 0) (numbers : Num
 
   -- a rule that computes leaves its results in the registers that they go to
   computed_line : (op : Op) (prefix : ℕ) (ss : List Source) (ts : List Target) (rule : List Ins) (c : Core) (live : ℕ → ℕ) (sig : ℕ → Local) → Meets op rule → first_register ts ≢ second_register ts → Fits op prefix
-      → Values op prefix ss sig (λ r. c.xmm (rule_register ts r)) → Bounded c → Stays c → Remains ts live sig c.xmm
+      → Values op prefix ss sig (λ r. c.xmm (rule_register ts r)) → Bounded c → Stays c → Remains ts live sig c
       → Line Q (map (renamed (rule_register ts)) rule) c (with_lanes c (after (map (renamed (rule_register ts)) rule) c.xmm))
       × Holds op prefix (λ q. made op (sig q) ss) (after (map (renamed (rule_register ts)) rule) c.xmm) (first_register ts) (second_register ts)
-      × Remains ts live sig (after (map (renamed (rule_register ts)) rule) c.xmm)
+      × Remains ts live sig (with_lanes c (after (map (renamed (rule_register ts)) rule) c.xmm))
   computed_line op prefix ss ts rule c live sig meets apart fits value bound stays remains =
       let f : ℕ → ℕ = rule_register ts in
       let list = map (renamed f) rule in
@@ -579,10 +665,10 @@ module _ (n : ℕ) (base size : ℕ → ℕ) (P : ℕ → Type 0) (numbers : Num
           first = λ q l p lp. ap (lane (size_of_result op 0) (q * prefix + p)) at_first ∙ meets.first x small (q * prefix + p) (fits q l p lp) ∙ ap (λ (z : ℕ × ℕ). z.0) (value q l p lp);
           second = λ q l p lp. ap (lane (size_of_result op 1) (q * prefix + p)) at_second ∙ meets.second x small (q * prefix + p) (fits q l p lp) ∙ ap (λ (z : ℕ × ℕ). z.1) (value q l p lp);
         },
-        λ p l nf ns q lq r lr.
+        λ p l nf ns.
             let here : f (place_register p) ≡ place_register p = register_place ts p nf ns in
             let same : after list c.xmm (place_register p) ≡ c.xmm (place_register p) = ap (after list c.xmm) (sym here) ∙ turned (place_register p) ∙ meets.keeps x (place_register p) (omega arith) ∙ ap c.xmm here in
-            ap (λ v. get_or v (q * live p + r) 0) same ∙ remains p l nf ns q lq r lr,
+            still_there live sig c (with_lanes c (after list c.xmm)) p l same (λ x a u. refl) (remains p l nf ns),
       )
 
   -- ---- one running sum
@@ -623,16 +709,8 @@ module _ (n : ℕ) (base size : ℕ → ℕ) (P : ℕ → Type 0) (numbers : Num
   sum_low : (g : ℕ) → g < numbers.sums → rsp + sum_slot g + 16 < 2 ^ 63
   sum_low g l = omega (arith, ground.frame.low, ground.frame.few_sums, l)
 
-  -- what the store of a sum leaves
-  sum_stored : (i : ℕ) (g : ℕ) (mem end : Memory) (z : ℕ → ℕ) (first : Memory) (sig : ℕ → Local) → g < numbers.sums → i + count ≤ n → IsFill 16 mem (rsp + sum_slot g) z end → Lanes n base size P i count mem sig → Rest i first mem
-      → Lanes n base size P i count end sig × Rest i first end
-  sum_stored i g mem end z first sig lg w f h o = (
-    λ k hk q l r lr. f.outside (base k + (i + q) * size k + r) (λ j lj e. ground.apart k hk (i + q) (omega (arith, l, w)) r lr (omega (arith, e)) (omega (arith, e, lj, lg, ground.frame.few_sums))) ∙ h k hk q l r lr,
-    λ x m s. f.outside x (λ j lj e. s (omega (arith, e), omega (arith, e, lj, lg))) ∙ o x m s,
-  )
-
   sum_line : (i : ℕ) (op : Op) (prefix : ℕ) (ss : List Source) (rule : List Ins) (g : ℕ) (c : Core) (first : Memory) (live : ℕ → ℕ) (sig : ℕ → Local) (totals : ℕ → ℕ) → g < numbers.sums → numbers.width g ≡ size_of_result op 0 → prefix ≡ 1 → AddsUp op count rule → i + count ≤ n
-      → c.gpr 4 ≡ rsp → Lanes n base size P i count c.memory sig → Framed numbers rsp c.memory totals → Standing live sig c.xmm → Values op prefix ss sig c.xmm → Bounded c → Each IsIns (load_sum g ∷ []) → Rest i first c.memory → Keeps i c.gpr first
+      → c.gpr 4 ≡ rsp → Lanes n base size P i count c.memory sig → Framed numbers rsp c.memory totals → Standing live sig c → Values op prefix ss sig c.xmm → Bounded c → Each IsIns (load_sum g ∷ []) → Rest i first c.memory → Keeps i c.gpr first
       → (d : Core) × Line Q (load_sum g ∷ (rule ++ store_sum g ∷ [])) c d × Wrote i op prefix (ToSum g ∷ []) (λ q. packed op prefix (made op (sig q) ss)) live sig totals first c d
   sum_line i op prefix ss rule g c first live sig totals lg width one adds w stack h framed stand value bound ins o keeps =
       let stays = stay i c c.gpr first (λ r ne. refl) o keeps in
@@ -648,7 +726,8 @@ module _ (n : ℕ) (base size : ℕ → ℕ) (P : ℕ → Type 0) (numbers : Num
       let s = store_slot u 2 rsp (sum_slot g) (gpr 4 ∙ stack) (sum_low g lg) there in
       let d = s.0 in
       let f : IsFill 16 c.memory (rsp + sum_slot g) (λ j. get_or (after rule b.xmm 2) j 0) d.memory = subst (λ m. IsFill 16 m (rsp + sum_slot g) (λ j. get_or (after rule b.xmm 2) j 0) d.memory) l.2.memory s.4 in
-      let kept = sum_stored i g c.memory d.memory (λ j. get_or (after rule b.xmm 2) j 0) first sig lg w f h o in
+      let few = ground.frame.few_sums in
+      let kept = slot_stored i (sum_slot g) c.memory d.memory (λ j. get_or (after rule b.xmm 2) j 0) first sig (omega (arith, lg, few)) (λ j lj. inl (omega arith, omega (arith, lg, lj))) w f h o in
       let grown = framed_grown numbers rsp ground.frame c.memory d.memory totals framed g (amount op prefix ss sig) lg (after rule b.xmm 2) (registers_after rule b.xmm bounded.xmm 2) f
       (grows op prefix ss sig rule g (framed.running g) c.xmm b.xmm width one adds value (l.2.others 0 (λ e. omega (arith, e))) (l.2.others 1 (λ e. omega (arith, e))) l.2.bytes bounded.xmm) in (
         d,
@@ -656,7 +735,7 @@ module _ (n : ℕ) (base size : ℕ → ℕ) (P : ℕ → Type 0) (numbers : Num
         record {
           gpr = λ r ne. ap (λ f. f r) s.2 ∙ gpr r;
           lanes = kept.0;
-          standing = λ p lp q lq r lr. ap (λ v. get_or v (q * live p + r) 0) (ap (λ f. f (place_register p)) s.3 ∙ adds.keeps b.xmm (place_register p) (omega arith) ∙ l.2.others (place_register p) (λ e. omega (arith, e))) ∙ stand p lp q lq r lr;
+          standing = λ p lp. still_there live sig c d p lp (ap (λ f. f (place_register p)) s.3 ∙ adds.keeps b.xmm (place_register p) (omega arith) ∙ l.2.others (place_register p) (λ e. omega (arith, e))) (λ x a u. f.outside x (λ j lj e. omega (arith, a, e, lj, lg, few))) (stand p lp);
           framed = framed_totals numbers rsp d.memory _ _ (λ k. ap (λ t. totals k + t) (adds_all count g k (λ q. (packed op prefix (made op (sig q) ss)).0))) grown;
           others = kept.1;
         },
@@ -672,45 +751,49 @@ module _ (n : ℕ) (base size : ℕ → ℕ) (P : ℕ → Type 0) (numbers : Num
 
   -- the rule, and the store of one result
   one_finish : (i : ℕ) (op : Op) (prefix : ℕ) (ss : List Source) (rule : List Ins) (t : Target) (c : Core) (first : Memory) (live : ℕ → ℕ) (sig : ℕ → Local) (totals : ℕ → ℕ) → AreMade n base size P numbers op prefix (t ∷ []) → Meets op rule → made_in 0 t ≢ 1 → IsMovedTo count size t → Fits op prefix
-      → i + count ≤ n → Points i c.gpr → Lanes n base size P i count c.memory sig → Framed numbers rsp c.memory totals → Remains (t ∷ []) live sig c.xmm → Known op prefix ss (t ∷ []) sig c.xmm → Bounded c → Rest i first c.memory → Keeps i c.gpr first
+      → i + count ≤ n → Points i c.gpr → c.gpr 4 ≡ rsp → Lanes n base size P i count c.memory sig → Framed numbers rsp c.memory totals → Remains (t ∷ []) live sig c → Known op prefix ss (t ∷ []) sig c.xmm → Bounded c → Rest i first c.memory → Keeps i c.gpr first
       → (d : Core) × Line Q (map (renamed (rule_register (t ∷ []))) rule ++ result_far_code count size far aligned 0 t) c d × Wrote i op prefix (t ∷ []) (λ q. packed op prefix (made op (sig q) ss)) live sig totals first c d
-  one_finish i op prefix ss rule t c first live sig totals known meets apart wide fits w at h framed remains value bound o keeps =
+  one_finish i op prefix ss rule t c first live sig totals known meets apart wide fits w at stack h framed remains value bound o keeps =
       let ts = t ∷ [] in
       let list = map (renamed (rule_register ts)) rule in
       let x = computed_line op prefix ss ts rule c live sig meets apart fits (in_rule op prefix ss ts sig c.xmm apart value) bound (stay i c c.gpr first (λ r ne. refl) o keeps) remains in
       let u : Core = with_lanes c (after list c.xmm) in
-      let s = one_result_line i op prefix (λ q. made op (sig q) ss) t u first live sig totals known.0 wide w at h framed x.1 x.2 o keeps in
+      let s = one_result_line i op prefix (λ q. made op (sig q) ss) t u first live sig totals known.0 wide w at stack h framed x.1 x.2 o keeps in
       (s.0, line_append Q list (result_far_code count size far aligned 0 t) c u s.0 x.0 s.1, record { gpr = s.2.gpr; lanes = s.2.lanes; standing = s.2.standing; framed = s.2.framed; others = s.2.others })
 
   -- the same with two
   two_finish : (i : ℕ) (op : Op) (prefix : ℕ) (ss : List Source) (rule : List Ins) (t u : Target) (more : List Target) (c : Core) (first : Memory) (live : ℕ → ℕ) (sig : ℕ → Local) (totals : ℕ → ℕ) → AreMade n base size P numbers op prefix (t ∷ u ∷ more) → Meets op rule → made_in 0 t ≢ made_in 1 u
-      → IsMovedTo count size t → IsMovedTo count size u → Fits op prefix → i + count ≤ n → Points i c.gpr → Lanes n base size P i count c.memory sig → Framed numbers rsp c.memory totals → Remains (t ∷ u ∷ more) live sig c.xmm → Known op prefix ss (t ∷ u ∷ more) sig c.xmm → Bounded c → Rest i first c.memory → Keeps i c.gpr first
+      → IsMovedTo count size t → IsMovedTo count size u → Fits op prefix → i + count ≤ n → Points i c.gpr → c.gpr 4 ≡ rsp → Lanes n base size P i count c.memory sig → Framed numbers rsp c.memory totals → Remains (t ∷ u ∷ more) live sig c → Known op prefix ss (t ∷ u ∷ more) sig c.xmm → Bounded c → Rest i first c.memory → Keeps i c.gpr first
       → (d : Core) × Line Q (map (renamed (rule_register (t ∷ u ∷ more))) rule ++ (result_far_code count size far aligned 0 t ++ result_far_code count size far aligned 1 u)) c d × Wrote i op prefix (t ∷ u ∷ more) (λ q. packed op prefix (made op (sig q) ss)) live sig totals first c d
-  two_finish i op prefix ss rule t u more c first live sig totals known meets apart wide wide' fits w at h framed remains value bound o keeps =
+  two_finish i op prefix ss rule t u more c first live sig totals known meets apart wide wide' fits w at stack h framed remains value bound o keeps =
       let ts = t ∷ u ∷ more in
       let list = map (renamed (rule_register ts)) rule in
       let stores = result_far_code count size far aligned 0 t ++ result_far_code count size far aligned 1 u in
       let x = computed_line op prefix ss ts rule c live sig meets apart fits (in_rule op prefix ss ts sig c.xmm apart value) bound (stay i c c.gpr first (λ r ne. refl) o keeps) remains in
       let v : Core = with_lanes c (after list c.xmm) in
-      let s = two_results_line i op prefix (λ q. made op (sig q) ss) t u more v first live sig totals known.0 known.2 apart wide wide' w at h framed x.1 x.2 o keeps in
+      let s = two_results_line i op prefix (λ q. made op (sig q) ss) t u more v first live sig totals known.0 known.2 wide wide' w at stack h framed x.1 x.2 o keeps in
       (s.0, line_append Q list stores c v s.0 x.0 s.1, record { gpr = s.2.gpr; lanes = s.2.lanes; standing = s.2.standing; framed = s.2.framed; others = s.2.others })
 
   finish_line : (i : ℕ) (op : Op) (prefix : ℕ) (ss : List Source) (rule : List Ins) (ts : List Target) (c : Core) (first : Memory) (live : ℕ → ℕ) (sig : ℕ → Local) (totals : ℕ → ℕ) → AreTo n base size P numbers op prefix ts → IsRule count op rule → first_register ts ≢ second_register ts → Each (IsMovedTo count size) ts → Fits op prefix
-      → Each IsIns (sum_code ts) → i + count ≤ n → Points i c.gpr → c.gpr 4 ≡ rsp → Lanes n base size P i count c.memory sig → Framed numbers rsp c.memory totals → Remains ts live sig c.xmm
+      → Each IsIns (sum_code ts) → i + count ≤ n → Points i c.gpr → c.gpr 4 ≡ rsp → Lanes n base size P i count c.memory sig → Framed numbers rsp c.memory totals → Remains ts live sig c
       → ((x : ℕ → List ℕ) → x 0 ≡ c.xmm (first_register ts) → x 1 ≡ c.xmm (second_register ts) → Values op prefix ss sig x) → Bounded c → Rest i first c.memory → Keeps i c.gpr first
       → (d : Core) × Line Q (sum_code ts ++ (map (renamed (rule_register ts)) rule ++ results_far_code count size far aligned ts)) c d × Wrote i op prefix ts (λ q. packed op prefix (made op (sig q) ss)) live sig totals first c d
   finish_line i op prefix ss rule [] c first live sig totals known is apart wide fits ins w at stack h framed remains value bound o keeps = absurd known
   finish_line i op prefix ss rule (ToSum g ∷ []) c first live sig totals known is apart wide fits ins w at stack h framed remains value bound o keeps =
       sum_line i op prefix ss (map (renamed (rule_register (ToSum g ∷ []))) rule) g c first live sig totals known.0 known.2 known.3 (adds_renamed g op count rule (is.adds known.1)) w stack h framed (λ p l. remains p l (λ e. omega (arith, e)) (λ e. omega (arith, e))) (value c.xmm refl refl) bound ins o keeps
   finish_line i op prefix ss rule (ToArray k ∷ []) c first live sig totals known is apart wide fits ins w at stack h framed remains value bound o keeps =
-      one_finish i op prefix ss rule (ToArray k) c first live sig totals known (is.meets known.1) apart wide.0 fits w at h framed remains value bound o keeps
+      one_finish i op prefix ss rule (ToArray k) c first live sig totals known (is.meets known.1) apart wide.0 fits w at stack h framed remains value bound o keeps
   finish_line i op prefix ss rule (ToPlace p ∷ []) c first live sig totals known is apart wide fits ins w at stack h framed remains value bound o keeps =
-      one_finish i op prefix ss rule (ToPlace p) c first live sig totals known (is.meets known.1) apart wide.0 fits w at h framed remains value bound o keeps
+      one_finish i op prefix ss rule (ToPlace p) c first live sig totals known (is.meets known.1) apart wide.0 fits w at stack h framed remains value bound o keeps
+  finish_line i op prefix ss rule (ToSlot k ∷ []) c first live sig totals known is apart wide fits ins w at stack h framed remains value bound o keeps =
+      one_finish i op prefix ss rule (ToSlot k) c first live sig totals known (is.meets known.1) apart wide.0 fits w at stack h framed remains value bound o keeps
   finish_line i op prefix ss rule (ToSum g ∷ t ∷ more) c first live sig totals known is apart wide fits ins w at stack h framed remains value bound o keeps = absurd known.0
   finish_line i op prefix ss rule (ToArray k ∷ u ∷ more) c first live sig totals known is apart wide fits ins w at stack h framed remains value bound o keeps =
-      two_finish i op prefix ss rule (ToArray k) u more c first live sig totals known (is.meets known.1) apart wide.0 wide.1.0 fits w at h framed remains value bound o keeps
+      two_finish i op prefix ss rule (ToArray k) u more c first live sig totals known (is.meets known.1) apart wide.0 wide.1.0 fits w at stack h framed remains value bound o keeps
   finish_line i op prefix ss rule (ToPlace p ∷ u ∷ more) c first live sig totals known is apart wide fits ins w at stack h framed remains value bound o keeps =
-      two_finish i op prefix ss rule (ToPlace p) u more c first live sig totals known (is.meets known.1) apart wide.0 wide.1.0 fits w at h framed remains value bound o keeps
+      two_finish i op prefix ss rule (ToPlace p) u more c first live sig totals known (is.meets known.1) apart wide.0 wide.1.0 fits w at stack h framed remains value bound o keeps
+  finish_line i op prefix ss rule (ToSlot k ∷ u ∷ more) c first live sig totals known is apart wide fits ins w at stack h framed remains value bound o keeps =
+      two_finish i op prefix ss rule (ToSlot k) u more c first live sig totals known (is.meets known.1) apart wide.0 wide.1.0 fits w at stack h framed remains value bound o keeps
 
   -- what an action adds to the totals
   abbrev Grown : List Action → (ℕ → Local) → (ℕ → ℕ) → ℕ → ℕ
@@ -729,7 +812,7 @@ module _ (n : ℕ) (base size : ℕ → ℕ) (P : ℕ → Type 0) (numbers : Num
           omega (arith, m, e, h)
 
   action_line : (i : ℕ) (a : Action) (c : Core) (first : Memory) (live : ℕ → ℕ) (sig : ℕ → Local) (totals : ℕ → ℕ) → IsKnown n base size P numbers live a → IsFit count size a → Each IsIns (action_far_code count size far aligned a) → i + count ≤ n → Points i c.gpr → c.gpr 4 ≡ rsp
-      → Lanes n base size P i count c.memory sig → Framed numbers rsp c.memory totals → Standing live sig c.xmm
+      → Lanes n base size P i count c.memory sig → Framed numbers rsp c.memory totals → Standing live sig c
       → Bounded c → Rest i first c.memory → Keeps i c.gpr first → (d : Core) × Line Q (action_far_code count size far aligned a) c d × After i c d first (live_act live a) (λ q. local_act n base size P numbers a (sig q)) (GrownBy a sig totals)
   action_line i a c first live sig totals known fit ins_a w at stack h framed stand bound o keeps =
       let loads = sources_far_code count size far (first_register a.to) (second_register a.to) a.sources in
@@ -742,7 +825,7 @@ module _ (n : ℕ) (base size : ℕ → ℕ) (P : ℕ → Type 0) (numbers : Num
       let s = finish_line i a.op a.prefix a.sources a.rule a.to e first live sig totals known.to fit.rule known.apart fit.to fits
       (each_front IsIns (sum_code a.to) (rule_code a ++ results_far_code count size far aligned a.to) (each_back IsIns loads rest ins_a)) w (λ k hk t. (ap (λ y. y + far k) (g.gpr (pointer k) (not_0 k)) ∙ (at k hk t).0, (at k hk t).1)) (g.gpr 4 (λ z. omega (arith, z)) ∙ stack)
       (λ k hk q l r lr. ap (λ f. f (base k + (i + q) * size k + r)) g.memory ∙ h k hk q l r lr) (subst (λ m. Framed numbers rsp m totals) (sym g.memory) framed)
-      (λ p l nf ns q lq r lr. ap (λ v. get_or v (q * live p + r) 0) (g.others (place_register p) (λ z. nf (sym z)) (λ z. ns (sym z))) ∙ stand p l q lq r lr) g.value g.bounded
+      (λ p l nf ns. still_there live sig c e p l (g.others (place_register p) (λ z. nf (sym z)) (λ z. ns (sym z))) (λ x a u. ap (λ f. f x) g.memory) (stand p l)) g.value g.bounded
       (λ v out sums. ap (λ f. f v) g.memory ∙ o v out sums) (λ t ins gs m. keeps t ins (λ r ne. gs r ne ∙ g.gpr r ne) m) in
       let d = s.0 in
       let line : Line Q (action_far_code count size far aligned a) c d = line_append Q loads rest c e d x.1 s.1 in (
@@ -774,7 +857,7 @@ module _ (n : ℕ) (base size : ℕ → ℕ) (P : ℕ → Type 0) (numbers : Num
 
   -- a whole block
   pub actions_line : (i : ℕ) (actions : List Action) (c : Core) (first : Memory) (live : ℕ → ℕ) (sig : ℕ → Local) (totals : ℕ → ℕ) → AllKnown n base size P numbers live actions → Each (IsFit count size) actions → Each (λ a. Each IsIns (action_far_code count size far aligned a)) actions → i + count ≤ n → Points i c.gpr → c.gpr 4 ≡ rsp
-      → Lanes n base size P i count c.memory sig → Framed numbers rsp c.memory totals → Standing live sig c.xmm → Bounded c → Rest i first c.memory → Keeps i c.gpr first
+      → Lanes n base size P i count c.memory sig → Framed numbers rsp c.memory totals → Standing live sig c → Bounded c → Rest i first c.memory → Keeps i c.gpr first
       → (d : Core) × Line Q (actions_far_code count size far aligned actions) c d × After i c d first (live_after live actions) (λ q. local n base size P numbers actions (sig q)) (Grown actions sig totals)
   actions_line i [] c first live sig totals known fit ins_all w at stack h framed stand bound o keeps = (c, refl, record { gpr = λ r ne. refl; lanes = h; standing = stand; framed = framed_totals numbers rsp c.memory totals (λ g. totals g + sum_below count (λ q. 0)) (no_growth totals) framed; others = o; bounded = bound })
   actions_line i (a ∷ rest) c first live sig totals known fit ins_all w at stack h framed stand bound o keeps =

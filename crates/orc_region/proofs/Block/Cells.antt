@@ -10,7 +10,9 @@ use Rattle.orc_program.specs.Meaning.{sub_lane, lanewise}
 use Rattle.x86_flow.proofs.Moves.{IsFill}
 use Rattle.sse_laws.specs.Meets.{is_shift, is_sum}
 use Rattle.x86_ins.specs.Way.{Each}
-use Rattle.orc_region.specs.Code.{Action, Source, FromArray, FromPattern, FromPlace, Target, ToArray, ToSum, ToPlace, place_register, first_register, second_register}
+use Rattle.orc_program.specs.Need.{registers}
+use Rattle.orc_frame.specs.Layout.{spill_slots}
+use Rattle.orc_region.specs.Code.{Action, Source, FromArray, FromPattern, FromPlace, FromSlot, Target, ToArray, ToSum, ToPlace, ToSlot, place_register, slot_place, first_register, second_register}
 use Rattle.orc_region.proofs.Arithmetic.Digits.{digit, byte_within, byte_further, byte_split, byte_apart}
 
 pub eq_yes : (x y : ℕ) → x ≡ y → (x == y) ≡ true
@@ -36,6 +38,7 @@ abbrev pub given_by : (ℕ → ℕ) → ℕ → Local → Source → ℕ → ℕ
 given_by number w l (FromArray k) = sub_lane (8 * w) (l.cells k)
 given_by number w l (FromPattern j) = λ q. number j
 given_by number w l (FromPlace p) = sub_lane (8 * w) (l.values p)
+given_by number w l (FromSlot k) = sub_lane (8 * w) (l.values (slot_place k))
 
 -- what each sub-lane of an opcode's sources holds
 abbrev pub given : (ℕ → ℕ) → Op → Local → List Source → (ℕ → ℕ) × (ℕ → ℕ)
@@ -52,6 +55,7 @@ abbrev pub adds_to : Target → ℕ → ℕ → ℕ
 adds_to (ToArray d) v g = 0
 adds_to (ToSum h) v g = if h == g then v else 0
 adds_to (ToPlace p) v g = 0
+adds_to (ToSlot k) v g = 0
 
 abbrev pub results_add : List Target → ℕ × ℕ → ℕ → ℕ
 results_add [] v g = 0
@@ -65,6 +69,7 @@ abbrev pub live_target : (ℕ → ℕ) → Target → ℕ → ℕ → ℕ
 live_target live (ToArray k) bytes = live
 live_target live (ToSum g) bytes = live
 live_target live (ToPlace p) bytes = change live p bytes
+live_target live (ToSlot k) bytes = change live (slot_place k) bytes
 
 abbrev pub live_targets : (ℕ → ℕ) → Op → ℕ → List Target → ℕ → ℕ
 live_targets live op prefix [] = live
@@ -96,6 +101,7 @@ module _ (n : ℕ) (base size : ℕ → ℕ) (P : ℕ → Type 0) where
   set_target l (ToArray d) v = set_local l d v
   set_target l (ToSum g) v = l
   set_target l (ToPlace p) v = record { cells = l.cells; values = change l.values p v }
+  set_target l (ToSlot k) v = record { cells = l.cells; values = change l.values (slot_place k) v }
 
   -- the first result before the second
   abbrev pub set_results : Local → List Target → ℕ × ℕ → Local
@@ -152,13 +158,15 @@ module _ (n : ℕ) (base size : ℕ → ℕ) (P : ℕ → Type 0) where
     abbrev pub IsFrom : (ℕ → ℕ) → ℕ → ℕ → Source → Type 0
     IsFrom live w prefix (FromArray k) = IsOf k (w * prefix)
     IsFrom live w prefix (FromPattern j) = (j < numbers.patterns) × (numbers.period j ≡ w)
-    IsFrom live w prefix (FromPlace p) = (p < 10) × (live p ≡ w * prefix)
+    IsFrom live w prefix (FromPlace p) = (p < registers) × (live p ≡ w * prefix)
+    IsFrom live w prefix (FromSlot k) = (k < spill_slots) × (live (slot_place k) ≡ w * prefix)
 
     -- a count is a pattern
     abbrev pub IsBeside : Op → Source → Type 0
     IsBeside op (FromArray k) = is_shift (row op).kind ≡ false
     IsBeside op (FromPattern j) = Unit {0}
     IsBeside op (FromPlace p) = is_shift (row op).kind ≡ false
+    IsBeside op (FromSlot k) = is_shift (row op).kind ≡ false
 
     -- one or two sources of the opcode's sizes
     abbrev pub AreFrom : (ℕ → ℕ) → Op → ℕ → List Source → Type 0
@@ -166,11 +174,12 @@ module _ (n : ℕ) (base size : ℕ → ℕ) (P : ℕ → Type 0) where
     AreFrom live op prefix (s ∷ []) = IsFrom live (size_of_source op 0) prefix s × (size_of_source op 1 ≡ 0)
     AreFrom live op prefix (s ∷ t ∷ more) = IsFrom live (size_of_source op 0) prefix s × IsFrom live (size_of_source op 1) prefix t × IsBeside op t
 
-    -- a result that is no running sum: a dest, or a place
+    -- a result that is no running sum: a dest, a place or a spill slot
     abbrev pub IsMade : ℕ → Target → Type 0
     IsMade bytes (ToArray k) = IsTo k bytes
     IsMade bytes (ToSum g) = ⊥
-    IsMade bytes (ToPlace p) = p < 10
+    IsMade bytes (ToPlace p) = p < registers
+    IsMade bytes (ToSlot k) = k < spill_slots
 
     -- one running sum
     abbrev pub IsAdded : Op → ℕ → ℕ → Type 0
@@ -182,16 +191,17 @@ module _ (n : ℕ) (base size : ℕ → ℕ) (P : ℕ → Type 0) where
     AreMade op prefix (t ∷ []) = IsMade (size_of_result op 0 * prefix) t × (is_sum (row op).kind ≡ false)
     AreMade op prefix (t ∷ u ∷ more) = IsMade (size_of_result op 0 * prefix) t × (is_sum (row op).kind ≡ false) × IsMade (size_of_result op 1 * prefix) u
 
-    -- one or two dests or places, or one running sum
+    -- one or two dests, places or spill slots, or one running sum
     abbrev pub AreTo : Op → ℕ → List Target → Type 0
     AreTo op prefix (ToSum g ∷ []) = IsAdded op prefix g
     AreTo op prefix ts = AreMade op prefix ts
 
-    -- a source doesn't stand where a result is made
+    -- a source doesn't stand in a register where a result is made
     abbrev pub IsKept : List Target → Source → Type 0
     IsKept ts (FromArray k) = Unit {0}
     IsKept ts (FromPattern j) = Unit {0}
     IsKept ts (FromPlace p) = (first_register ts ≢ place_register p) × (second_register ts ≢ place_register p)
+    IsKept ts (FromSlot k) = Unit {0}
 
     -- its operands are of the opcode's sizes, its sources stand elsewhere than its results, and its results in two registers
     pub record IsKnown (live : ℕ → ℕ) (a : Action) : Type 0 where

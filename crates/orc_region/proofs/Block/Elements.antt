@@ -19,7 +19,7 @@ use Rattle.orc_program.specs.Slots.{slot_of}
 use Rattle.orc_program.specs.Meaning.{State, Gap, cell, sub_lane, go_on, write_result, write_results, act, element, row_of}
 use Rattle.orc_program.specs.Checks.{number_in}
 use Rattle.x86_flow.proofs.Moves.{IsFill}
-use Rattle.orc_region.specs.Code.{Action, Source, FromArray, FromPattern, FromPlace, Target, ToArray, ToSum, ToPlace}
+use Rattle.orc_region.specs.Code.{Action, Source, FromArray, FromPattern, FromPlace, FromSlot, Target, ToArray, ToSum, ToPlace, ToSlot, slot_place}
 use Rattle.orc_region.proofs.Arithmetic.Digits.{digit}
 use Rattle.orc_region.proofs.Block.Cells.{Numbers, Local, given_by, given, computed, adds_to, results_add, eq_yes, Lanes, Others, IsOf, Separate, Low, set_local, set_target, set_results, value_of, local_act, local, adds, store_lanes, store_others, others_more, cell_apart}
 use Rattle.orc_region.proofs.Block.Emulated.{IsCells, IsDest, IsSum, IsTemp, state, meant, Holds, IsLow, Gives, array_gives, temp_gives, number_gives, array_takes, sum_takes, temp_takes, Writes, act_one, act_two}
@@ -32,6 +32,7 @@ abbrev pub IsRead : FunctionValue → (ℕ → Operand) → (ℕ → ℕ → Typ
 IsRead f patterns V w prefix o (FromArray k) = (p : ℕ) × (o ≡ operand.Var p) × IsCells f p (w * prefix) × (slot_of f.vars p ≡ k)
 IsRead f patterns V w prefix o (FromPattern j) = number_in f.vars o ≡ Some (patterns j)
 IsRead f patterns V w prefix o (FromPlace p) = (x : ℕ) × (o ≡ operand.Var x) × IsTemp f x × V x p
+IsRead f patterns V w prefix o (FromSlot k) = (x : ℕ) × (o ≡ operand.Var x) × IsTemp f x × V x (slot_place k)
 
 abbrev pub AreRead : FunctionValue → (ℕ → Operand) → (ℕ → ℕ → Type 0) → Op → ℕ → List Operand → List Source → Type 0
 AreRead f patterns V op prefix (x ∷ []) (s ∷ []) = IsRead f patterns V (size_of_source op 0) prefix x s
@@ -43,11 +44,13 @@ abbrev pub Follows : (ℕ → ℕ → Type 0) → Operand → Target → (ℕ �
 Follows V o (ToArray k) W = (x p : ℕ) → W x p → V x p
 Follows V o (ToSum g) W = (x p : ℕ) → W x p → V x p
 Follows V o (ToPlace a) W = (x p : ℕ) → W x p → ((o ≡ operand.Var x) × (p ≡ a)) ⊎ (V x p × ((o ≡ operand.Var x) → ⊥) × (p ≢ a))
+Follows V o (ToSlot k) W = (x p : ℕ) → W x p → ((o ≡ operand.Var x) × (p ≡ slot_place k)) ⊎ (V x p × ((o ≡ operand.Var x) → ⊥) × (p ≢ slot_place k))
 
 abbrev pub IsWritten : FunctionValue → ℕ → ℕ → Operand → Target → Type 0
 IsWritten f w prefix o (ToArray k) = (p : ℕ) × (o ≡ operand.Var p) × IsCells f p (w * prefix) × IsDest f p × (slot_of f.vars p ≡ k)
 IsWritten f w prefix o (ToSum g) = (p : ℕ) × (o ≡ operand.Var p) × IsSum f p w × (count_before kind.Accumulator f.vars p ≡ g)
 IsWritten f w prefix o (ToPlace a) = (x : ℕ) × (o ≡ operand.Var x) × IsTemp f x
+IsWritten f w prefix o (ToSlot k) = (x : ℕ) × (o ≡ operand.Var x) × IsTemp f x
 
 -- by what is seen of places: `At v` is the relation in view v
 module _ {View : Type 0} (At : View → ℕ → ℕ → Type 0) where
@@ -204,6 +207,20 @@ module _ (f : FunctionValue) (call : Call) (r : ℕ) (base size : ℕ → ℕ) (
           let other : y ≢ x = λ e. w.1 (is ∙ ap operand.Var (sym e)) in
           change_other temps x v y other ∙ c y p w.0 ∙ sym (change_other l.values a v p w.2)
 
+  -- a write of a temp
+  write_temp : (e w prefix v : ℕ) (o : Operand) (p : ℕ) (V W : ℕ → ℕ → Type 0) (mem : Memory) (temps sums totals : ℕ → ℕ) (l : Local) → IsWritten f w prefix o (ToPlace p) → Follows V o (ToPlace p) W → e < call.n
+      → Cells e 1 mem (λ q. l) → Carries V temps l → Agrees f sums totals → Leaves e (write_result f call r e v (state mem temps sums) o) mem W (set_target call.n base size P l (ToPlace p) v) (λ g. totals g + 0)
+  write_temp e w prefix v o p V W mem temps sums totals l is follows le h c a = record {
+    end = mem;
+    temps = change temps is.0 v;
+    sums = sums;
+    is = ap (write_result f call r e v (state mem temps sums)) is.1 ∙ temp_takes f call r e is.0 v mem temps sums is.2;
+    lanes = h;
+    others = λ x m. refl;
+    carries = carries_more V W is.0 p v o temps l is.1 follows c;
+    agrees = agrees_same f sums totals (λ g. totals g + 0) (λ g. omega arith) a;
+  }
+
   -- one write
   write_one : (e w prefix v : ℕ) (o : Operand) (t : Target) (V W : ℕ → ℕ → Type 0) (mem : Memory) (temps sums totals : ℕ → ℕ) (l : Local) → IsWritten f w prefix o t → Follows V o t W → e < call.n
       → Cells e 1 mem (λ q. l) → Carries V temps l → Agrees f sums totals → Leaves e (write_result f call r e v (state mem temps sums) o) mem W (set_target call.n base size P l t v) (λ g. totals g + adds_to t v g)
@@ -234,16 +251,8 @@ module _ (f : FunctionValue) (call : Call) (r : ℕ) (base size : ℕ → ℕ) (
         carries = λ x p s. c x p (follows x p s);
         agrees = subst (λ g. Agrees f (change sums p ((sums p + v) % 2 ^ (8 * w))) (λ x. totals x + adds_to (ToSum g) v x)) is.3 (agrees_more f sums totals p w v a is.2);
       }
-  write_one e w prefix v o (ToPlace p) V W mem temps sums totals l is follows le h c a = record {
-    end = mem;
-    temps = change temps is.0 v;
-    sums = sums;
-    is = ap (write_result f call r e v (state mem temps sums)) is.1 ∙ temp_takes f call r e is.0 v mem temps sums is.2;
-    lanes = h;
-    others = λ x m. refl;
-    carries = carries_more V W is.0 p v o temps l is.1 follows c;
-    agrees = agrees_same f sums totals (λ g. totals g + 0) (λ g. omega arith) a;
-  }
+  write_one e w prefix v o (ToPlace p) V W mem temps sums totals l is follows le h c a = write_temp e w prefix v o p V W mem temps sums totals l is follows le h c a
+  write_one e w prefix v o (ToSlot k) V W mem temps sums totals l is follows le h c a = write_temp e w prefix v o (slot_place k) V W mem temps sums totals l is follows le h c a
 
   -- the first result before the second
   write_all : (e : ℕ) (op : Op) (prefix : ℕ) (os : List Operand) (ts : List Target) (x : ℕ × ℕ) (v w : View) (mem : Memory) (temps sums totals : ℕ → ℕ) (l : Local) → AreWritten At f op prefix os ts v w → e < call.n
@@ -276,6 +285,11 @@ module _ (f : FunctionValue) (call : Call) (r : ℕ) (base size : ℕ → ℕ) (
 
   -- ---- sources
 
+  gives_temp : (e w prefix : ℕ) (o : Operand) (p : ℕ) (V : ℕ → ℕ → Type 0) (mem : Memory) (temps sums : ℕ → ℕ) (l : Local) → IsRead f patterns V w prefix o (FromPlace p) → Carries V temps l → Gives f call r e w prefix (state mem temps sums) o (sub_lane (8 * w) (l.values p))
+  gives_temp e w prefix o p V mem temps sums l is c =
+      subst (λ o. Gives f call r e w prefix (state mem temps sums) o (sub_lane (8 * w) (l.values p))) (sym is.1)
+      (temp_gives f call r e is.0 w prefix (l.values p) (state mem temps sums) is.2 (c is.0 p is.3))
+
   gives : (e w prefix : ℕ) (o : Operand) (s : Source) (V : ℕ → ℕ → Type 0) (mem : Memory) (temps sums : ℕ → ℕ) (l : Local) → IsRead f patterns V w prefix o s → e < call.n → Cells e 1 mem (λ q. l) → Carries V temps l
       → Gives f call r e w prefix (state mem temps sums) o (given_by numbers.number w l s)
   gives e w prefix o (FromArray k) V mem temps sums l is le h c =
@@ -286,9 +300,8 @@ module _ (f : FunctionValue) (call : Call) (r : ℕ) (base size : ℕ → ℕ) (
       (array_gives f call r e p w prefix (l.cells (slot_of f.vars p)) (state mem temps sums) is.2 (low_cell e p b is.2 le) (holds e p b mem l is.2 le h)))
   gives e w prefix o (FromPattern j) V mem temps sums l is le h c =
       subst (λ n. Gives f call r e w prefix (state mem temps sums) o (λ q. n)) (sym (number_is j)) (number_gives f call r e w prefix (state mem temps sums) o (patterns j) is)
-  gives e w prefix o (FromPlace p) V mem temps sums l is le h c =
-      subst (λ o. Gives f call r e w prefix (state mem temps sums) o (sub_lane (8 * w) (l.values p))) (sym is.1)
-      (temp_gives f call r e is.0 w prefix (l.values p) (state mem temps sums) is.2 (c is.0 p is.3))
+  gives e w prefix o (FromPlace p) V mem temps sums l is le h c = gives_temp e w prefix o p V mem temps sums l is c
+  gives e w prefix o (FromSlot k) V mem temps sums l is le h c = gives_temp e w prefix o (slot_place k) V mem temps sums l is c
 
   abbrev WritesGiven : ℕ → Insn → State → Local → List Source → Type 0
   WritesGiven e insn s l ss = Writes f call r e insn s (given numbers.number insn.op l ss).0 (given numbers.number insn.op l ss).1

@@ -1,6 +1,6 @@
--- Patterns and running sums in the frame.
-use Rattle.std.proofs.Common.{◌≡◌, ◌≢◌, ℕ, zero, suc, ◌+◌, ◌*◌, ◌/◌, ◌%◌, ◌^◌, ◌<◌, ◌≤◌, ◌==◌, Bool, true, false, if◌then◌else◌, List, get_or, Some, Ok, refl, sym, ap, ◌∙◌, subst, arith, ⊎_elim}
-use Rattle.std.proofs.lemmas.Bool.{cases_eq}
+-- Patterns, running sums and spill slots in the frame.
+use Rattle.std.proofs.Common.{◌≡◌, ◌≢◌, ℕ, zero, suc, ◌+◌, ◌-◌, ◌*◌, ◌/◌, ◌%◌, ◌^◌, ◌<◌, ◌≤◌, ◌==◌, Bool, true, false, if◌then◌else◌, List, get_or, Some, Ok, is_some, refl, sym, ap, ◌∙◌, subst, arith, ⊎_elim}
+use Rattle.std.proofs.lemmas.Bool.{cases_eq, cases_lt}
 use Rattle.std.proofs.lemmas.Nat.{mod-mul-add}
 use Rattle.std.proofs.Math.Nat.{add-mod-mod}
 use Rattle.orc_bits.specs.Numbers.{cut}
@@ -15,7 +15,8 @@ use Rattle.x86_flow.specs.Moves.{away}
 use Rattle.x86_flow.proofs.Moves.{IsFill, fill_is}
 use Rattle.sse_acc.specs.Sums.{sum_below, sum_of}
 use Rattle.sse_acc.proofs.Totals.{sum_below-zero, sum_below-suc, sum_below-same}
-use Rattle.orc_frame.specs.Layout.{pattern_slot, sum_slot, frame_size, saved_slot}
+use Rattle.orc_frame.specs.Layout.{pattern_slot, sum_slot, saved_slot, frame_size, spill_slot}
+use Rattle.orc_frame.specs.Parts.{InSpilled}
 use Rattle.orc_region.specs.Code.{ToSum}
 use Rattle.orc_region.proofs.Arithmetic.Digits.{digit, byte_within}
 use Rattle.orc_region.proofs.Block.Cells.{Numbers, adds_to, eq_yes}
@@ -109,32 +110,29 @@ module _ (numbers : Numbers) (rsp : ℕ) where
     pub few_sums : numbers.sums ≤ 4
     pub low : rsp + frame_size ≤ 2 ^ 47
 
-  -- the patterns' slots hold their bytes, and the lanes of each running sum add up to its total, modulo what the sum's bytes hold
+  -- the patterns' slots hold their bytes, the lanes of each running sum add up to its total, modulo what the sum's bytes hold, and the spill slots are mapped
   pub record Framed (mem : Memory) (totals : ℕ → ℕ) : Type 0 where
     pub patterns : (j : ℕ) → j < numbers.patterns → (b : ℕ) → b < 16 → mem (rsp + pattern_slot j + b) ≡ Some (digit (numbers.number j) (b % numbers.period j))
     pub running : ℕ → List ℕ
     pub bytes : (g : ℕ) → AreBytes (running g)
     pub sums : (g : ℕ) → g < numbers.sums → (b : ℕ) → b < 16 → mem (rsp + sum_slot g + b) ≡ Some (get_or (running g) b 0)
     pub totals_are : (g : ℕ) → g < numbers.sums → cut (8 * numbers.width g) (sum_of (numbers.width g) (running g)) ≡ cut (8 * numbers.width g) (totals g)
+    pub spilled : (x : ℕ) → InSpilled rsp x → IsMapped mem x
 
-  -- the patterns and sums stay where their bytes do
-  pub framed_below : IsFrame → (mem end : Memory) (totals : ℕ → ℕ) → ((x : ℕ) → rsp ≤ x → x < rsp + saved_slot 0 → end x ≡ mem x) → Framed mem totals → Framed end totals
-  framed_below is mem end totals same h = record {
+  -- the patterns and sums stay where their bytes do, and the spill slots where theirs stay mapped
+  pub framed_below : IsFrame → (mem end : Memory) (totals : ℕ → ℕ) → ((x : ℕ) → rsp ≤ x → x < rsp + saved_slot 0 → end x ≡ mem x) → ((x : ℕ) → InSpilled rsp x → IsMapped mem x → IsMapped end x) → Framed mem totals → Framed end totals
+  framed_below is mem end totals same there h = record {
     patterns = λ j l b lb. same (rsp + pattern_slot j + b) (omega arith) (omega (arith, l, lb, is.few_patterns)) ∙ h.patterns j l b lb;
     running = h.running;
     bytes = h.bytes;
     sums = λ g l b lb. same (rsp + sum_slot g + b) (omega arith) (omega (arith, l, lb, is.few_sums)) ∙ h.sums g l b lb;
     totals_are = h.totals_are;
+    spilled = λ x i. there x i (h.spilled x i);
   }
 
   pub framed_same : IsFrame → (mem end : Memory) (totals : ℕ → ℕ) → ((x : ℕ) → rsp ≤ x → x < rsp + frame_size → end x ≡ mem x) → Framed mem totals → Framed end totals
-  framed_same is mem end totals same h = record {
-    patterns = λ j l b lb. same (rsp + pattern_slot j + b) (omega arith) (omega (arith, l, lb, is.few_patterns)) ∙ h.patterns j l b lb;
-    running = h.running;
-    bytes = h.bytes;
-    sums = λ g l b lb. same (rsp + sum_slot g + b) (omega arith) (omega (arith, l, lb, is.few_sums)) ∙ h.sums g l b lb;
-    totals_are = h.totals_are;
-  }
+  framed_same is mem end totals same h =
+      framed_below is mem end totals (λ x l u. same x l (omega (arith, u))) (λ x i m. subst (λ o. is_some o ≡ true) (sym (same x (let l = i.0 in omega (arith, l)) i.1)) m) h
 
   pub framed_totals : (mem : Memory) (a b : ℕ → ℕ) → ((g : ℕ) → a g ≡ b g) → Framed mem a → Framed mem b
   framed_totals mem a b e h = record {
@@ -143,7 +141,28 @@ module _ (numbers : Numbers) (rsp : ℕ) where
     bytes = h.bytes;
     sums = h.sums;
     totals_are = λ g l. h.totals_are g l ∙ ap (cut (8 * numbers.width g)) (e g);
+    spilled = h.spilled;
   }
+
+  -- a spill slot was stored
+  pub framed_spilled : IsFrame → (mem end : Memory) (totals : ℕ → ℕ) (k : ℕ) (z : ℕ → ℕ) → IsFill 16 mem (rsp + spill_slot k) z end → Framed mem totals → Framed end totals
+  framed_spilled is mem end totals k z f h = record {
+    patterns = λ j l b lb. f.outside (rsp + pattern_slot j + b) (λ i li q. omega (arith, q, l, lb, is.few_patterns)) ∙ h.patterns j l b lb;
+    running = h.running;
+    bytes = h.bytes;
+    sums = λ g l b lb. f.outside (rsp + sum_slot g + b) (λ i li q. omega (arith, q, l, lb, is.few_sums)) ∙ h.sums g l b lb;
+    totals_are = h.totals_are;
+    spilled = λ x i. ⊎_elim
+        (λ l. beside x (λ j lj q. omega (arith, q, l)) i)
+        (λ g. ⊎_elim (λ l. within x g l) (λ u. beside x (λ j lj q. omega (arith, q, lj, u)) i) (cases_lt x (rsp + spill_slot k + 16)))
+        (cases_lt x (rsp + spill_slot k));
+  }
+    where
+      beside : (x : ℕ) → ((j : ℕ) → j < 16 → x ≢ rsp + spill_slot k + j) → InSpilled rsp x → IsMapped end x
+      beside x out i = ap is_some (f.outside x out) ∙ h.spilled x i
+
+      within : (x : ℕ) → rsp + spill_slot k ≤ x → x < rsp + spill_slot k + 16 → IsMapped end x
+      within x g l = ap is_some (ap end (let e : x ≡ rsp + spill_slot k + (x - (rsp + spill_slot k)) = omega (arith, g) in e) ∙ f.inside (x - (rsp + spill_slot k)) (omega (arith, g, l)))
 
   added : (m s t v : ℕ) → s % m ≡ t % m → (s + v) % m ≡ (t + v) % m
   added m s t v e = sym (mod_add s v m) ∙ ap (λ x. (x + v) % m) e ∙ mod_add t v m
@@ -187,4 +206,5 @@ module _ (numbers : Numbers) (rsp : ℕ) where
       bytes = grown_bytes;
       sums = grown_there;
       totals_are = grown_total;
+      spilled = λ x i. ap is_some (f.outside x (λ j lj q. let a = i.0 in omega (arith, q, l, lj, a, is.few_sums))) ∙ h.spilled x i;
     }

@@ -10,7 +10,7 @@ use Rattle.x86_ins.specs.Vectors.{after}
 use Rattle.x86_ins.specs.Renaming.{renamed}
 use Rattle.x86_ins.proofs.Renamed.{after_same, after_renamed, simd_renamed}
 use Rattle.sse_acc.specs.Sums.{AddsUp, sum_of}
-use Rattle.orc_region.specs.Code.{Target, ToArray, ToSum, ToPlace, place_register, first_register, second_register, exchange, rule_register}
+use Rattle.orc_region.specs.Code.{Target, ToArray, ToSum, ToPlace, ToSlot, place_register, first_register, second_register, exchange, rule_register}
 
 -- ---- two registers change places
 
@@ -64,6 +64,7 @@ first_is [] = inl refl
 first_is (ToArray k ∷ more) = inl refl
 first_is (ToSum g ∷ more) = inl refl
 first_is (ToPlace p ∷ more) = inr (omega arith)
+first_is (ToSlot k ∷ more) = inl refl
 
 second_is : (ts : List Target) → (second_register ts ≡ 1) ⊎ (6 ≤ second_register ts)
 second_is [] = inl refl
@@ -71,6 +72,7 @@ second_is (t ∷ []) = inl refl
 second_is (t ∷ ToArray k ∷ more) = inl refl
 second_is (t ∷ ToSum g ∷ more) = inl refl
 second_is (t ∷ ToPlace p ∷ more) = inr (omega arith)
+second_is (t ∷ ToSlot k ∷ more) = inl refl
 
 second_not_0 : (ts : List Target) → 0 ≢ second_register ts
 second_not_0 ts e = ⊎_elim (λ x. omega (arith, e, x)) (λ l. omega (arith, e, l)) (second_is ts)

@@ -13,11 +13,11 @@ use Rattle.x86_flow.proofs.Moves.{each_width}
 use Rattle.x86_flow.proofs.Spelled.{each_both}
 use Rattle.x86_flow.proofs.Touching.{touches_none, touches_in}
 use Rattle.x86_flow.proofs.Words.{at_away}
-use Rattle.orc_frame.specs.Layout.{frame_size, pattern_slot, sum_slot}
+use Rattle.orc_frame.specs.Layout.{pattern_slot, sum_slot, frame_size, spill_slot}
 use Rattle.orc_ops.specs.declared.opcode.Op.{Op}
 use Rattle.orc_ops.specs.Table.{size_of_result, size_of_source}
 use Rattle.orc_region.specs.Stores.{IsMovdquStore}
-use Rattle.orc_region.specs.Code.{Action, IsRule, Source, FromArray, FromPattern, FromPlace, Target, ToArray, ToSum, ToPlace, pointer, first_register, second_register, rule_register, rule_code, source_far_code, sources_far_code, sum_code, result_far_code, results_far_code, action_far_code, actions_far_code}
+use Rattle.orc_region.specs.Code.{Action, IsRule, Source, FromArray, FromPattern, FromPlace, FromSlot, Target, ToArray, ToSum, ToPlace, ToSlot, pointer, first_register, second_register, rule_register, rule_code, source_far_code, sources_far_code, sum_code, result_far_code, results_far_code, action_far_code, actions_far_code}
 use Rattle.orc_region.proofs.Arithmetic.Digits.{byte_split, byte_further}
 use Rattle.orc_region.proofs.Block.Cells.{Numbers, Low, IsFrom, AreFrom, IsMade, AreTo, IsKnown, AllKnown, live_act}
 use Rattle.orc_region.proofs.Sizes.Bytes.{vectors_of}
@@ -144,7 +144,7 @@ module _ (n : ℕ) (base size : ℕ → ℕ) (P : ℕ → Type 0) (numbers : Num
 
   -- to nothing, to a slot of the frame by RSP, or to cells
   abbrev pub Goes : Ins → Type 0
-  Goes i = GoesNowhere i ⊎ (((d : ℕ) × (d + 16 ≤ 1024) × GoesBy 4 d 16 i) ⊎ ((k : ℕ) × GoesToCells k i))
+  Goes i = GoesNowhere i ⊎ (((d : ℕ) × (d + 16 ≤ frame_size) × GoesBy 4 d 16 i) ⊎ ((k : ℕ) × GoesToCells k i))
 
   nowhere_goes : (list : List Ins) → Each GoesNowhere list → Each Goes list
   nowhere_goes list h = each_map GoesNowhere Goes (λ i x. inl x) list h
@@ -157,6 +157,7 @@ module _ (n : ℕ) (base size : ℕ → ℕ) (P : ℕ → Type 0) (numbers : Num
       to_cells i (inr h) = inr (inr (k, record { array = o.array; some = o.some; few = width_few (count * size k) wide; by = h.0; stores = λ m. absurd (h.1 m) }))
   source_goes live w prefix x (FromPattern j) o wide = (inr (inl (pattern_slot j, omega (arith, o.0, few_patterns), (refl, λ u. refl))), tt)
   source_goes live w prefix x (FromPlace p) o wide = (inl ((refl, λ u. refl)), tt)
+  source_goes live w prefix x (FromSlot k) o wide = (inr (inl (spill_slot k, (let l = o.0 in omega (arith, l)), (refl, λ u. refl))), tt)
 
   sources_go : (live : ℕ → ℕ) (op : Op) (prefix x y : ℕ) (ss : List Source) → AreFrom n base size P numbers live op prefix ss → Each (IsMovedFrom count size) ss → Each Goes (sources_far_code count size far x y ss)
   sources_go live op prefix x y [] o wide = tt
@@ -172,9 +173,10 @@ module _ (n : ℕ) (base size : ℕ → ℕ) (P : ℕ → Type 0) (numbers : Num
       to_cells i (inr h) = inr (inr (k, record { array = o.of.array; some = o.of.some; few = width_few (count * size k) wide; by = h.0; stores = λ m. (o.dest, (h.1 m).0, (h.1 m).1) }))
   result_goes bytes x (ToSum g) o wide = absurd o
   result_goes bytes x (ToPlace p) o wide = tt
+  result_goes bytes x (ToSlot k) o wide = (inr (inl (spill_slot k, omega (arith, o), (refl, λ u. refl))), tt)
 
   -- a running sum is in the frame
-  in_sum : (g : ℕ) → g < numbers.sums → sum_slot g + 16 ≤ 1024
+  in_sum : (g : ℕ) → g < numbers.sums → sum_slot g + 16 ≤ frame_size
   in_sum g l = omega (arith, l, few_sums)
 
   two_finish : (op : Op) (prefix : ℕ) (rule : List Ins) (t u : Target) → IsMade n base size P numbers (size_of_result op 0 * prefix) t → IsMade n base size P numbers (size_of_result op 1 * prefix) u → IsMovedTo count size t → IsMovedTo count size u → Each Goes rule
@@ -190,9 +192,11 @@ module _ (n : ℕ) (base size : ℕ → ℕ) (P : ℕ → Type 0) (numbers : Num
   finish_goes op prefix rule (ToSum g ∷ []) o wide h = (inr (inl (sum_slot g, in_sum g o.0, (refl, λ u. refl))), each_both Goes rule (result_far_code count size far aligned 0 (ToSum g)) h (inr (inl (sum_slot g, in_sum g o.0, (refl, λ u. refl))), tt))
   finish_goes op prefix rule (ToArray k ∷ []) o wide h = each_both Goes rule (result_far_code count size far aligned 0 (ToArray k)) h (result_goes (size_of_result op 0 * prefix) 0 (ToArray k) o.0 wide.0)
   finish_goes op prefix rule (ToPlace p ∷ []) o wide h = each_both Goes rule (result_far_code count size far aligned 0 (ToPlace p)) h (result_goes (size_of_result op 0 * prefix) 0 (ToPlace p) o.0 wide.0)
+  finish_goes op prefix rule (ToSlot k ∷ []) o wide h = each_both Goes rule (result_far_code count size far aligned 0 (ToSlot k)) h (result_goes (size_of_result op 0 * prefix) 0 (ToSlot k) o.0 wide.0)
   finish_goes op prefix rule (ToSum g ∷ u ∷ more) o wide h = absurd o.0
   finish_goes op prefix rule (ToArray k ∷ u ∷ more) o wide h = two_finish op prefix rule (ToArray k) u o.0 o.2 wide.0 wide.1.0 h
   finish_goes op prefix rule (ToPlace p ∷ u ∷ more) o wide h = two_finish op prefix rule (ToPlace p) u o.0 o.2 wide.0 wide.1.0 h
+  finish_goes op prefix rule (ToSlot k ∷ u ∷ more) o wide h = two_finish op prefix rule (ToSlot k) u o.0 o.2 wide.0 wide.1.0 h
 
   action_goes : (live : ℕ → ℕ) (a : Action) → IsKnown n base size P numbers live a → IsFit count size a → Each Goes (action_far_code count size far aligned a)
   action_goes live a known fit =

@@ -1,5 +1,5 @@
 -- An instruction that passes the checks, and its step with good places: what its sources and its results are.
-use Rattle.std.proofs.Common.{◌≡◌, ◌≢◌, ℕ, ◌+◌, ◌<◌, ◌==◌, ◌&&◌, ◌||◌, Bool, true, false, if◌then◌else◌, List, [], ◌∷◌, ◌++◌, length, map, slice_index, Some, None, refl, sym, ap, ◌∙◌, subst, arith, ◌⊎◌, inl, inr, ⊎_elim, append_assoc, append-nil, length-append, true≢false}
+use Rattle.std.proofs.Common.{◌≡◌, ◌≢◌, ℕ, ◌+◌, ◌<◌, ◌≤◌, ◌==◌, ◌&&◌, ◌||◌, Bool, true, false, if◌then◌else◌, List, [], ◌∷◌, ◌++◌, length, map, slice_index, Some, None, refl, sym, ap, ◌∙◌, subst, arith, ◌⊎◌, inl, inr, ⊎_elim, append_assoc, append-nil, length-append, true≢false}
 use Rattle.std.specs.List.{list_all}
 use Rattle.orc_ops.specs.declared.opcode.Op.{Op}
 use Rattle.orc_ops.specs.Table.{row, size_of_result, size_of_source}
@@ -12,7 +12,7 @@ use Rattle.orc_program.specs.declared.program.Pattern.{Pattern}
 use Rattle.orc_program.specs.Program.{FunctionValue, var_at, same_kind, is_of, temps_among, is_temp}
 use Rattle.orc_program.specs.Checks.{number_in, way_of, uses_from, patterns_of, source_fault, sources_fault, result_fault, results_fault, insn_fault}
 use Rattle.orc_program.specs.Kept.{is_function, all_pass, is_shaped, is_in_range, has_no_fault, result_count, source_count}
-use Rattle.orc_program.specs.Need.{is_in, made_by, read_by}
+use Rattle.orc_program.specs.Need.{is_in, made_by, read_by, places, registers, spills}
 use Rattle.orc_program.proofs.Sizes.{both, kept_of}
 use Rattle.x86_ins.specs.Way.{Each}
 use Rattle.sse_laws.specs.Meets.{is_sum}
@@ -23,7 +23,8 @@ use Rattle.orc_plan.specs.Lowered.{last_value, acc_item, result_item, result_ite
 use Rattle.orc_plan.specs.Standing.{Stands, StandAt, AllStand}
 use Rattle.orc_plan.proofs.Last.{last_below}
 use Rattle.orc_program.specs.Slots.{slot_of}
-use Rattle.orc_region.specs.Code.{Source, FromArray, FromPattern, FromPlace, Target, ToPlace, source_of, target_of, patterns_in, place_register, made_in, first_register, second_register}
+use Rattle.orc_region.specs.Code.{Source, FromArray, FromPattern, FromPlace, FromSlot, Target, ToPlace, to_place, source_of, target_of, patterns_in, place_register, made_in, first_register, second_register}
+use Rattle.orc_region.proofs.Block.Places.{by_target}
 use Rattle.orc_region.proofs.Block.Emulated.{IsTemp}
 use Rattle.orc_region.proofs.Block.Elements.{Follows}
 use Rattle.orc_region.proofs.Checked.Passing.{none_left, Checked, checked}
@@ -31,6 +32,15 @@ use Rattle.orc_region.proofs.Checked.Building.{Shape, shape_of}
 use Rattle.orc_region.proofs.Checked.Sized.{some_sizes, has_sizes, HasPrefix, prefix_ok, sum_ok}
 use Rattle.orc_program.proofs.KnownPatterns.{Has, used, has_uses, first_use, second_use}
 use Rattle.orc_region.proofs.Checked.Direct.{IsSourced, IsTargeted, sourced, to_of, targeted, temp_targeted}
+
+-- a value's place is a spill slot only where the function spills
+abbrev pub IsPaid : FunctionValue → List ℕ → Type 0
+IsPaid f at = (v : ℕ) → registers ≤ slice_index at v → spills f ≡ true
+
+-- what the places of a function's values are
+pub record AllPlaced (f : FunctionValue) (at : List ℕ) : Type 0 where
+  pub stand : AllStand f.vars (patterns_in f) at [] f.insns
+  pub paid : IsPaid f at
 
 -- ---- what is seen of places: the temps of the values that were made, and the steps that are to come
 abbrev pub View : Type 0
@@ -64,11 +74,12 @@ AreFollowed at (x ∷ []) (t ∷ []) v w = Follows (StandsIn at v) x t (StandsIn
 AreFollowed at (x ∷ y ∷ []) (t ∷ u ∷ []) v w = (between : View) × Follows (StandsIn at v) x t (StandsIn at between) × Follows (StandsIn at between) y u (StandsIn at w)
 AreFollowed at os ts v w = ⊥
 
--- a source doesn't stand where a result is made
+-- a source doesn't stand in a register where a result is made
 abbrev pub IsClear : List Target → Source → Type 0
 IsClear ts (FromArray k) = Unit {0}
 IsClear ts (FromPattern j) = Unit {0}
 IsClear ts (FromPlace p) = (first_register ts ≢ place_register p) × (second_register ts ≢ place_register p)
+IsClear ts (FromSlot k) = Unit {0}
 
 -- an instruction that passes the checks, before which values of these temps were made, and after which these instructions come
 pub record IsPlanned (f : FunctionValue) (at temps : List ℕ) (insn : Insn) (rest : List Insn) : Type 0 where
@@ -139,7 +150,7 @@ module _ (f : FunctionValue) where
 
 -- ---- an instruction and its place among the others
 
-module _ (f : FunctionValue) (at temps : List ℕ) (insn : Insn) (rest : List Insn) (stand : StandAt f.vars (patterns_in f) at temps insn rest) where
+module _ (f : FunctionValue) (at temps : List ℕ) (insn : Insn) (rest : List Insn) (stand : StandAt f.vars (patterns_in f) at temps insn rest) (paid : IsPaid f at) where
   abbrev steps : List Step
   steps = steps_after f.vars (patterns_in f) temps (insn ∷ rest)
 
@@ -165,14 +176,17 @@ module _ (f : FunctionValue) (at temps : List ℕ) (insn : Insn) (rest : List In
   abbrev IsReadHere : ℕ → Type 0
   IsReadHere x = is_in x (read_by f.vars insn) ≡ true
 
-  last_inside : (x : ℕ) → IsReadHere x → last_place x < 10
-  last_inside x r = let l = last_below temps x (stand.reads x r).0 in stand.below (last_value temps x) (omega (arith, l, length-append temps (made_by f.vars insn)))
+  inside : (v : ℕ) → v < length (temps ++ made_by f.vars insn) → slice_index at v < places
+  inside v l = let b = stand.below v l in omega (arith, b)
 
-  new_inside : (ms : List ℕ) (y : ℕ) → made_by f.vars insn ≡ y ∷ ms → new_place < 10
-  new_inside ms y made = stand.below (length temps) (omega (arith, length-append temps (made_by f.vars insn), ap length made))
+  last_inside : (x : ℕ) → IsReadHere x → last_place x < places
+  last_inside x r = let l = last_below temps x (stand.reads x r).0 in inside (last_value temps x) (omega (arith, l, length-append temps (made_by f.vars insn)))
 
-  next_inside : (y z : ℕ) → made_by f.vars insn ≡ y ∷ z ∷ [] → next_place < 10
-  next_inside y z made = stand.below (length temps + 1) (omega (arith, length-append temps (made_by f.vars insn), ap length made))
+  new_inside : (ms : List ℕ) (y : ℕ) → made_by f.vars insn ≡ y ∷ ms → new_place < places
+  new_inside ms y made = inside (length temps) (omega (arith, length-append temps (made_by f.vars insn), ap length made))
+
+  next_inside : (y z : ℕ) → made_by f.vars insn ≡ y ∷ z ∷ [] → next_place < places
+  next_inside y z made = inside (length temps + 1) (omega (arith, length-append temps (made_by f.vars insn), ap length made))
 
   -- ---- one result
 
@@ -200,8 +214,11 @@ module _ (f : FunctionValue) (at temps : List ℕ) (insn : Insn) (rest : List In
       go true = k
       go false = k
 
-  temp_follows : (o : Operand) (y a : ℕ) (V W : ℕ → ℕ → Type 0) → o ≡ operand.Var y → ((x p : ℕ) → W x p → ((x ≡ y) × (p ≡ a)) ⊎ ((x ≢ y) × (p ≢ a) × V x p)) → Follows V o (ToPlace a) W
-  temp_follows o y a V W is k x p w = ⊎_elim (λ e. inl (is ∙ ap operand.Var (sym e.0), e.1)) (λ e. inr (e.2, (λ q. e.0 (ap place_in (sym q ∙ is))), e.1)) (k x p w)
+  temp_follows : (o : Operand) (y a : ℕ) (V W : ℕ → ℕ → Type 0) → o ≡ operand.Var y → ((x p : ℕ) → W x p → ((x ≡ y) × (p ≡ a)) ⊎ ((x ≢ y) × (p ≢ a) × V x p)) → Follows V o (to_place a) W
+  temp_follows o y a V W is k = by_target (λ t. Follows V o t W) a (λ l. at_place) (λ j e. subst (λ a. Follows V o (ToPlace a) W) e at_place)
+    where
+      at_place : Follows V o (ToPlace a) W
+      at_place x p w = ⊎_elim (λ e. inl (is ∙ ap operand.Var (sym e.0), e.1)) (λ e. inr (e.2, (λ q. e.0 (ap place_in (sym q ∙ is))), e.1)) (k x p w)
 
   plain_made : (i : ℕ) (o : Operand) → made_in i (target_of at (result_item f.vars o)) ≡ i
   plain_made i (operand.Number n) = refl
@@ -218,7 +235,7 @@ module _ (f : FunctionValue) (at temps : List ℕ) (insn : Insn) (rest : List In
   abbrev target_at : ℕ → Operand → Target
   target_at n o = target_of at (item_at n o)
 
-  temp_at : (n : ℕ) (o : Operand) (y : ℕ) → o ≡ operand.Var y → IsTemp f y → ToPlace (slice_index at n) ≡ target_at n o
+  temp_at : (n : ℕ) (o : Operand) (y : ℕ) → o ≡ operand.Var y → IsTemp f y → to_place (slice_index at n) ≡ target_at n o
   temp_at n o y is e = ap (λ b. target_of at (if b then item.Value n else result_item f.vars o)) (sym (temp_is f o y is e))
 
   plain_at : (n : ℕ) (o : Operand) → is_temp f.vars o ≡ false → target_of at (result_item f.vars o) ≡ target_at n o
@@ -231,12 +248,30 @@ module _ (f : FunctionValue) (at temps : List ℕ) (insn : Insn) (rest : List In
   plain_free : (i : ℕ) (o : Operand) → i < 2 → IsFree i (target_of at (result_item f.vars o))
   plain_free i o l x r e = let m = plain_made i o in omega (arith, l, m, e)
 
-  new_free : (i : ℕ) (ms : List ℕ) (y : ℕ) → made_by f.vars insn ≡ y ∷ ms → IsFree i (ToPlace new_place)
-  new_free i ms y made x r e =
-      stand.apart x r 0 (omega (arith, ap length made)) (let z : last_place x ≡ new_place = omega (arith, e) in z ∙ ap (slice_index at) (let z : length temps ≡ length temps + 0 = omega arith in z))
+  -- where a value's place isn't that of a source
+  place_free : (i p : ℕ) → i < 2 → ((x : ℕ) → IsReadHere x → last_place x ≢ p) → IsFree i (to_place p)
+  place_free i p few apart = by_target (IsFree i) p (λ l x r e. apart x r (omega (arith, e))) (λ k s x r e. omega (arith, e, few))
 
-  next_free : (i : ℕ) (y z : ℕ) → made_by f.vars insn ≡ y ∷ z ∷ [] → IsFree i (ToPlace next_place)
-  next_free i y z made x r e = stand.apart x r 1 (omega (arith, ap length made)) (omega (arith, e))
+  new_free : (i : ℕ) (ms : List ℕ) (y : ℕ) → i < 2 → made_by f.vars insn ≡ y ∷ ms → IsFree i (to_place new_place)
+  new_free i ms y few made =
+      place_free i new_place few (λ x r e. stand.apart x r 0 (omega (arith, ap length made)) (e ∙ ap (slice_index at) (let z : length temps ≡ length temps + 0 = omega arith in z)))
+
+  next_free : (i : ℕ) (y z : ℕ) → i < 2 → made_by f.vars insn ≡ y ∷ z ∷ [] → IsFree i (to_place next_place)
+  next_free i y z few made = place_free i next_place few (λ x r e. stand.apart x r 1 (omega (arith, ap length made)) e)
+
+  -- a value's register
+  place_made : (i p : ℕ) → (made_in i (to_place p) ≡ place_register p) ⊎ (made_in i (to_place p) ≡ i)
+  place_made i p = by_target (λ t. (made_in i t ≡ place_register p) ⊎ (made_in i t ≡ i)) p (λ l. inl refl) (λ k e. inr refl)
+
+  -- is none in which a rule makes the other result
+  place_apart : (i j p : ℕ) → i < 2 → j < 2 → i ≢ j → made_in i (to_place p) ≢ j
+  place_apart i j p li lj ne e = ⊎_elim (λ m. omega (arith, e, m, lj)) (λ m. ne (sym m ∙ e)) (place_made i p)
+
+  places_apart : (p q : ℕ) → p ≢ q → made_in 0 (to_place p) ≢ made_in 1 (to_place q)
+  places_apart p q ne e = ⊎_elim
+      (λ m. ⊎_elim (λ k. ne (omega (arith, e, m, k))) (λ k. omega (arith, e, m, k)) (place_made 1 q))
+      (λ m. ⊎_elim (λ k. omega (arith, e, m, k)) (λ k. omega (arith, e, m, k)) (place_made 1 q))
+      (place_made 0 p)
 
   -- ---- what results are
 
@@ -275,10 +310,10 @@ module _ (f : FunctionValue) (at temps : List ℕ) (insn : Insn) (rest : List In
       temp w =
           let made : made_by f.vars insn ≡ w.0 ∷ [] = ap (temps_among f.vars) are ∙ temps_with f o w.0 [] w.1 w.2 in
           subst (λ t. AreMade (o ∷ []) (t ∷ [])) (temp_at (length temps) o w.0 w.1 w.2) (record {
-            to = temp_targeted f at insn.op insn.prefix 0 o w.0 new_place w.1 w.2 fine.1 (new_inside [] w.0 made);
+            to = temp_targeted f at insn.op insn.prefix 0 o w.0 new_place w.1 w.2 fine.1 (new_inside [] w.0 made) (paid (length temps));
             follows = temp_follows o w.0 new_place Before After w.1 (one_follows w.0 made);
-            free = λ x r. (new_free 0 [] w.0 made x r, λ e. omega (arith, e));
-            apart = λ e. omega (arith, e);
+            free = λ x r. (new_free 0 [] w.0 (omega arith) made x r, λ e. omega (arith, e));
+            apart = place_apart 0 1 new_place (omega arith) (omega arith) (λ e. omega (arith, e));
           })
 
       none : is_temp f.vars o ≡ false → AreMade (o ∷ []) (target_at (length temps) o ∷ [])
@@ -308,31 +343,35 @@ module _ (f : FunctionValue) (at temps : List ℕ) (insn : Insn) (rest : List In
       temp_temp : (y' : ℕ) × (x ≡ operand.Var y') × IsTemp f y' → (z : ℕ) × (y ≡ operand.Var z) × IsTemp f z → AreMade (x ∷ y ∷ []) (target_at (length temps) x ∷ target_at (second_count x) y ∷ [])
       temp_temp v w =
           let made : made_by f.vars insn ≡ v.0 ∷ w.0 ∷ [] = ap (temps_among f.vars) are ∙ temps_with f x v.0 (y ∷ []) v.1 v.2 ∙ ap (λ (ms : List ℕ). v.0 ∷ ms) (temps_with f y w.0 [] w.1 w.2) in
-          known (ToPlace new_place) (ToPlace next_place) (temp_at (length temps) x v.0 v.1 v.2) (moved true (temp_is f x v.0 v.1 v.2) (ToPlace next_place) (temp_at (length temps + 1) y w.0 w.1 w.2)) (record {
-            to = (temp_targeted f at insn.op insn.prefix 0 x v.0 new_place v.1 v.2 fine.1 (new_inside (w.0 ∷ []) v.0 made), temp_targeted f at insn.op insn.prefix 1 y w.0 next_place w.1 w.2 fine'.1 (next_inside v.0 w.0 made), no_sum);
+          known (to_place new_place) (to_place next_place) (temp_at (length temps) x v.0 v.1 v.2) (moved true (temp_is f x v.0 v.1 v.2) (to_place next_place) (temp_at (length temps + 1) y w.0 w.1 w.2)) (record {
+            to = (
+              temp_targeted f at insn.op insn.prefix 0 x v.0 new_place v.1 v.2 fine.1 (new_inside (w.0 ∷ []) v.0 made) (paid (length temps)),
+              temp_targeted f at insn.op insn.prefix 1 y w.0 next_place w.1 w.2 fine'.1 (next_inside v.0 w.0 made) (paid (length temps + 1)),
+              no_sum,
+            );
             follows = ((temps ++ v.0 ∷ [], later), temp_follows x v.0 new_place Before (Between v.0) v.1 (stand.first v.0 (w.0 ∷ []) made), temp_follows y w.0 next_place (Between v.0) After w.1 (second_follows v.0 w.0 made));
-            free = λ q r. (new_free 0 (w.0 ∷ []) v.0 made q r, next_free 1 v.0 w.0 made q r);
-            apart = λ e. stand.two (ap length made) (omega (arith, e));
+            free = λ q r. (new_free 0 (w.0 ∷ []) v.0 (omega arith) made q r, next_free 1 v.0 w.0 (omega arith) made q r);
+            apart = places_apart new_place next_place (stand.two (ap length made));
           })
 
       temp_none : (y' : ℕ) × (x ≡ operand.Var y') × IsTemp f y' → is_temp f.vars y ≡ false → AreMade (x ∷ y ∷ []) (target_at (length temps) x ∷ target_at (second_count x) y ∷ [])
       temp_none v w =
           let made : made_by f.vars insn ≡ v.0 ∷ [] = ap (temps_among f.vars) are ∙ temps_with f x v.0 (y ∷ []) v.1 v.2 ∙ ap (λ (ms : List ℕ). v.0 ∷ ms) (temps_without f y [] w) in
-          known (ToPlace new_place) (target_of at (result_item f.vars y)) (temp_at (length temps) x v.0 v.1 v.2) (moved true (temp_is f x v.0 v.1 v.2) (target_of at (result_item f.vars y)) (plain_at (length temps + 1) y w)) (record {
-            to = (temp_targeted f at insn.op insn.prefix 0 x v.0 new_place v.1 v.2 fine.1 (new_inside [] v.0 made), targeted f at insn.op insn.prefix 1 y w fine'.0 fine'.1, no_sum);
+          known (to_place new_place) (target_of at (result_item f.vars y)) (temp_at (length temps) x v.0 v.1 v.2) (moved true (temp_is f x v.0 v.1 v.2) (target_of at (result_item f.vars y)) (plain_at (length temps + 1) y w)) (record {
+            to = (temp_targeted f at insn.op insn.prefix 0 x v.0 new_place v.1 v.2 fine.1 (new_inside [] v.0 made) (paid (length temps)), targeted f at insn.op insn.prefix 1 y w fine'.0 fine'.1, no_sum);
             follows = (there, temp_follows x v.0 new_place Before After v.1 (one_follows v.0 made), plain_follows y After After (λ x p s. s));
-            free = λ q r. (new_free 0 [] v.0 made q r, plain_free 1 y (omega arith) q r);
-            apart = λ e. let m = plain_made 1 y in omega (arith, m, e);
+            free = λ q r. (new_free 0 [] v.0 (omega arith) made q r, plain_free 1 y (omega arith) q r);
+            apart = λ e. place_apart 0 1 new_place (omega arith) (omega arith) (λ z. omega (arith, z)) (e ∙ plain_made 1 y);
           })
 
       none_temp : is_temp f.vars x ≡ false → (z : ℕ) × (y ≡ operand.Var z) × IsTemp f z → AreMade (x ∷ y ∷ []) (target_at (length temps) x ∷ target_at (second_count x) y ∷ [])
       none_temp v w =
           let made : made_by f.vars insn ≡ w.0 ∷ [] = ap (temps_among f.vars) are ∙ temps_without f x (y ∷ []) v ∙ temps_with f y w.0 [] w.1 w.2 in
-          known (target_of at (result_item f.vars x)) (ToPlace new_place) (plain_at (length temps) x v) (moved false v (ToPlace new_place) (temp_at (length temps) y w.0 w.1 w.2)) (record {
-            to = (targeted f at insn.op insn.prefix 0 x v fine.0 fine.1, temp_targeted f at insn.op insn.prefix 1 y w.0 new_place w.1 w.2 fine'.1 (new_inside [] w.0 made), no_sum);
+          known (target_of at (result_item f.vars x)) (to_place new_place) (plain_at (length temps) x v) (moved false v (to_place new_place) (temp_at (length temps) y w.0 w.1 w.2)) (record {
+            to = (targeted f at insn.op insn.prefix 0 x v fine.0 fine.1, temp_targeted f at insn.op insn.prefix 1 y w.0 new_place w.1 w.2 fine'.1 (new_inside [] w.0 made) (paid (length temps)), no_sum);
             follows = (here, plain_follows x Before Before (λ x p s. s), temp_follows y w.0 new_place Before After w.1 (one_follows w.0 made));
-            free = λ q r. (plain_free 0 x (omega arith) q r, new_free 1 [] w.0 made q r);
-            apart = λ e. let m = plain_made 0 x in omega (arith, m, e);
+            free = λ q r. (plain_free 0 x (omega arith) q r, new_free 1 [] w.0 (omega arith) made q r);
+            apart = λ e. place_apart 1 0 new_place (omega arith) (omega arith) (λ z. omega (arith, z)) (sym e ∙ plain_made 0 x);
           })
 
       none_none : is_temp f.vars x ≡ false → is_temp f.vars y ≡ false → AreMade (x ∷ y ∷ []) (target_at (length temps) x ∷ target_at (second_count x) y ∷ [])
@@ -357,6 +396,7 @@ module _ (f : FunctionValue) (at temps : List ℕ) (insn : Insn) (rest : List In
   clear_one : (ts : List Target) → ((x : ℕ) → IsReadHere x → IsClear ts (FromPlace (last_place x))) → (position : ℕ) (o : Operand) (s : Source) → Reads o → IsSourced f at temps steps insn.op insn.prefix position o s → IsClear ts s
   clear_one ts free position o (FromArray k) reads h = tt
   clear_one ts free position o (FromPattern j) reads h = tt
+  clear_one ts free position o (FromSlot k) reads h = tt
   clear_one ts free position o (FromPlace a) reads h = subst (λ a. IsClear ts (FromPlace a)) h.4.2 (free h.0 (reads h.0 h.1 h.2))
 
   -- two results are of no opcode that adds to an accumulator
@@ -399,7 +439,7 @@ module _ (f : FunctionValue) (at temps : List ℕ) (insn : Insn) (rest : List In
       sources : AreSourced f at temps steps insn.op insn.prefix os ss
       clear : Each (IsClear ts) ss
 
-    stood : (o : Operand) → Reads o → (x : ℕ) → o ≡ operand.Var x → IsTemp f x → Stands at temps steps x (last_place x) × (last_place x < 10)
+    stood : (o : Operand) → Reads o → (x : ℕ) → o ≡ operand.Var x → IsTemp f x → Stands at temps steps x (last_place x) × (last_place x < places)
     stood o reads x is e = let r = reads x is e in (stand.reads x r, last_inside x r)
 
     has_first : (x : Operand) (more : List Operand) → insn.sources.items ≡ x ∷ more → (m : Operand) → number_in f.vars x ≡ Some m → Has (patterns_in f) (used insn.op 0 m)
@@ -456,14 +496,14 @@ module _ (f : FunctionValue) (at temps : List ℕ) (insn : Insn) (rest : List In
 
 -- ---- each instruction of a function
 
-all_planned : (f : FunctionValue) (at temps : List ℕ) (earlier insns : List Insn) → f.insns ≡ earlier ++ insns → all_pass f.vars earlier insns ≡ true → AllStand f.vars (patterns_in f) at temps insns → ArePlanned f at temps insns
-all_planned f at temps earlier [] whole h stand = tt
-all_planned f at temps earlier (insn ∷ insns) whole h stand =
+all_planned : (f : FunctionValue) (at temps : List ℕ) (earlier insns : List Insn) → f.insns ≡ earlier ++ insns → all_pass f.vars earlier insns ≡ true → AllStand f.vars (patterns_in f) at temps insns → IsPaid f at → ArePlanned f at temps insns
+all_planned f at temps earlier [] whole h stand paid = tt
+all_planned f at temps earlier (insn ∷ insns) whole h stand paid =
     let a = both (is_shaped f.vars insn) (has_no_fault (insn_fault f.vars earlier insn) && all_pass f.vars (earlier ++ insn ∷ []) insns) h in
     let b = both (has_no_fault (insn_fault f.vars earlier insn)) (all_pass f.vars (earlier ++ insn ∷ []) insns) a.1 in (
-      planned f at temps insn insns stand.0 earlier whole (shape_of f.vars insn a.0) (checked f.vars earlier insn b.0),
-      all_planned f at (temps ++ made_by f.vars insn) (earlier ++ insn ∷ []) insns (whole ∙ sym (append_assoc earlier (insn ∷ []) insns)) b.1 stand.1,
+      planned f at temps insn insns stand.0 paid earlier whole (shape_of f.vars insn a.0) (checked f.vars earlier insn b.0),
+      all_planned f at (temps ++ made_by f.vars insn) (earlier ++ insn ∷ []) insns (whole ∙ sym (append_assoc earlier (insn ∷ []) insns)) b.1 stand.1 paid,
     )
 
-pub are_planned : (f : FunctionValue) → is_function f ≡ true → (at : List ℕ) → AllStand f.vars (patterns_in f) at [] f.insns → ArePlanned f at [] f.insns
-are_planned f h at stand = all_planned f at [] [] f.insns refl (kept_of f h).insns stand
+pub are_planned : (f : FunctionValue) → is_function f ≡ true → (at : List ℕ) → AllPlaced f at → ArePlanned f at [] f.insns
+are_planned f h at placed = all_planned f at [] [] f.insns refl (kept_of f h).insns placed.stand placed.paid

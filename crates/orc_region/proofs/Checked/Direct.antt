@@ -1,5 +1,5 @@
 -- What the checks say of operands: arrays, numbers that are patterns, accumulators, and temps that stand at places.
-use Rattle.std.proofs.Common.{◌≡◌, ℕ, ◌*◌, ◌<◌, ◌==◌, ◌&&◌, not, Bool, true, false, if◌then◌else◌, List, length, get_or, slice_index, Some, None, refl, sym, ap, ◌∙◌, subst, ◌⊎◌, inl, inr, ⊎_elim}
+use Rattle.std.proofs.Common.{◌≡◌, ℕ, ◌*◌, ◌<◌, ◌≤◌, ◌==◌, ◌&&◌, not, Bool, true, false, if◌then◌else◌, List, length, get_or, slice_index, Some, None, refl, sym, ap, ◌∙◌, subst, arith, ◌⊎◌, inl, inr, ⊎_elim}
 use Rattle.std.proofs.lemmas.Bool.{true≢false, eqb-true, ltb-true}
 use Rattle.orc_ops.specs.declared.opcode.Op.{Op}
 use Rattle.orc_ops.specs.declared.opcode.Kind.{Kind}
@@ -22,7 +22,10 @@ use Rattle.orc_plan.specs.declared.steps.Step.{Step}
 use Rattle.orc_plan.specs.Lowered.{last_value, acc_item, result_item, pattern_item, var_item, source_item}
 use Rattle.orc_plan.specs.Standing.{Stands}
 use Rattle.orc_frame.specs.Frame.{no_pattern}
-use Rattle.orc_region.specs.Code.{Source, FromArray, FromPattern, FromPlace, Target, ToArray, ToSum, ToPlace, source_of, target_of, patterns_in}
+use Rattle.orc_program.specs.Need.{places, registers, spills}
+use Rattle.orc_frame.specs.Layout.{spill_slots}
+use Rattle.orc_region.specs.Code.{Source, FromArray, FromPattern, FromPlace, FromSlot, Target, ToArray, ToSum, ToPlace, ToSlot, slot_place, to_place, source_of, target_of, patterns_in}
+use Rattle.orc_region.proofs.Block.Places.{by_source, by_target}
 use Rattle.orc_region.proofs.Block.Emulated.{IsCells, IsDest, IsSum, IsTemp}
 use Rattle.orc_region.proofs.Checked.Passing.{none_left, unchecked, size_ok, no_sum}
 use Rattle.orc_program.proofs.KnownPatterns.{Has, pattern_found, used}
@@ -38,13 +41,17 @@ abbrev pub IsSourced : FunctionValue → List ℕ → List ℕ → List Step →
 IsSourced f at temps steps op prefix position o (FromArray k) = (p : ℕ) × (o ≡ operand.Var p) × IsCells f p (size_of_source op position * prefix) × (slot_of f.vars p ≡ k) × (position ≡ 1 → is_shift (row op).kind ≡ false)
 IsSourced f at temps steps op prefix position o (FromPattern j) = (number_in f.vars o ≡ Some (number_of f j)) × (j < length (patterns_in f)) × ((pattern_of f j).way ≡ way_of op position)
 IsSourced f at temps steps op prefix position o (FromPlace a) =
-    (x : ℕ) × (o ≡ operand.Var x) × IsTemp f x × ((var_at f.vars x).size ≡ size_of_source op position * prefix) × Stands at temps steps x a × (position ≡ 1 → is_shift (row op).kind ≡ false) × (a < 10)
+    (x : ℕ) × (o ≡ operand.Var x) × IsTemp f x × ((var_at f.vars x).size ≡ size_of_source op position * prefix) × Stands at temps steps x a × (position ≡ 1 → is_shift (row op).kind ≡ false) × (a < registers)
+IsSourced f at temps steps op prefix position o (FromSlot k) =
+    (x : ℕ) × (o ≡ operand.Var x) × IsTemp f x × ((var_at f.vars x).size ≡ size_of_source op position * prefix) × Stands at temps steps x (slot_place k) × (position ≡ 1 → is_shift (row op).kind ≡ false) × (k < spill_slots)
 
--- a result: a dest of the opcode's size, an accumulator of it, or a temp of it, at a place
+-- a result: a dest of the opcode's size, an accumulator of it, or a temp of it, at a place, which is a spill slot only where the function spills
 abbrev pub IsTargeted : FunctionValue → Op → ℕ → ℕ → Operand → Target → Type 0
 IsTargeted f op prefix position o (ToArray k) = (p : ℕ) × (o ≡ operand.Var p) × IsCells f p (size_of_result op position * prefix) × IsDest f p × (slot_of f.vars p ≡ k) × (is_sum (row op).kind ≡ false)
 IsTargeted f op prefix position o (ToSum g) = (p : ℕ) × (o ≡ operand.Var p) × IsSum f p (size_of_result op position * prefix) × (count_before kind.Accumulator f.vars p ≡ g) × (is_sum (row op).kind ≡ true)
-IsTargeted f op prefix position o (ToPlace a) = (x : ℕ) × (o ≡ operand.Var x) × IsTemp f x × ((var_at f.vars x).size ≡ size_of_result op position * prefix) × (is_sum (row op).kind ≡ false) × (a < 10)
+IsTargeted f op prefix position o (ToPlace a) = (x : ℕ) × (o ≡ operand.Var x) × IsTemp f x × ((var_at f.vars x).size ≡ size_of_result op position * prefix) × (is_sum (row op).kind ≡ false) × (a < registers)
+IsTargeted f op prefix position o (ToSlot k) =
+    (x : ℕ) × (o ≡ operand.Var x) × IsTemp f x × ((var_at f.vars x).size ≡ size_of_result op position * prefix) × (is_sum (row op).kind ≡ false) × (k < spill_slots) × (spills f ≡ true)
 
 -- the size of a variable that is no number
 same_size : (size n : ℕ) → not (size == n) ≡ false → size ≡ n
@@ -94,7 +101,7 @@ module _ (f : FunctionValue) (at temps : List ℕ) (steps : List Step) (op : Op)
 
   -- where it's a temp, it stands at the place of its last value
   abbrev Stood : Operand → Type 0
-  Stood o = (x : ℕ) → o ≡ operand.Var x → IsTemp f x → Stands at temps steps x (slice_index at (last_value temps x)) × (slice_index at (last_value temps x) < 10)
+  Stood o = (x : ℕ) → o ≡ operand.Var x → IsTemp f x → Stands at temps steps x (slice_index at (last_value temps x)) × (slice_index at (last_value temps x) < places)
 
   -- where an operand comes from
   abbrev pub from_of : Operand → Source
@@ -115,7 +122,11 @@ module _ (f : FunctionValue) (at temps : List ℕ) (steps : List Step) (op : Op)
 
       go : (k : VarKind) → (var_at f.vars p).kind ≡ k → has_no_fault (source_kind_fault (row op).kind position (Some k)) ≡ true → (not (is_scalar (Some k)) && not ((var_at f.vars p).size == wanted)) ≡ false
           → Sourced (operand.Var p) (source_of at (var_item f.vars (patterns_in f) temps (way_of op position) p k))
-      go kind.Temp e h w = let s = stood p refl e in (p, refl, e, same_size (var_at f.vars p).size wanted w, s.0, not_shift (row op).kind position kind.Temp refl h, s.1)
+      go kind.Temp e h w =
+          let s = stood p refl e in
+          let size = same_size (var_at f.vars p).size wanted w in
+          let plain = not_shift (row op).kind position kind.Temp refl h in
+          by_source (Sourced (operand.Var p)) (slice_index at (last_value temps p)) (λ l. (p, refl, e, size, s.0, plain, l)) (λ k is. (p, refl, e, size, subst (λ a. Stands at temps steps p a) is s.0, plain, (let l = s.1 in omega (arith, l, is))))
       go kind.Source e h w = (p, refl, record { inside = inside; array = ap is_array_kind e; size = same_size (var_at f.vars p).size wanted w }, refl, not_shift (row op).kind position kind.Source refl h)
       go kind.Dest e h w = (p, refl, record { inside = inside; array = ap is_array_kind e; size = same_size (var_at f.vars p).size wanted w }, refl, not_shift (row op).kind position kind.Dest refl h)
       go kind.Accumulator e h w = absurd (no_accumulator (row op).kind position h)
@@ -215,8 +226,10 @@ module _ (f : FunctionValue) (at : List ℕ) (op : Op) (prefix position : ℕ) w
       ⊎_elim (λ x. dest_targeted p inside x.0 x.1 size) (λ x. sum_targeted p inside x.0 x.1 size) (write_kind (row op).kind k d two.0)
 
   -- and of one that is
-  pub temp_targeted : (o : Operand) (x a : ℕ) → o ≡ operand.Var x → IsTemp f x → has_no_fault (result_fault f.vars op prefix position o) ≡ true → a < 10 → Targeted o (ToPlace a)
-  temp_targeted o x a is e h l =
+  pub temp_targeted : (o : Operand) (x a : ℕ) → o ≡ operand.Var x → IsTemp f x → has_no_fault (result_fault f.vars op prefix position o) ≡ true → a < places → (registers ≤ a → spills f ≡ true) → Targeted o (to_place a)
+  temp_targeted o x a is e h l paid =
       let fine : has_no_fault (result_fault f.vars op prefix position (operand.Var x)) ≡ true = subst (λ o. has_no_fault (result_fault f.vars op prefix position o) ≡ true) is h in
       let two = none_left (result_kind_fault (row op).kind (Some (var_at f.vars x).kind)) (check (is_wrong_size f.vars bytes (operand.Var x)) fault.SizeMismatch) fine in
-      (x, is, e, kind_size x kind.Temp e refl (unchecked _ fault.SizeMismatch two.1), no_temp_sum (row op).kind (subst (λ k. has_no_fault (result_kind_fault (row op).kind (Some k)) ≡ true) e two.0), l)
+      let size = kind_size x kind.Temp e refl (unchecked _ fault.SizeMismatch two.1) in
+      let plain = no_temp_sum (row op).kind (subst (λ k. has_no_fault (result_kind_fault (row op).kind (Some k)) ≡ true) e two.0) in
+      by_target (Targeted o) a (λ r. (x, is, e, size, plain, r)) (λ k s. (x, is, e, size, plain, omega (arith, l, s), paid (omega (arith, s))))

@@ -20,7 +20,7 @@ use Rattle.orc_plan.specs.declared.steps.Step.{Step}
 use Rattle.orc_plan.specs.Lowered.{steps_after, steps_of}
 use Rattle.orc_plan.specs.Lowered.{sizes_of, is_used}
 use Rattle.orc_plan.proofs.SlotSizes.{array_sized, used_sized}
-use Rattle.orc_region.specs.Code.{Action, Source, FromArray, FromPattern, FromPlace, Target, ToArray, ToSum, ToPlace, AreActions, plan_with}
+use Rattle.orc_region.specs.Code.{Action, Source, FromArray, FromPattern, FromPlace, FromSlot, Target, ToArray, ToSum, ToPlace, ToSlot, AreActions, plan_with}
 use Rattle.orc_region.proofs.Block.Emulated.{IsCells}
 use Rattle.orc_region.proofs.Checked.Slots.{Limits, limits, SlotIs, slot_is}
 use Rattle.orc_region.proofs.Block.Actions.{IsMovedFrom, IsMovedTo}
@@ -121,12 +121,14 @@ module _ (f : FunctionValue) (h : is_function f ≡ true) where
     moved_from (FromArray k ∷ ss) h = (h.0.0, moved_from ss h.1)
     moved_from (FromPattern j ∷ ss) h = (tt, moved_from ss h.1)
     moved_from (FromPlace p ∷ ss) h = (tt, moved_from ss h.1)
+    moved_from (FromSlot k ∷ ss) h = (tt, moved_from ss h.1)
 
     pub moved_to : (ts : List Target) → Each (IsToSlot count (size_of_slot f.vars)) ts → Each (IsMovedTo count (size_of_slot f.vars)) ts
     moved_to [] h = tt
     moved_to (ToArray k ∷ ts) h = (h.0.0, moved_to ts h.1)
     moved_to (ToSum g ∷ ts) h = (tt, moved_to ts h.1)
     moved_to (ToPlace p ∷ ts) h = (tt, moved_to ts h.1)
+    moved_to (ToSlot k ∷ ts) h = (tt, moved_to ts h.1)
 
     module _ (is_count : IsCount f count) where
       pub slot_width : (p b : ℕ) → IsCells f p b → IsWidth (count * size_of_slot f.vars (slot_of f.vars p))

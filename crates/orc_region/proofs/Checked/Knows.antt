@@ -1,5 +1,5 @@
 -- Actions of a function's steps with good places: what emulation, the turn and its code need of them.
-use Rattle.std.proofs.Common.{◌≡◌, ◌≢◌, ℕ, zero, suc, ◌*◌, ◌<◌, ◌≤◌, Bool, true, false, true≢false, if◌then◌else◌, ◌+◌, ◌||◌, List, [], ◌∷◌, ◌++◌, length, map, slice_index, get_or, refl, sym, ap, ◌∙◌, subst, arith, ⊎_elim}
+use Rattle.std.proofs.Common.{◌≡◌, ◌≢◌, ℕ, zero, suc, ◌*◌, ◌<◌, ◌≤◌, Bool, true, false, true≢false, if◌then◌else◌, ◌+◌, ◌||◌, ◌&&◌, List, [], ◌∷◌, ◌++◌, length, map, slice_index, get_or, refl, sym, ap, ◌∙◌, subst, arith, ⊎_elim}
 use Rattle.std.specs.List.{sum_by}
 use Rattle.std.proofs.lemmas.List.Sums.{sum_by-cons}
 use Rattle.orc_bits.specs.Lanes.{change}
@@ -7,14 +7,15 @@ use Rattle.orc_bits.proofs.LaneLaws.{change_other, change_same}
 use Rattle.orc_ops.specs.declared.opcode.Op.{Op}
 use Rattle.orc_ops.specs.Table.{row, size_of_result, size_of_source}
 use Rattle.orc_program.specs.declared.program.Operand.{Operand}
+use Rattle.orc_program.specs.declared.program.Operand.TheVariants as operand
 use Rattle.orc_program.specs.declared.program.VarKind.{VarKind}
 use Rattle.orc_program.specs.declared.program.VarKind.TheVariants as kind
 use Rattle.orc_program.specs.declared.program.Insn.{Insn}
 use Rattle.orc_program.specs.declared.call.Call.{Call}
 use Rattle.orc_program.specs.Program.{FunctionValue, var_at, same_kind, is_array_kind, count_of, count_before, places_of}
 use Rattle.orc_program.specs.Slots.{slot_of, size_of_slot}
-use Rattle.orc_program.specs.Checks.{way_of, patterns_of}
-use Rattle.orc_program.specs.Need.{made_by, is_array_operand, source_cost, result_cost, insn_cost, cost}
+use Rattle.orc_program.specs.Checks.{way_of}
+use Rattle.orc_program.specs.Need.{made_by, is_array_operand, source_cost, spills, result_cost, insn_cost, cost}
 use Rattle.orc_program.specs.Kept.{is_function}
 use Rattle.orc_program.proofs.PatternLaws.{patterns_few}
 use Rattle.x86_flow.specs.Moves.{IsWidth}
@@ -22,12 +23,11 @@ use Rattle.x86_ins.specs.Way.{Each}
 use Rattle.sse_laws.specs.Meets.{is_sum, widest}
 use Rattle.orc_plan.specs.declared.steps.Step.{Step}
 use Rattle.orc_plan.specs.Lowered.{result_items, source_items, step_of, steps_after, steps_of, sizes_of}
-use Rattle.orc_plan.specs.Standing.{AllStand}
 use Rattle.orc_frame.specs.Frame.{period}
 use Rattle.orc_frame.specs.Layout.{layout_of}
 use Rattle.orc_frame.proofs.Apart.{length-acc_sizes_of}
 use Rattle.orc_program.specs.declared.program.Pattern.{Pattern}
-use Rattle.orc_region.specs.Code.{Action, Source, FromArray, FromPattern, FromPlace, Target, ToArray, ToSum, ToPlace, source_of, target_of, IsAction, AreActions, IsLoaded, IsStored, IsReady, patterns_in, first_register, second_register, at_pointer, unaligned, action_code, IsMoved}
+use Rattle.orc_region.specs.Code.{Action, Source, FromArray, FromPattern, FromPlace, FromSlot, Target, ToArray, ToSum, ToPlace, ToSlot, slot_place, source_of, target_of, IsAction, AreActions, IsLoaded, IsStored, IsReady, patterns_in, first_register, second_register, at_pointer, unaligned, action_code, IsMoved}
 use Rattle.orc_region.proofs.Block.Cells.{Numbers, IsOf, IsTo, IsFrom, IsBeside, AreFrom, IsMade, AreTo, IsKept, IsKnown, AllKnown, live_target, live_targets, live_act, no_values}
 use Rattle.orc_region.proofs.Block.Emulated.{IsCells, IsSum, meant}
 use Rattle.orc_region.proofs.Block.Elements.{IsRead, AreRead, Follows, IsWritten, AreWritten, IsMeant, AreMeant}
@@ -41,7 +41,7 @@ use Rattle.orc_region.proofs.Sizes.Counts.{IsFromSlot, IsToSlot, IsMovable}
 use Rattle.orc_region.proofs.Sizes.Bytes.{fine_action}
 use Rattle.orc_region.proofs.Checked.Sized.{HasPrefix, first_period, second_period}
 use Rattle.orc_region.proofs.Checked.Direct.{pattern_of, number_of, IsSourced, IsTargeted}
-use Rattle.orc_region.proofs.Checked.Acts.{View, StandsIn, nothing_stands, place_in, AreSourced, AreTargeted, AreFollowed, IsClear, IsPlanned, ArePlanned, are_planned}
+use Rattle.orc_region.proofs.Checked.Acts.{AllPlaced, View, StandsIn, nothing_stands, place_in, AreSourced, AreTargeted, AreFollowed, IsClear, IsPlanned, ArePlanned, are_planned}
 use Rattle.orc_region.proofs.Checked.Layouts.{patterns_are, sizes_are}
 use Rattle.orc_region.proofs.Turn.SameSizes.{SameFrom, SameTo, SameFor}
 use Rattle.orc_region.proofs.Checked.Several.{FitsIn, IsCount, sum_fits}
@@ -84,6 +84,7 @@ module _ (f : FunctionValue) (at : List ℕ) where
   is_read temps steps op prefix position o (FromArray k) h = (h.0, h.1, h.2, h.3)
   is_read temps steps op prefix position o (FromPattern j) h = h.0
   is_read temps steps op prefix position o (FromPlace a) h = (h.0, h.1, h.2, h.4)
+  is_read temps steps op prefix position o (FromSlot k) h = (h.0, h.1, h.2, h.4)
 
   are_read : (temps : List ℕ) (steps : List Step) (op : Op) (prefix : ℕ) (os : List Operand) (ss : List Source) → AreSourced f at temps steps op prefix os ss → AreRead f (number_of f) (StandsIn at (temps, steps)) op prefix os ss
   are_read temps steps op prefix [] ss h = absurd h
@@ -104,6 +105,7 @@ module _ (f : FunctionValue) (at : List ℕ) where
   is_written op prefix position o (ToArray k) p h = (h.0, h.1, h.2, h.3, h.4)
   is_written op prefix position o (ToSum g) p h = (h.0, h.1, subst (IsSum f h.0) (one_size (size_of_result op position) prefix (p.one h.4)) h.2, h.3)
   is_written op prefix position o (ToPlace a) p h = (h.0, h.1, h.2)
+  is_written op prefix position o (ToSlot k) p h = (h.0, h.1, h.2)
 
   are_written : (op : Op) (prefix : ℕ) (os : List Operand) (ts : List Target) (v w : View) → HasPrefix op prefix → AreTargeted f op prefix os ts → AreFollowed at os ts v w → AreWritten (StandsIn at) f op prefix os ts v w
   are_written op prefix [] ts v w p h k = absurd h
@@ -137,7 +139,7 @@ module _ (f : FunctionValue) (at : List ℕ) where
       ((temps ++ made_by f.vars insn, steps_from f (temps ++ made_by f.vars insn) insns), meant_one count temps insn insns a d.0 is.0, meant_from count (temps ++ made_by f.vars insn) insns rest d.1 is.1)
 
 -- a function's actions do what its instructions do, from the view before the first one, in which nothing stands (`nothing_stands`)
-pub all_meant : (f : FunctionValue) → is_function f ≡ true → (at : List ℕ) → AllStand f.vars (patterns_of f.vars f.insns) at [] f.insns → (count : ℕ) (actions : List Action) → AreActions at count (steps_of f) actions
+pub all_meant : (f : FunctionValue) → is_function f ≡ true → (at : List ℕ) → AllPlaced f at → (count : ℕ) (actions : List Action) → AreActions at count (steps_of f) actions
     → AreMeant (StandsIn at) f (number_of f) ([], steps_of f) f.insns actions
 unfolding steps_of
 all_meant f h at stand count actions is = meant_from f at count [] f.insns actions (are_planned f h at stand) is
@@ -149,15 +151,17 @@ abbrev AreSized : FunctionValue → (ℕ → ℕ → Type 0) → (ℕ → ℕ) �
 AreSized f V live = (x p : ℕ) → V x p → live p ≡ (var_at f.vars x).size
 
 module _ (f : FunctionValue) (at : List ℕ) where
+  temp_sizes : (live : ℕ → ℕ) (bytes : ℕ) (o : Operand) (y a : ℕ) (V W : ℕ → ℕ → Type 0) → o ≡ operand.Var y → (var_at f.vars y).size ≡ bytes → Follows V o (ToPlace a) W → AreSized f V live → AreSized f W (change live a bytes)
+  temp_sizes live bytes o y a V W is size k sizes x p w = ⊎_elim
+      (λ e. ap (change live a bytes) e.1 ∙ change_same live a bytes ∙ sym size ∙ ap (λ q. (var_at f.vars q).size) (ap place_in (sym is ∙ e.0)))
+      (λ e. change_other live a bytes p e.2 ∙ sizes x p e.0)
+      (k x p w)
+
   sizes_after : (live : ℕ → ℕ) (op : Op) (prefix position : ℕ) (o : Operand) (t : Target) (V W : ℕ → ℕ → Type 0) → IsTargeted f op prefix position o t → Follows V o t W → AreSized f V live → AreSized f W (live_target live t (size_of_result op position * prefix))
   sizes_after live op prefix position o (ToArray k) V W h k' sizes x p w = sizes x p (k' x p w)
   sizes_after live op prefix position o (ToSum g) V W h k sizes x p w = sizes x p (k x p w)
-  sizes_after live op prefix position o (ToPlace a) V W h k sizes x p w =
-      let bytes = size_of_result op position * prefix in
-      ⊎_elim
-      (λ e. ap (change live a bytes) e.1 ∙ change_same live a bytes ∙ sym h.3 ∙ ap (λ q. (var_at f.vars q).size) (ap place_in (sym h.1 ∙ e.0)))
-      (λ e. change_other live a bytes p e.2 ∙ sizes x p e.0)
-      (k x p w)
+  sizes_after live op prefix position o (ToPlace a) V W h k sizes x p w = temp_sizes live (size_of_result op position * prefix) o h.0 a V W h.1 h.3 k sizes x p w
+  sizes_after live op prefix position o (ToSlot j) V W h k sizes x p w = temp_sizes live (size_of_result op position * prefix) o h.0 (slot_place j) V W h.1 h.3 k sizes x p w
 
   all_sizes_after : (live : ℕ → ℕ) (op : Op) (prefix : ℕ) (os : List Operand) (ts : List Target) (v w : View) → AreTargeted f op prefix os ts → AreFollowed at os ts v w → AreSized f (StandsIn at v) live → AreSized f (StandsIn at w) (live_targets live op prefix ts)
   all_sizes_after live op prefix [] ts v w h k sizes = absurd h
@@ -186,11 +190,13 @@ module _ (f : FunctionValue) (at : List ℕ) (call : Call) (n : ℕ) (base : ℕ
   is_from live temps steps sizes op prefix position o (FromArray k) e h = subst (λ k. IsOf n base (size_of_slot f.vars) P k (size_of_source op position * prefix)) h.3 (has h.0 (size_of_source op position * prefix) h.2)
   is_from live temps steps sizes op prefix position o (FromPattern j) e h = (h.1, ap period h.2 ∙ e)
   is_from live temps steps sizes op prefix position o (FromPlace a) e h = (h.6, sizes h.0 a h.4 ∙ h.3)
+  is_from live temps steps sizes op prefix position o (FromSlot k) e h = (h.6, sizes h.0 (slot_place k) h.4 ∙ h.3)
 
   is_beside : (temps : List ℕ) (steps : List Step) (op : Op) (prefix : ℕ) (o : Operand) (s : Source) → IsSourced f at temps steps op prefix 1 o s → IsBeside n base (size_of_slot f.vars) P Of op s
   is_beside temps steps op prefix o (FromArray k) h = h.4 refl
   is_beside temps steps op prefix o (FromPattern j) h = tt
   is_beside temps steps op prefix o (FromPlace a) h = h.5 refl
+  is_beside temps steps op prefix o (FromSlot k) h = h.5 refl
 
   are_from : (live : ℕ → ℕ) (temps : List ℕ) (steps : List Step) → AreSized f (StandsIn at (temps, steps)) live → (op : Op) (prefix : ℕ) (os : List Operand) (ss : List Source) → AreSourced f at temps steps op prefix os ss → AreFrom n base (size_of_slot f.vars) P Of live op prefix ss
   are_from live temps steps sizes op prefix [] ss h = absurd h
@@ -228,6 +234,7 @@ module _ (f : FunctionValue) (at : List ℕ) (call : Call) (n : ℕ) (base : ℕ
   is_made op prefix position o (ToArray k) plain h = is_array op prefix position o k h
   is_made op prefix position o (ToSum g) plain h = absurd (true≢false (sym h.4 ∙ plain))
   is_made op prefix position o (ToPlace a) plain h = h.5
+  is_made op prefix position o (ToSlot k) plain h = h.5
 
   are_to : (op : Op) (prefix : ℕ) (os : List Operand) (ts : List Target) → HasPrefix op prefix → AreTargeted f op prefix os ts → AreTo n base (size_of_slot f.vars) P Of op prefix ts
   are_to op prefix [] ts p h = absurd h
@@ -237,12 +244,14 @@ module _ (f : FunctionValue) (at : List ℕ) (call : Call) (n : ℕ) (base : ℕ
       let s = sum_number h.0 (size_of_result op 0 * prefix) g h.2 h.3 in
       (s.0, h.4, s.1 ∙ one_size (size_of_result op 0) prefix (p.one h.4), p.one h.4)
   are_to op prefix (x ∷ []) (ToPlace a ∷ []) p h = (h.5, h.4)
+  are_to op prefix (x ∷ []) (ToSlot k ∷ []) p h = (h.5, h.4)
   are_to op prefix (x ∷ []) (t ∷ u ∷ more) p h = absurd h
   are_to op prefix (x ∷ y ∷ []) [] p h = absurd h
   are_to op prefix (x ∷ y ∷ []) (t ∷ []) p h = absurd h
   are_to op prefix (x ∷ y ∷ []) (ToArray k ∷ u ∷ []) p h = (is_array op prefix 0 x k h.0, h.2, is_made op prefix 1 y u h.2 h.1)
   are_to op prefix (x ∷ y ∷ []) (ToSum g ∷ u ∷ []) p h = absurd (true≢false (sym h.0.4 ∙ h.2))
   are_to op prefix (x ∷ y ∷ []) (ToPlace a ∷ u ∷ []) p h = (h.0.5, h.2, is_made op prefix 1 y u h.2 h.1)
+  are_to op prefix (x ∷ y ∷ []) (ToSlot k ∷ u ∷ []) p h = (h.0.5, h.2, is_made op prefix 1 y u h.2 h.1)
   are_to op prefix (x ∷ y ∷ []) (t ∷ u ∷ v ∷ more) p h = absurd h
   are_to op prefix (x ∷ y ∷ z ∷ rest) ts p h = absurd h
 
@@ -251,6 +260,7 @@ module _ (f : FunctionValue) (at : List ℕ) (call : Call) (n : ℕ) (base : ℕ
   kept ts (FromArray k ∷ ss) h = (tt, kept ts ss h.1)
   kept ts (FromPattern j ∷ ss) h = (tt, kept ts ss h.1)
   kept ts (FromPlace a ∷ ss) h = (h.0, kept ts ss h.1)
+  kept ts (FromSlot k ∷ ss) h = (tt, kept ts ss h.1)
 
   -- an action of these targets and sources
   known_with : (live : ℕ → ℕ) (a : Action) (op : Op) (prefix : ℕ) (ts : List Target) (ss : List Source) → a.op ≡ op → a.prefix ≡ prefix → a.to ≡ ts → a.sources ≡ ss
@@ -286,7 +296,7 @@ module _ (f : FunctionValue) (at : List ℕ) (call : Call) (n : ℕ) (base : ℕ
   known_from count live temps (insn ∷ insns) (a ∷ rest) sizes d is =
       (known_one count live temps insn insns a sizes d.0 is.0, known_from count (live_act live a) (temps ++ made_by f.vars insn) insns rest (sizes_on count live temps insn insns a sizes d.0 is.0) d.1 is.1)
 
-  pub all_known : is_function f ≡ true → AllStand f.vars (patterns_of f.vars f.insns) at [] f.insns → (count : ℕ) (actions : List Action) → AreActions at count (steps_of f) actions → AllKnown n base (size_of_slot f.vars) P Of no_values actions
+  pub all_known : is_function f ≡ true → AllPlaced f at → (count : ℕ) (actions : List Action) → AreActions at count (steps_of f) actions → AllKnown n base (size_of_slot f.vars) P Of no_values actions
   unfolding steps_of
   all_known h stand count actions is = known_from count no_values [] f.insns actions (λ x p s. absurd (nothing_stands at (steps_from f [] f.insns) x p s)) (are_planned f h at stand) is
 
@@ -297,11 +307,13 @@ module _ (f : FunctionValue) (h : is_function f ≡ true) (at : List ℕ) (count
   from_slot temps steps op prefix position o (FromArray k) d = subst (λ k. IsWidth (count * size_of_slot f.vars k) × (k < 12)) d.3 (slot_width f h count is_count d.0 (size_of_source op position * prefix) d.2, slot_small f h d.0 (size_of_source op position * prefix) d.2)
   from_slot temps steps op prefix position o (FromPattern j) d = let l = patterns_few f h in let m = d.1 in omega (arith, l, m)
   from_slot temps steps op prefix position o (FromPlace a) d = d.6
+  from_slot temps steps op prefix position o (FromSlot k) d = d.6
 
   to_slot : (op : Op) (prefix position : ℕ) (o : Operand) (t : Target) → IsTargeted f op prefix position o t → IsToSlot count (size_of_slot f.vars) t
   to_slot op prefix position o (ToArray k) d = subst (λ k. IsWidth (count * size_of_slot f.vars k) × (k < 12)) d.4 (slot_width f h count is_count d.0 (size_of_result op position * prefix) d.2, slot_small f h d.0 (size_of_result op position * prefix) d.2)
   to_slot op prefix position o (ToSum g) d = let l = before_less kind.Accumulator f.vars d.0 d.2.inside (ap (same_kind kind.Accumulator) d.2.sum) in omega (arith, l, d.3, (limits f h).accs)
   to_slot op prefix position o (ToPlace a) d = d.5
+  to_slot op prefix position o (ToSlot k) d = d.5
 
   -- ---- what is asked of a source and of a result whose code is to be given
 
@@ -318,11 +330,13 @@ module _ (f : FunctionValue) (h : is_function f ≡ true) (at : List ℕ) (count
   from_loaded temps steps op prefix position o (FromArray k) d = moved d.0 (size_of_source op position * prefix) k d.2 d.3
   from_loaded temps steps op prefix position o (FromPattern j) d = subst (λ (ps : List Pattern). j < length ps) (sym (patterns_are f)) d.1
   from_loaded temps steps op prefix position o (FromPlace a) d = d.6
+  from_loaded temps steps op prefix position o (FromSlot k) d = d.6
 
   from_same : (temps : List ℕ) (steps : List Step) (op : Op) (prefix position : ℕ) (o : Operand) (s : Source) → IsSourced f at temps steps op prefix position o s → SameFrom sizes (size_of_slot f.vars) s
   from_same temps steps op prefix position o (FromArray k) d = same_size d.0 (size_of_source op position * prefix) k d.2 d.3
   from_same temps steps op prefix position o (FromPattern j) d = tt
   from_same temps steps op prefix position o (FromPlace a) d = tt
+  from_same temps steps op prefix position o (FromSlot k) d = tt
 
   to_stored : (op : Op) (prefix position : ℕ) (o : Operand) (t : Target) → IsTargeted f op prefix position o t → IsStored (layout_of f) sizes count t
   to_stored op prefix position o (ToArray k) d = moved d.0 (size_of_result op position * prefix) k d.2 d.4
@@ -330,11 +344,13 @@ module _ (f : FunctionValue) (h : is_function f ≡ true) (at : List ℕ) (count
       let l = before_less kind.Accumulator f.vars d.0 d.2.inside (ap (same_kind kind.Accumulator) d.2.sum) in
       omega (arith, l, d.3, ap length (sizes_are f), length-acc_sizes_of f)
   to_stored op prefix position o (ToPlace a) d = d.5
+  to_stored op prefix position o (ToSlot k) d = d.5
 
   to_same : (op : Op) (prefix position : ℕ) (o : Operand) (t : Target) → IsTargeted f op prefix position o t → SameTo sizes (size_of_slot f.vars) t
   to_same op prefix position o (ToArray k) d = same_size d.0 (size_of_result op position * prefix) k d.2 d.4
   to_same op prefix position o (ToSum g) d = tt
   to_same op prefix position o (ToPlace a) d = tt
+  to_same op prefix position o (ToSlot k) d = tt
 
   -- ---- costs
 
@@ -360,13 +376,23 @@ module _ (f : FunctionValue) (h : is_function f ≡ true) (at : List ℕ) (count
   from_cost temps steps op prefix position o (FromArray k) d = let e : source_cost f.vars o ≡ 2 = ap (source_cost f.vars) d.1 ∙ array_costs (var_at f.vars d.0).kind d.2.array in omega (arith, e)
   from_cost temps steps op prefix position o (FromPattern j) d = some_cost o
   from_cost temps steps op prefix position o (FromPlace a) d = some_cost o
+  from_cost temps steps op prefix position o (FromSlot k) d = some_cost o
 
-  to_cost : (op : Op) (prefix position : ℕ) (o : Operand) (t : Target) → IsTargeted f op prefix position o t → to_weight t ≤ result_cost f.vars o
+  -- the cost of a result, by the kind of its variable
+  abbrev to_price : Operand → ℕ
+  to_price o = result_cost (spills f) f.vars o
+
+  abbrev price_of_kind : VarKind → ℕ
+  price_of_kind k = if same_kind kind.Dest k || same_kind kind.Accumulator k then 2 else (if spills f && same_kind kind.Temp k then 1 else 0)
+
+  to_cost : (op : Op) (prefix position : ℕ) (o : Operand) (t : Target) → IsTargeted f op prefix position o t → to_weight t ≤ to_price o
   to_cost op prefix position o (ToArray k) d =
-      let e : result_cost f.vars o ≡ 2 = ap (result_cost f.vars) d.1 ∙ ap (λ k. if same_kind kind.Dest k || same_kind kind.Accumulator k then 2 else 0) d.3 in omega (arith, e)
+      let e : to_price o ≡ 2 = ap to_price d.1 ∙ ap price_of_kind d.3 in omega (arith, e)
   to_cost op prefix position o (ToSum g) d =
-      let e : result_cost f.vars o ≡ 2 = ap (result_cost f.vars) d.1 ∙ ap (λ k. if same_kind kind.Dest k || same_kind kind.Accumulator k then 2 else 0) d.2.sum in omega (arith, e)
+      let e : to_price o ≡ 2 = ap to_price d.1 ∙ ap price_of_kind d.2.sum in omega (arith, e)
   to_cost op prefix position o (ToPlace a) d = omega arith
+  to_cost op prefix position o (ToSlot k) d =
+      let e : to_price o ≡ 1 = ap to_price d.1 ∙ ap price_of_kind d.2 ∙ ap (λ b. if b && true then 1 else 0) d.6 in omega (arith, e)
 
   -- ---- one or two of each
 
@@ -411,7 +437,7 @@ module _ (f : FunctionValue) (h : is_function f ≡ true) (at : List ℕ) (count
     stored : Each (IsStored (layout_of f) sizes count) ts
     same : Each (SameTo sizes (size_of_slot f.vars)) ts
     few : length ts ≤ 2
-    cost : to_weights ts ≤ sum_by (result_cost f.vars) os
+    cost : to_weights ts ≤ sum_by to_price os
 
   few_targets : (op : Op) (prefix : ℕ) (os : List Operand) (ts : List Target) → AreTargeted f op prefix os ts → AreFewTo os ts
   few_targets op prefix [] ts d = absurd d
@@ -421,7 +447,7 @@ module _ (f : FunctionValue) (h : is_function f ≡ true) (at : List ℕ) (count
     stored = (to_stored op prefix 0 x t d, tt);
     same = (to_same op prefix 0 x t d, tt);
     few = omega arith;
-    cost = omega (arith, to_cost op prefix 0 x t d, sum_by-cons (result_cost f.vars) x []);
+    cost = omega (arith, to_cost op prefix 0 x t d, sum_by-cons to_price x []);
   }
   few_targets op prefix (x ∷ []) (t ∷ u ∷ more) d = absurd d
   few_targets op prefix (x ∷ y ∷ []) [] d = absurd d
@@ -431,7 +457,7 @@ module _ (f : FunctionValue) (h : is_function f ≡ true) (at : List ℕ) (count
     stored = (to_stored op prefix 0 x t d.0, (to_stored op prefix 1 y u d.1, tt));
     same = (to_same op prefix 0 x t d.0, (to_same op prefix 1 y u d.1, tt));
     few = omega arith;
-    cost = omega (arith, to_cost op prefix 0 x t d.0, to_cost op prefix 1 y u d.1, sum_by-cons (result_cost f.vars) x (y ∷ []), sum_by-cons (result_cost f.vars) y []);
+    cost = omega (arith, to_cost op prefix 0 x t d.0, to_cost op prefix 1 y u d.1, sum_by-cons to_price x (y ∷ []), sum_by-cons to_price y []);
   }
   few_targets op prefix (x ∷ y ∷ []) (t ∷ u ∷ v ∷ more) d = absurd d
   few_targets op prefix (x ∷ y ∷ z ∷ rest) ts d = absurd d
@@ -476,18 +502,18 @@ module _ (f : FunctionValue) (h : is_function f ≡ true) (at : List ℕ) (count
   fit_from temps (insn ∷ insns) [] d fits is = absurd is
   fit_from temps (insn ∷ insns) (a ∷ rest) d fits is = (fit_one temps insn insns a d.0 fits.0 is.0, fit_from (temps ++ made_by f.vars insn) insns rest d.1 fits.1 is.1)
 
-  weight_within : (temps : List ℕ) (insn : Insn) (rest : List Insn) (a : Action) → IsPlanned f at temps insn rest → IsAction at count (step_at f temps insn) a → weight a ≤ insn_cost f.vars insn
+  weight_within : (temps : List ℕ) (insn : Insn) (rest : List Insn) (a : Action) → IsPlanned f at temps insn rest → IsAction at count (step_at f temps insn) a → weight a ≤ insn_cost (spills f) f.vars insn
   weight_within temps insn rest a d is =
       let sources : from_weights a.sources ≡ from_weights (sources_at f at temps insn) = ap from_weights is.sources in
       let results : to_weights a.to ≡ to_weights (targets_at f at temps insn) = ap to_weights is.to in
       let class : (row a.op).class ≡ (row insn.op).class = ap (λ o. (row o).class) is.op in
       omega (arith, sources, results, class, is.rule.few, (from_few temps insn rest d).cost, (to_few temps insn rest d).cost)
 
-  weights_from : (temps : List ℕ) (insns : List Insn) (actions : List Action) → ArePlanned f at temps insns → AreActions at count (steps_from f temps insns) actions → weights actions ≤ sum_by (insn_cost f.vars) insns
+  weights_from : (temps : List ℕ) (insns : List Insn) (actions : List Action) → ArePlanned f at temps insns → AreActions at count (steps_from f temps insns) actions → weights actions ≤ sum_by (insn_cost (spills f) f.vars) insns
   weights_from temps [] [] d is = omega arith
   weights_from temps [] (a ∷ rest) d is = absurd is
   weights_from temps (insn ∷ insns) [] d is = absurd is
-  weights_from temps (insn ∷ insns) (a ∷ rest) d is = omega (arith, weight_within temps insn insns a d.0 is.0, weights_from (temps ++ made_by f.vars insn) insns rest d.1 is.1, sum_by-cons (insn_cost f.vars) insn insns)
+  weights_from temps (insn ∷ insns) (a ∷ rest) d is = omega (arith, weight_within temps insn insns a d.0 is.0, weights_from (temps ++ made_by f.vars insn) insns rest d.1 is.1, sum_by-cons (insn_cost (spills f) f.vars) insn insns)
 
   -- ---- what is asked of a step whose code is to be given
 
@@ -519,7 +545,7 @@ module _ (f : FunctionValue) (h : is_function f ≡ true) (at : List ℕ) (count
 
 -- ---- of a function's steps
 
-module _ (f : FunctionValue) (h : is_function f ≡ true) (at : List ℕ) (stand : AllStand f.vars (patterns_of f.vars f.insns) at [] f.insns) (count : ℕ) (is_count : IsCount f count) where
+module _ (f : FunctionValue) (h : is_function f ≡ true) (at : List ℕ) (stand : AllPlaced f at) (count : ℕ) (is_count : IsCount f count) where
   pub all_movable : (actions : List Action) → AreActions at count (steps_of f) actions → Each (IsMovable count (size_of_slot f.vars)) actions
   unfolding steps_of
   all_movable actions is = movable_from f h at count is_count [] f.insns actions (are_planned f h at stand) is

@@ -28,7 +28,7 @@ use Rattle.x86_flow.proofs.Touching.{touches_none, touches_in}
 use Rattle.x86_flow.proofs.Words.{load_word, store_word, at_away}
 use Rattle.x86_flow.proofs.Frame.{word_same, word_stored}
 use Rattle.orc_program.specs.Need.{turns}
-use Rattle.orc_frame.specs.Layout.{frame_size, left_slot}
+use Rattle.orc_frame.specs.Layout.{left_slot, frame_size}
 use Rattle.orc_region.specs.Regions.{never, gap_code, gap_flow, behind_code, enter_head_code, leave_head_code, reached_flow, unreached_flow, tail_flow, aligned_row, plain_row, wide_loops}
 use Rattle.orc_region.proofs.Row.Gaps.{each_size, AtSixteen, gap, IsGap, gap_is, no_gap, turns_few}
 use Rattle.orc_region.proofs.Block.Keeping.{line_bounded}

@@ -17,8 +17,8 @@ use Rattle.x86_ins.specs.Way.{Each}
 use Rattle.x86_flow.specs.Flow.{size}
 use Rattle.x86_flow.specs.Moves.{IsWidth, away, store_either_code}
 use Rattle.x86_flow.proofs.Spelled.{IsFine, fine_alu_imm, fits_up, each_both, size_within, fine_load_far, fine_store_far, fine_aligned_store, fine_vec_load, fine_vec_store}
-use Rattle.orc_frame.specs.Layout.{pattern_slot, sum_slot}
-use Rattle.orc_region.specs.Code.{Action, IsRule, Source, FromArray, FromPattern, FromPlace, Target, ToArray, ToSum, ToPlace, Plan, pointer, place_register, made_in, first_register, second_register, rule_register, rule_code, at_pointer, unaligned, aligned_first, source_far_code, sources_far_code, sum_code, result_far_code, results_far_code, action_far_code, actions_far_code, actions_code, advance_code, block_far, blocks_code, turn_code, blocks_turn_code}
+use Rattle.orc_frame.specs.Layout.{pattern_slot, sum_slot, spill_slot}
+use Rattle.orc_region.specs.Code.{Action, IsRule, Source, FromArray, FromPattern, FromPlace, FromSlot, Target, ToArray, ToSum, ToPlace, ToSlot, Plan, pointer, place_register, made_in, first_register, second_register, rule_register, rule_code, at_pointer, unaligned, aligned_first, source_far_code, sources_far_code, sum_code, result_far_code, results_far_code, action_far_code, actions_far_code, actions_code, advance_code, block_far, blocks_code, turn_code, blocks_turn_code}
 use Rattle.orc_region.proofs.Block.Keeping.{ins_of}
 use Rattle.orc_region.proofs.Block.RuleRegisters.{register_small}
 use Rattle.orc_region.proofs.Sizes.Cost.{from_weights, to_weights, weights}
@@ -58,6 +58,7 @@ module _ (count : ℕ) (size far : ℕ → ℕ) (aligned : ℕ → Bool) (near :
   fine_source x (FromArray k) l h = fine_load_far (count * size k) x (pointer k) (far k) h.0 l (pointer_small k h.1) (near k)
   fine_source x (FromPattern j) l h = (fine_vec_load Movdqu x (away 4 (pattern_slot j)) l (omega arith) (fits_up (pattern_slot j) (omega (arith, h))), tt)
   fine_source x (FromPlace p) l h = fine_rule (Vec Movdqa x (place_register p) ∷ []) refl ((l, omega (arith, h)), tt)
+  fine_source x (FromSlot k) l h = (fine_vec_load Movdqu x (away 4 (spill_slot k)) l (omega arith) (fits_up (spill_slot k) (omega (arith, h))), tt)
 
   fine_sources : (x y : ℕ) (ss : List Source) → x < 16 → y < 16 → Each (IsFromSlot count size) ss → Each IsFine (sources_far_code count size far x y ss)
   fine_sources x y [] l m h = tt
@@ -68,12 +69,14 @@ module _ (count : ℕ) (size far : ℕ → ℕ) (aligned : ℕ → Bool) (near :
   fine_sum [] h = tt
   fine_sum (ToArray k ∷ more) h = tt
   fine_sum (ToPlace p ∷ more) h = tt
+  fine_sum (ToSlot k ∷ more) h = tt
   fine_sum (ToSum g ∷ more) h = (fine_vec_load Movdqu 2 (away 4 (sum_slot g)) (omega arith) (omega arith) (fits_up (sum_slot g) (let l : g < 4 = h.0 in omega (arith, l))), tt)
 
   fine_result : (x : ℕ) (t : Target) → x < 16 → IsToSlot count size t → Each IsFine (result_far_code count size far aligned x t)
   fine_result x (ToArray k) l h = fine_store_either (aligned k) (count * size k) x (pointer k) (far k) h.0 l (pointer_small k h.1) (near k)
   fine_result x (ToSum g) l h = (fine_vec_store Movdqu 2 (away 4 (sum_slot g)) (omega arith) (omega arith) (fits_up (sum_slot g) (omega (arith, h))), tt)
   fine_result x (ToPlace p) l h = tt
+  fine_result x (ToSlot k) l h = (fine_vec_store Movdqu x (away 4 (spill_slot k)) l (omega arith) (fits_up (spill_slot k) (omega (arith, h))), tt)
 
   fine_results : (ts : List Target) → Each (IsToSlot count size) ts → Each IsFine (results_far_code count size far aligned ts)
   fine_results [] h = tt
@@ -85,6 +88,7 @@ module _ (count : ℕ) (size far : ℕ → ℕ) (aligned : ℕ → Bool) (near :
   made_small x (ToArray k) l h = l
   made_small x (ToSum g) l h = l
   made_small x (ToPlace p) l h = omega (arith, h)
+  made_small x (ToSlot k) l h = l
 
   first_small : (ts : List Target) → Each (IsToSlot count size) ts → first_register ts < 16
   first_small [] h = omega arith
@@ -123,12 +127,14 @@ from_few [] = omega arith
 from_few (FromArray k ∷ ss) = omega (arith, from_few ss)
 from_few (FromPattern j ∷ ss) = omega (arith, from_few ss)
 from_few (FromPlace p ∷ ss) = omega (arith, from_few ss)
+from_few (FromSlot k ∷ ss) = omega (arith, from_few ss)
 
 to_few : (ts : List Target) → to_weights ts ≤ 2 * length ts
 to_few [] = omega arith
 to_few (ToArray k ∷ ts) = omega (arith, to_few ts)
 to_few (ToSum g ∷ ts) = omega (arith, to_few ts)
 to_few (ToPlace p ∷ ts) = omega (arith, to_few ts)
+to_few (ToSlot k ∷ ts) = omega (arith, to_few ts)
 
 weight_few : (count : ℕ) (size : ℕ → ℕ) (actions : List Action) → Each (IsMovable count size) actions → weights actions ≤ 108 * length actions
 weight_few count size [] h = omega arith

@@ -1,11 +1,12 @@
--- The steps of actions: two instructions for each array that is read or written and for each sum, one for each other source, none for a result at a place, and a rule.
+-- The steps of actions: two instructions for each array that is read or written and for each sum, one for each other source and for a result that goes to a spill slot, none for one that goes to a place's register, and a rule.
 use Rattle.std.proofs.Common.{ℕ, ◌+◌, List, [], ◌∷◌, length}
-use Rattle.orc_region.specs.Code.{Action, Source, FromArray, FromPattern, FromPlace, Target, ToArray, ToSum, ToPlace}
+use Rattle.orc_region.specs.Code.{Action, Source, FromArray, FromPattern, FromPlace, FromSlot, Target, ToArray, ToSum, ToPlace, ToSlot}
 
 abbrev pub from_weight : Source → ℕ
 from_weight (FromArray k) = 2
 from_weight (FromPattern j) = 1
 from_weight (FromPlace p) = 1
+from_weight (FromSlot k) = 1
 
 abbrev pub from_weights : List Source → ℕ
 from_weights [] = 0
@@ -15,6 +16,7 @@ abbrev pub to_weight : Target → ℕ
 to_weight (ToArray k) = 2
 to_weight (ToSum g) = 2
 to_weight (ToPlace p) = 0
+to_weight (ToSlot k) = 1
 
 abbrev pub to_weights : List Target → ℕ
 to_weights [] = 0

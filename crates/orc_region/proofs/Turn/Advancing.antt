@@ -15,7 +15,7 @@ use Rattle.orc_bits.specs.Numbers.{wrap}
 use Rattle.x86_flow.specs.Does.{Line}
 use Rattle.x86_flow.proofs.Moves.{line_append}
 use Rattle.x86_flow.proofs.Touching.{touches_none}
-use Rattle.orc_frame.specs.Parts.{InRunning}
+use Rattle.orc_frame.specs.Parts.{InChanged}
 use Rattle.orc_region.specs.Code.{Plan, Action, pointer, at_pointer, unaligned, action_far_code, actions_far_code, actions_code, block_far, blocks_code, blocks_turn_code, advance_code, turn_code}
 use Rattle.orc_region.proofs.Block.Registers.{not_0, not_1, not_4, not_7, pointer_one}
 use Rattle.sse_acc.specs.Sums.{sum_below}
@@ -75,9 +75,9 @@ pub record Setting (n : ℕ) (base : ℕ → ℕ) (P : ℕ → Type 0) (numbers 
   -- memory and the totals of running sums after i elements, and what more of them do
   pub emulates : (i : ℕ) (mem : Memory) (totals : ℕ → ℕ) (sig : ℕ → Local) → Emul i mem totals → (c : ℕ) → i + c ≤ n → Lanes n base p.size P i c mem sig
       → (end : Memory) × Emul (c + i) end (λ g. totals g + sum_below c (λ q. adds n base p.size P numbers p.actions (sig q) g)) × Lanes n base p.size P i c end (λ q. local n base p.size P numbers p.actions (sig q)) × Others n base p.size P i c mem end
-  -- F are the addresses where the code's memory need not agree with emulation's: no cells, and all running sums
+  -- F are the addresses where the code's memory need not agree with emulation's: no cells, and all running sums and spill slots
   pub apart : (k : ℕ) → P k → (i : ℕ) → i < n → (r : ℕ) → r < p.size k → F (base k + i * p.size k + r) → ⊥
-  pub sums : (a : ℕ) → InRunning rsp numbers.sums a → F a
+  pub changed : (a : ℕ) → InChanged rsp numbers.sums a → F a
 
 module _ (n : ℕ) (base : ℕ → ℕ) (P : ℕ → Type 0) (numbers : Numbers) (rsp : ℕ) (p : Plan) (Emul : ℕ → Memory → (ℕ → ℕ) → Type 0) (F : ℕ → Type 0) (set : Setting n base P numbers rsp p Emul F) where
   -- the address of a byte of an element of the slots with D
@@ -98,7 +98,7 @@ module _ (n : ℕ) (base : ℕ → ℕ) (P : ℕ → Type 0) (numbers : Numbers)
     -- what holds at each step
     pub record Calm (c : Core) : Type 0 where
       pub stack : c.gpr 4 ≡ rsp
-      pub quiet : (a : ℕ) → (IsDestCell a → ⊥) → (InRunning rsp numbers.sums a → ⊥) → c.memory a ≡ mem a
+      pub quiet : (a : ℕ) → (IsDestCell a → ⊥) → (InChanged rsp numbers.sums a → ⊥) → c.memory a ≡ mem a
 
     -- before element i, where emulation has the memory e and the running sums have these totals
     pub record Inside (i : ℕ) (e : Memory) (totals : ℕ → ℕ) (c : Core) : Type 0 where
@@ -166,7 +166,7 @@ module _ (n : ℕ) (base : ℕ → ℕ) (P : ℕ → Type 0) (numbers : Numbers)
             stack = g 4 (λ x. omega (arith, x)) ∙ h.calm.stack;
             quiet = λ a m s. o a (λ x. m (dest a x)) s ∙ h.calm.quiet a m s;
           } in
-          let b = actions_line n base p.size P numbers rsp set.ground Near far aligned count some j p.actions c c.memory no_values sig totals set.known fit ins_all w at h.calm.stack hc h.framed (λ p l q lq r lr. absurd (omega (arith, lr))) h.bounded (λ a m s. refl) (λ u ins g o. (calm u g o, g)) in
+          let b = actions_line n base p.size P numbers rsp set.ground Near far aligned count some j p.actions c c.memory no_values sig totals set.known fit ins_all w at h.calm.stack hc h.framed (λ p l q lq r lr lb. absurd (omega (arith, lr))) h.bounded (λ a m s. refl) (λ u ins g o. (calm u g o, g)) in
           let frame = set.ground.frame in
           let whole : (k : ℕ) → P k → aligned k ≡ true → count * p.size k ≡ 16 = λ k hk t. (aligns k hk t).0 in
           let goes = actions_go n base p.size P numbers frame.few_patterns frame.few_sums far aligned count whole no_values p.actions set.known fit in
@@ -185,7 +185,7 @@ module _ (n : ℕ) (base : ℕ → ℕ) (P : ℕ → Type 0) (numbers : Numbers)
               pointers = λ k hk. x.gpr (pointer k) (λ z. not_0 k z) ∙ h.pointers k hk;
               block = x.gpr 7 (λ z. omega (arith, z)) ∙ h.block;
               calm = calm d x.gpr x.others;
-              agree = λ a nf. same_end n base p.size P set.ground.separate set.ground.low set.decided slot_small j count c.memory e d.memory m.0 (λ q. local n base p.size P numbers p.actions (sig q)) x.lanes m.2 m.3 a (λ k. x.others a (λ t. k (t.0, t.1.0, t.2, t.3, t.4, t.5, t.6)) (λ s. nf (set.sums a s))) (h.agree a nf);
+              agree = λ a nf. same_end n base p.size P set.ground.separate set.ground.low set.decided slot_small j count c.memory e d.memory m.0 (λ q. local n base p.size P numbers p.actions (sig q)) x.lanes m.2 m.3 a (λ k. x.others a (λ t. k (t.0, t.1.0, t.2, t.3, t.4, t.5, t.6)) (λ s. nf (set.changed a s))) (h.agree a nf);
               mapped = λ a t. ⊎_elim (λ at. ap is_some (ap m.0 at.6 ∙ m.2 at.0 at.1 at.2 at.3 at.4 at.5)) (λ k. ap is_some (m.3 a k) ∙ h.mapped a t) (elements_or_not n base p.size P set.ground.separate set.ground.low set.decided slot_small j count a);
               framed = x.framed;
               bounded = x.bounded;

@@ -2,14 +2,13 @@
 use Rattle.std.proofs.Common.{◌≡◌, ℕ, ◌+◌, ◌*◌, ◌≤◌, true, false, pos, List, [], ◌∷◌, ◌++◌, length, slice_index, sym, ap, ap₂, ◌∙◌, subst, arith, All, IsTrue, inl, inr}
 use Rattle.orc_program.specs.declared.program.VarKind.TheVariants as kind
 use Rattle.orc_program.specs.Program.{FunctionValue, count_of}
-use Rattle.orc_program.specs.Checks.{patterns_of}
 use Rattle.orc_program.specs.Kept.{is_function}
 use Rattle.orc_program.specs.Need.{cost}
 use Rattle.orc_program.specs.Slots.{size_of_slot}
 use Rattle.orc_plan.specs.Lowered.{steps_of, sizes_of}
 use Rattle.orc_plan.specs.Places.{GoodPlaces}
-use Rattle.orc_plan.specs.Standing.{AllStand}
 use Rattle.orc_plan.proofs.Standing.{all_stand}
+use Rattle.orc_plan.proofs.SameNeed.{only_spilled}
 use Rattle.x86_ins.specs.declared.ins.Ins.{Ins}
 use Rattle.x86_ins.specs.declared.ins.AluOp.TheVariants.{Sub}
 use Rattle.x86_ins.specs.declared.ins.Ins.TheVariants.{AluImm}
@@ -21,6 +20,7 @@ use Rattle.orc_frame.specs.Layout.{layout_of}
 use Rattle.orc_region.specs.Code.{Action, AreActions, IsReady, IsTurn, IsAlignedTurn, IsTurnBy, span_of, plan_with, at_pointer, unaligned, far_by, aligned_first, block_far, actions_far_code, advance_code, action_far_code, turn_code, blocks_turn_code}
 use Rattle.orc_region.proofs.Sizes.Cost.{weights}
 use Rattle.orc_region.proofs.Sizes.Counts.{turn_count, block_turn_count}
+use Rattle.orc_region.proofs.Checked.Acts.{AllPlaced}
 use Rattle.orc_region.proofs.Checked.Several.{IsCount}
 use Rattle.orc_region.proofs.Sizes.Bytes.{Small, fine_turn, fine_aligned, ins_block, turn_bytes, aligned_bytes}
 use Rattle.orc_region.proofs.Block.Keeping.{ins_of}
@@ -42,8 +42,8 @@ module _ (f : FunctionValue) (h : is_function f ≡ true) (at : List ℕ) (good 
   abbrev steps : ℕ → ℕ
   steps = slice_index (sizes_of f)
 
-  pub stand_is : AllStand f.vars (patterns_of f.vars f.insns) at [] f.insns
-  stand_is = all_stand f h at good
+  pub stand_is : AllPlaced f at
+  stand_is = record { stand = all_stand f h at good; paid = only_spilled f at good }
 
   -- the pointers and the counter go on by so many elements
   abbrev moves : (ℕ → ℕ) → ℕ → List Ins

@@ -8,19 +8,17 @@ use Rattle.orc_program.specs.declared.program.VarKind.{VarKind}
 use Rattle.orc_program.specs.declared.program.VarKind.TheVariants as kind
 use Rattle.orc_program.specs.declared.program.Insn.{Insn}
 use Rattle.orc_program.specs.Program.{FunctionValue, var_at, same_kind, is_array_kind}
-use Rattle.orc_program.specs.Checks.{patterns_of}
 use Rattle.orc_program.specs.Kept.{is_function}
 use Rattle.orc_program.specs.Need.{made_by, is_array_operand}
 use Rattle.orc_plan.specs.declared.steps.Step.{Step}
 use Rattle.orc_plan.specs.Lowered.{result_items, source_items, step_of, steps_after, steps_of}
-use Rattle.orc_plan.specs.Standing.{AllStand}
 use Rattle.orc_frame.specs.Function.{array_operands, subject_of}
 use Rattle.x86_ins.specs.declared.ins.Ins.{Ins}
 use Rattle.x86_flow.specs.Touching.{touch_weight}
 use Rattle.x86_flow.proofs.Plans.{weigh}
-use Rattle.orc_region.specs.Code.{Action, Source, FromArray, FromPattern, FromPlace, Target, ToArray, ToSum, ToPlace, source_of, target_of, IsAction, AreActions, patterns_in, plan_with, aligned_first, IsTurn, IsAlignedTurn}
+use Rattle.orc_region.specs.Code.{Action, Source, FromArray, FromPattern, FromPlace, FromSlot, Target, ToArray, ToSum, ToPlace, ToSlot, source_of, target_of, IsAction, AreActions, patterns_in, plan_with, aligned_first, IsTurn, IsAlignedTurn}
 use Rattle.orc_region.proofs.Checked.Direct.{IsSourced, IsTargeted}
-use Rattle.orc_region.proofs.Checked.Acts.{AreSourced, AreTargeted, IsPlanned, ArePlanned, are_planned}
+use Rattle.orc_region.proofs.Checked.Acts.{AllPlaced, AreSourced, AreTargeted, IsPlanned, ArePlanned, are_planned}
 use Rattle.orc_region.proofs.Checked.Several.{IsCount}
 use Rattle.orc_region.proofs.Checked.Knows.{all_fit}
 use Rattle.orc_region.proofs.Turn.Touches.{from_arrays, to_arrays, arrays_of, from_front, to_front, turn_few, blocks_turn_few}
@@ -45,11 +43,13 @@ module _ (f : FunctionValue) (at : List ℕ) where
   from_one temps steps op prefix position o (FromArray k) d = (let e : one o ≡ 1 = ap one d.1 ∙ array_one (var_at f.vars d.0).kind d.2.array in omega (arith, e))
   from_one temps steps op prefix position o (FromPattern j) d = omega arith
   from_one temps steps op prefix position o (FromPlace a) d = omega arith
+  from_one temps steps op prefix position o (FromSlot k) d = omega arith
 
   to_one : (op : Op) (prefix position : ℕ) (o : Operand) (t : Target) → IsTargeted f op prefix position o t → to_arrays (t ∷ []) ≤ one o
   to_one op prefix position o (ToArray k) d = (let e : one o ≡ 1 = ap one d.1 ∙ ap of_kind d.3 in omega (arith, e))
   to_one op prefix position o (ToSum g) d = omega arith
   to_one op prefix position o (ToPlace a) d = omega arith
+  to_one op prefix position o (ToSlot k) d = omega arith
 
   -- one or two of each
   from_all : (temps : List ℕ) (steps : List Step) (op : Op) (prefix : ℕ) (os : List Operand) (ss : List Source) → AreSourced f at temps steps op prefix os ss → from_arrays ss ≤ count_by (is_array_operand f.vars) os
@@ -89,14 +89,14 @@ module _ (f : FunctionValue) (at : List ℕ) where
       omega (arith, one_action count temps insn insns a d.0 is.0, arrays_from count (temps ++ made_by f.vars insn) insns rest d.1 is.1, sum_by-cons (array_operands f.vars) insn insns)
 
 -- the actions of a function's steps
-pub arrays_few : (f : FunctionValue) → is_function f ≡ true → (at : List ℕ) → AllStand f.vars (patterns_of f.vars f.insns) at [] f.insns → (count : ℕ) (actions : List Action) → AreActions at count (steps_of f) actions → arrays_of actions ≤ (subject_of f).operands
+pub arrays_few : (f : FunctionValue) → is_function f ≡ true → (at : List ℕ) → AllPlaced f at → (count : ℕ) (actions : List Action) → AreActions at count (steps_of f) actions → arrays_of actions ≤ (subject_of f).operands
 unfolding steps_of
 arrays_few f h at stand count actions is = arrays_from f at count [] f.insns actions (are_planned f h at stand) is
 
 -- ---- turns
 
 -- a turn's instructions that go by some registers, of which RSP is none, are at most as many as the function's operands that are arrays
-module _ (by : ℕ → Bool) (by_stack : by 4 ≡ false) (f : FunctionValue) (h : is_function f ≡ true) (at : List ℕ) (stand : AllStand f.vars (patterns_of f.vars f.insns) at [] f.insns) (count : ℕ) (is_count : IsCount f count) where
+module _ (by : ℕ → Bool) (by_stack : by 4 ≡ false) (f : FunctionValue) (h : is_function f ≡ true) (at : List ℕ) (stand : AllPlaced f at) (count : ℕ) (is_count : IsCount f count) where
   pub turn_light : (list : List Ins) → IsTurn f at count list → weigh (touch_weight by) list ≤ (subject_of f).operands
   turn_light list x = omega (arith, ap (weigh (touch_weight by)) x.2, turn_few by by_stack (plan_with f x.0) count (all_fit f h at stand count is_count x.0 x.1), arrays_few f h at stand count x.0 x.1)
 

@@ -1,5 +1,5 @@
 -- Turns of so many elements are what the loops of a row ask for.
-use Rattle.std.proofs.Common.{◌≡◌, ℕ, zero, suc, ◌+◌, ◌/◌, true≢false, inl, ◌-◌, ◌*◌, ◌%◌, ◌^◌, ◌<◌, ◌≤◌, Bool, true, false, is_some, le_refl, sym, ap, ◌∙◌, subst, arith, refl, List, length}
+use Rattle.std.proofs.Common.{◌≡◌, ℕ, zero, suc, ◌+◌, ◌/◌, true≢false, inl, ⊎_elim, ◌-◌, ◌*◌, ◌%◌, ◌^◌, ◌<◌, ◌≤◌, Bool, true, false, is_some, le_refl, sym, ap, ◌∙◌, subst, arith, refl, List, length}
 use Rattle.orc_bits.specs.Memory.{Memory, IsMapped}
 use Rattle.x86_ins.specs.declared.ins.Ins.{Ins}
 use Rattle.x86_ins.specs.Machine.{Core, Bounded}
@@ -16,7 +16,7 @@ use Rattle.orc_region.specs.Regions.{plain_row, aligned_row}
 use Rattle.orc_region.proofs.Block.Registers.{not_0, not_1}
 use Rattle.orc_region.proofs.Block.Cells.{Numbers}
 use Rattle.orc_frame.specs.Layout.{frame_size}
-use Rattle.orc_frame.specs.Parts.{InRunning}
+use Rattle.orc_frame.specs.Parts.{InChanged}
 use Rattle.orc_region.proofs.Block.Frames.{framed_below}
 use Rattle.orc_region.proofs.Block.Actions.{IsFit}
 use Rattle.orc_region.proofs.Block.Touched.{TouchesPart}
@@ -33,17 +33,17 @@ module _ (n : ℕ) (base : ℕ → ℕ) (P : ℕ → Type 0) (numbers : Numbers)
   abbrev pub Dest : ℕ → Type 0
   Dest = IsDestCell n base P numbers rsp p Emul F set
 
-  -- what holds at each step: outside dests' cells, running sums and the word memory is as before the row's elements
+  -- what holds at each step: outside dests' cells, running sums, spill slots and the word memory is as before the row's elements
   pub record Outside (u : Core) : Type 0 where
     pub stack : u.gpr 4 ≡ rsp
-    pub quiet : (a : ℕ) → (Dest a → ⊥) → (InRunning rsp numbers.sums a → ⊥) → (InFree a → ⊥) → u.memory a ≡ first a
+    pub quiet : (a : ℕ) → (Dest a → ⊥) → (InChanged rsp numbers.sums a → ⊥) → (InFree a → ⊥) → u.memory a ≡ first a
 
   -- before element i, by the memory `mem`, which may differ from the first in the word
   pub record At (i : ℕ) (c : Core) : Type 0 where
     pub e : Memory
     pub totals : ℕ → ℕ
     pub mem : Memory
-    pub near : (a : ℕ) → (Dest a → ⊥) → (InRunning rsp numbers.sums a → ⊥) → (InFree a → ⊥) → mem a ≡ first a
+    pub near : (a : ℕ) → (Dest a → ⊥) → (InChanged rsp numbers.sums a → ⊥) → (InFree a → ⊥) → mem a ≡ first a
     pub inside : Inside n base P numbers rsp p Emul F set rdi mem i e totals c
     pub emulated : Emul i e totals
     pub there : (a : ℕ) → InFree a → IsMapped c.memory a
@@ -54,8 +54,8 @@ module _ (n : ℕ) (base : ℕ → ℕ) (P : ℕ → Type 0) (numbers : Numbers)
   free_dest : (a : ℕ) → InFree a → Dest a → ⊥
   free_dest a w t = set.apart t.0 t.1.0 t.2 t.3 t.4 t.5 (subst F t.6 (free_frame a w))
 
-  free_sum : (a : ℕ) → InFree a → InRunning rsp numbers.sums a → ⊥
-  free_sum a w s = (let few = set.ground.frame.few_sums in omega (arith, w.0, s.1, few))
+  free_changed : (a : ℕ) → InFree a → InChanged rsp numbers.sums a → ⊥
+  free_changed a w s = ⊎_elim (λ i. let few = set.ground.frame.few_sums in omega (arith, w.0, i.1, few)) (λ i. omega (arith, w.1, i.0)) s
 
   -- Free is what holds where the first dest is stored a whole register at once by stores that aren't aligned
   module _ (Free : Type 0) (calmly : (u : Core) (i : Ins) → Outside u → TouchesPart n base p.size P rsp Free u i → Q u i) where
@@ -80,7 +80,7 @@ module _ (n : ℕ) (base : ℕ → ℕ) (P : ℕ → Type 0) (numbers : Numbers)
             calm = record { stack = b.gpr 4 (λ e. omega (arith, e)) (λ e. omega (arith, e)) ∙ x.calm.stack; quiet = λ a k s. refl };
             agree = λ a nf. b.memory a (λ w. nf (free_frame a w)) ∙ x.agree a nf;
             mapped = x.mapped;
-            framed = framed_below numbers rsp frame c.memory d.memory h.totals (λ a l u. b.memory a (λ w. omega (arith, w.0, u))) x.framed;
+            framed = framed_below numbers rsp frame c.memory d.memory h.totals (λ a l u. b.memory a (λ w. omega (arith, w.0, u))) (λ a i. b.mapped a) x.framed;
             bounded = bounded;
           };
           emulated = h.emulated;
@@ -105,7 +105,7 @@ module _ (n : ℕ) (base : ℕ → ℕ) (P : ℕ → Type 0) (numbers : Numbers)
       turn_is count positive most fit ins Pre free i c within h pre =
           let calm : (u : Core) (i : Ins) → Calm n base P numbers rsp p Emul F set rdi h.mem u → TouchesPart n base p.size P rsp Free u i → Q u i = λ u i w. calmly u i (record { stack = w.stack; quiet = λ a k s f. w.quiet a k s ∙ h.near a k s f }) in
           let t = turn_line n base P numbers rsp p Emul F set rdi h.mem Q Free calm count positive most fit ins (free i pre) i h.e h.totals c within h.inside h.emulated in
-          let same : (a : ℕ) → InFree a → t.2.memory a ≡ c.memory a = λ a w. t.5.calm.quiet a (free_dest a w) (free_sum a w) ∙ sym (h.inside.calm.quiet a (free_dest a w) (free_sum a w)) in (
+          let same : (a : ℕ) → InFree a → t.2.memory a ≡ c.memory a = λ a w. t.5.calm.quiet a (free_dest a w) (free_changed a w) ∙ sym (h.inside.calm.quiet a (free_dest a w) (free_changed a w)) in (
             turn_code p count,
             t.2,
             (t.4, refl),
@@ -138,7 +138,7 @@ module _ (n : ℕ) (base : ℕ → ℕ) (P : ℕ → Type 0) (numbers : Numbers)
         turn_with count positive most fit ins Pre free i c within h pre =
             let calm : (u : Core) (i : Ins) → Calm n base P numbers rsp q Emul F other rdi h.mem u → TouchesPart n base p.size P rsp Free u i → Q u i = λ u i w. calmly u i (record { stack = w.stack; quiet = λ a k s f. w.quiet a k s ∙ h.near a k s f }) in
             let t = turn_line n base P numbers rsp q Emul F other rdi h.mem Q Free calm count positive most fit ins (free i pre) i h.e h.totals c within (to_there h.mem i h.e h.totals c h.inside) h.emulated in
-            let same : (a : ℕ) → InFree a → t.2.memory a ≡ c.memory a = λ a w. t.5.calm.quiet a (free_dest a w) (free_sum a w) ∙ sym (h.inside.calm.quiet a (free_dest a w) (free_sum a w)) in (
+            let same : (a : ℕ) → InFree a → t.2.memory a ≡ c.memory a = λ a w. t.5.calm.quiet a (free_dest a w) (free_changed a w) ∙ sym (h.inside.calm.quiet a (free_dest a w) (free_changed a w)) in (
               turn_code q count,
               t.2,
               (t.4, refl),
@@ -155,7 +155,7 @@ module _ (n : ℕ) (base : ℕ → ℕ) (P : ℕ → Type 0) (numbers : Numbers)
         blocks_with aligned count b free positive most few fit ins_one ins_all ins i c within h aligns =
             let calm : (u : Core) (i : Ins) → Calm n base P numbers rsp q Emul F other rdi h.mem u → TouchesPart n base p.size P rsp Free u i → Q u i = λ u i w. calmly u i (record { stack = w.stack; quiet = λ a k s f. w.quiet a k s ∙ h.near a k s f }) in
             let t = blocks_turn_line n base P numbers rsp q Emul F other rdi h.mem Q Free calm count positive most fit ins_one aligned free b few ins_all ins i aligns h.e h.totals c within (to_there h.mem i h.e h.totals c h.inside) h.emulated in
-            let same : (a : ℕ) → InFree a → t.2.memory a ≡ c.memory a = λ a w. t.5.calm.quiet a (free_dest a w) (free_sum a w) ∙ sym (h.inside.calm.quiet a (free_dest a w) (free_sum a w)) in (
+            let same : (a : ℕ) → InFree a → t.2.memory a ≡ c.memory a = λ a w. t.5.calm.quiet a (free_dest a w) (free_changed a w) ∙ sym (h.inside.calm.quiet a (free_dest a w) (free_changed a w)) in (
               blocks_turn_code q aligned count b,
               t.2,
               (t.4, refl),

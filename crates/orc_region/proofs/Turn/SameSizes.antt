@@ -5,18 +5,20 @@ use Rattle.x86_ins.specs.declared.ins.Ins.{Ins}
 use Rattle.x86_ins.specs.declared.ins.Ins.TheVariants.{AluImm}
 use Rattle.x86_ins.specs.Way.{Each}
 use Rattle.x86_flow.specs.Moves.{load_far_code, store_either_code}
-use Rattle.orc_region.specs.Code.{Action, Source, FromArray, FromPattern, FromPlace, Target, ToArray, ToSum, ToPlace, pointer, first_register, second_register, rule_code, source_far_code, sources_far_code, sum_code, result_far_code, results_far_code, actions_far_code, advance_code}
+use Rattle.orc_region.specs.Code.{Action, Source, FromArray, FromPattern, FromPlace, FromSlot, Target, ToArray, ToSum, ToPlace, ToSlot, pointer, first_register, second_register, rule_code, source_far_code, sources_far_code, sum_code, result_far_code, results_far_code, actions_far_code, advance_code}
 
 module _ (size other : ℕ → ℕ) where
   abbrev pub SameFrom : Source → Type 0
   SameFrom (FromArray k) = size k ≡ other k
   SameFrom (FromPattern j) = Unit {0}
   SameFrom (FromPlace p) = Unit {0}
+  SameFrom (FromSlot k) = Unit {0}
 
   abbrev pub SameTo : Target → Type 0
   SameTo (ToArray k) = size k ≡ other k
   SameTo (ToSum g) = Unit {0}
   SameTo (ToPlace p) = Unit {0}
+  SameTo (ToSlot k) = Unit {0}
 
   abbrev pub SameFor : Action → Type 0
   SameFor a = Each SameFrom a.sources × Each SameTo a.to
@@ -26,6 +28,7 @@ module _ (size other : ℕ → ℕ) where
     same_source x (FromArray k) h = ap₂ (λ n d. load_far_code (count * n) x (pointer k) d) h (same k h)
     same_source x (FromPattern j) h = refl
     same_source x (FromPlace p) h = refl
+    same_source x (FromSlot k) h = refl
 
     same_sources : (x y : ℕ) (ss : List Source) → Each SameFrom ss → sources_far_code count size far x y ss ≡ sources_far_code count other away x y ss
     same_sources x y [] h = refl
@@ -36,6 +39,7 @@ module _ (size other : ℕ → ℕ) where
     same_result x (ToArray k) h = ap₂ (λ n d. store_either_code (aligned k) (count * n) x (pointer k) d) h (same k h)
     same_result x (ToSum g) h = refl
     same_result x (ToPlace p) h = refl
+    same_result x (ToSlot k) h = refl
 
     same_results : (ts : List Target) → Each SameTo ts → results_far_code count size far aligned ts ≡ results_far_code count other away aligned ts
     same_results [] h = refl

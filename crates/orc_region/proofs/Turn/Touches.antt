@@ -8,7 +8,7 @@ use Rattle.x86_flow.specs.Moves.{IsWidth, store_either_code}
 use Rattle.x86_flow.specs.Touching.{weight_by, touch_weight}
 use Rattle.x86_flow.proofs.Plans.{weigh, weigh_append}
 use Rattle.x86_flow.proofs.Moves.{load_weight, store_weight, aligned_store_weight}
-use Rattle.orc_region.specs.Code.{Action, IsRule, Source, FromArray, FromPattern, FromPlace, Target, ToArray, ToSum, ToPlace, Plan, pointer, at_pointer, unaligned, first_register, second_register, rule_code, source_far_code, sources_far_code, sum_code, result_far_code, results_far_code, action_far_code, actions_far_code, advance_code, block_far, blocks_code, turn_code, blocks_turn_code}
+use Rattle.orc_region.specs.Code.{Action, IsRule, Source, FromArray, FromPattern, FromPlace, FromSlot, Target, ToArray, ToSum, ToPlace, ToSlot, Plan, pointer, at_pointer, unaligned, first_register, second_register, rule_code, source_far_code, sources_far_code, sum_code, result_far_code, results_far_code, action_far_code, actions_far_code, advance_code, block_far, blocks_code, turn_code, blocks_turn_code}
 use Rattle.orc_region.proofs.Block.Touched.{GoesNowhere, rule_nowhere}
 use Rattle.orc_region.proofs.Block.Actions.{IsMovedFrom, IsMovedTo, IsFit}
 
@@ -19,12 +19,14 @@ from_arrays [] = 0
 from_arrays (FromArray k ∷ rest) = 1 + from_arrays rest
 from_arrays (FromPattern j ∷ rest) = from_arrays rest
 from_arrays (FromPlace p ∷ rest) = from_arrays rest
+from_arrays (FromSlot k ∷ rest) = from_arrays rest
 
 abbrev pub to_arrays : List Target → ℕ
 to_arrays [] = 0
 to_arrays (ToArray k ∷ rest) = 1 + to_arrays rest
 to_arrays (ToSum g ∷ rest) = to_arrays rest
 to_arrays (ToPlace p ∷ rest) = to_arrays rest
+to_arrays (ToSlot k ∷ rest) = to_arrays rest
 
 abbrev pub arrays_of : List Action → ℕ
 arrays_of [] = 0
@@ -34,11 +36,13 @@ pub from_front : (s : Source) (more : List Source) → from_arrays (s ∷ more) 
 from_front (FromArray k) more = omega arith
 from_front (FromPattern j) more = omega arith
 from_front (FromPlace p) more = omega arith
+from_front (FromSlot k) more = omega arith
 
 pub to_front : (t : Target) (more : List Target) → to_arrays (t ∷ more) ≡ to_arrays (t ∷ []) + to_arrays more
 to_front (ToArray k) more = omega arith
 to_front (ToSum g) more = omega arith
 to_front (ToPlace p) more = omega arith
+to_front (ToSlot k) more = omega arith
 
 module _ (by : ℕ → Bool) (by_stack : by 4 ≡ false) where
   abbrev v : Ins → ℕ
@@ -66,6 +70,7 @@ module _ (by : ℕ → Bool) (by_stack : by 4 ≡ false) where
     from_few x (FromArray k) h = load_weight by (count * size k) x (pointer k) (far k) h
     from_few x (FromPattern j) h = omega (arith, none_4)
     from_few x (FromPlace p) h = omega arith
+    from_few x (FromSlot k) h = omega (arith, none_4)
 
     sources_few : (x y : ℕ) (ss : List Source) → Each (IsMovedFrom count size) ss → weigh v (sources_far_code count size far x y ss) ≤ from_arrays ss
     sources_few x y [] h = omega arith
@@ -83,12 +88,14 @@ module _ (by : ℕ → Bool) (by_stack : by 4 ≡ false) where
     to_few x (ToArray k) h = either_few (aligned k) (count * size k) x (pointer k) (far k) h
     to_few x (ToSum g) h = omega (arith, none_4)
     to_few x (ToPlace p) h = omega arith
+    to_few x (ToSlot k) h = omega (arith, none_4)
 
     sum_free : (ts : List Target) → weigh v (sum_code ts) ≡ 0
     sum_free [] = refl
     sum_free (ToArray k ∷ rest) = refl
     sum_free (ToSum g ∷ rest) = omega (arith, none_4)
     sum_free (ToPlace p ∷ rest) = refl
+    sum_free (ToSlot k ∷ rest) = refl
 
     results_few : (ts : List Target) → Each (IsMovedTo count size) ts → weigh v (results_far_code count size far aligned ts) ≤ to_arrays ts
     results_few [] h = omega arith
