@@ -56,7 +56,7 @@ use Rattle.orc_region.proofs.Checked.Knows.{width_of, numbers_of, all_meant, all
 use Rattle.orc_region.proofs.Checked.Layouts.{patterns_are, params_are, sizes_are}
 use Rattle.orc_region.proofs.Checked.Numbered.{nth_is, sum_size, number_is}
 use Rattle.orc_asm.proofs.Row.Emulated.{end_with, sum_of_end}
-use Rattle.orc_asm.proofs.Calls.Cells.{Arrays, arrays, call, P, row_base, mapped, low, separate, decided, slot_at, cell_is, cell_cells, row_dests, dest_cell}
+use Rattle.orc_region.proofs.Calls.Cells.{Arrays, arrays, call, P, row_base, mapped, low, separate, decided, slot_at, cell_is, cell_cells, row_dests, dest_cell}
 use Rattle.orc_asm.proofs.Row.Lines.{InRows}
 use Rattle.orc_asm.proofs.Row.Loop.{rsp, stack_low, Steady, Ready, Ended}
 use Rattle.orc_asm.proofs.Row.Elements.{InFree, RowDone, row_ended}

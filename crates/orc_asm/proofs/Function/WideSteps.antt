@@ -23,7 +23,7 @@ use Rattle.orc_region.proofs.Block.Registers.{not_4, not_7}
 use Rattle.orc_region.proofs.Row.Gaps.{AtSixteen}
 use Rattle.orc_region.proofs.Block.Cells.{eq_yes}
 use Rattle.orc_region.proofs.Block.Touched.{InSlot, TouchesPart}
-use Rattle.orc_asm.proofs.Calls.Cells.{Arrays, call, P, size, row_base, arrays, cell_in, dest_cell}
+use Rattle.orc_region.proofs.Calls.Cells.{Arrays, call, P, size, row_base, arrays, cell_in, dest_cell}
 use Rattle.orc_asm.proofs.Row.Path.{Own, by_pointer, cell_weight}
 
 -- a step whose instruction touches a cell by the pointer of an array alone, and stores to the first dest by no movdqu where it can be stored aligned

@@ -11,7 +11,7 @@ use Rattle.orc_frame.specs.Parts.{InRunning}
 use Rattle.orc_frame.specs.Subject.{Call as Arguments, rows}
 use Rattle.orc_frame.specs.GoodCall.{GoodCall}
 use Rattle.orc_frame.specs.Function.{subject_of}
-use Rattle.orc_asm.proofs.Calls.Cells.{Arrays, call, cell_cells, cell_frame, InRow, InRowDests, row_of_dest, row_dests, row_or_not}
+use Rattle.orc_region.proofs.Calls.Cells.{Arrays, call, cell_cells, cell_frame, InRow, InRowDests, row_of_dest, row_dests, row_or_not}
 use Rattle.orc_asm.proofs.Row.Lines.{InRows}
 use Rattle.orc_asm.proofs.Row.Loop.{rsp, Frame, Cell, Dests, stack_low, Ready, Ended}
 

@@ -19,7 +19,7 @@ use Rattle.orc_frame.specs.Function.{subject_of}
 use Rattle.orc_frame.specs.Frame.{saved}
 use Rattle.orc_asm.specs.Rows.{rows_code, whole_flow}
 use Rattle.orc_asm.proofs.Row.Emulated.{end_with}
-use Rattle.orc_asm.proofs.Calls.Cells.{Arrays, call}
+use Rattle.orc_region.proofs.Calls.Cells.{Arrays, call}
 use Rattle.orc_asm.proofs.Row.Counts.{rows_count, rows_free}
 use Rattle.orc_asm.proofs.Row.Lines.{InRows}
 use Rattle.orc_asm.proofs.Row.Loop.{rsp, Frame, Dests, stack_low, Steady, Ready, Ended, begin, rows_done}
