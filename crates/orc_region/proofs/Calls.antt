@@ -4,3 +4,5 @@ pub mod Cells
 pub mod Setting
 pub mod Holding
 pub mod Wide
+pub mod Doing
+pub mod Blocks

@@ -178,17 +178,16 @@ module _ (n : ℕ) (base : ℕ → ℕ) (P : ℕ → Type 0) (numbers : Numbers)
           low_from j w k hk q l r lr = (let x = set.ground.low k hk (j + q) (omega (arith, l, w)) r lr in omega (arith, x, add-mul j q (p.size k)))
 
           -- the block does the elements from j on, which lie so far behind the pointers, and leaves the pointers
-          pub block_steps : (far : ℕ → ℕ) (aligned : ℕ → Bool) → (aligned 0 ≡ false → count * p.size 0 ≡ 16 → Free) → (lag : ℕ) → ((k : ℕ) → far k ≡ lag * p.size k) → Each (λ a. Each IsIns (action_far_code count p.size far aligned a)) p.actions → (i : ℕ) → Aligns aligned (lag + i) → (e : Memory) (totals : ℕ → ℕ) (c : Core) → lag + i + count ≤ n → Inside i e totals c → Emul (lag + i) e totals
-              → (end : Memory) × (new : ℕ → ℕ) × (d : Core) × Emul (count + (lag + i)) end new × Line (InBlock (lag + i) c) (actions_far_code count p.size far aligned p.actions) c d × Inside i end new d × ((r : ℕ) → r ≢ 0 → d.gpr r ≡ c.gpr r)
-              × ((a : ℕ) → (AtElements n base p.size (OfDests P) (lag + i) count a → ⊥) → (InRunning rsp numbers.sums a → ⊥) → d.memory a ≡ c.memory a)
-          block_steps far aligned free lag far_is ins_all i aligns e totals c w h em =
-              let j = lag + i in
+          pub block_steps : (far : ℕ → ℕ) (aligned : ℕ → Bool) → (aligned 0 ≡ false → count * p.size 0 ≡ 16 → Free) → (lag : ℕ) → ((k : ℕ) → far k ≡ lag * p.size k) → Each (λ a. Each IsIns (action_far_code count p.size far aligned a)) p.actions → (i j : ℕ) → j ≡ lag + i → Aligns aligned j → (e : Memory) (totals : ℕ → ℕ) (c : Core) → j + count ≤ n → Inside i e totals c → Emul j e totals
+              → (end : Memory) × (new : ℕ → ℕ) × (d : Core) × Emul (count + j) end new × Line (InBlock j c) (actions_far_code count p.size far aligned p.actions) c d × Inside i end new d × ((r : ℕ) → r ≢ 0 → d.gpr r ≡ c.gpr r)
+              × ((a : ℕ) → (AtElements n base p.size (OfDests P) j count a → ⊥) → (InRunning rsp numbers.sums a → ⊥) → d.memory a ≡ c.memory a)
+          block_steps far aligned free lag far_is ins_all i j same aligns e totals c w h em =
               let sig : ℕ → Local = numbers_in c.memory j in
               let hc : Lanes n base p.size P j count c.memory sig = holds i j e totals c h w in
               let he : Lanes n base p.size P j count e sig = λ k hk q l r lr. sym (h.agree (base k + (j + q) * p.size k + r) (set.apart k hk (j + q) (omega (arith, l, w)) r lr)) ∙ hc k hk q l r lr in
               let dest : (a : ℕ) → AtElements n base p.size (OfDests P) j count a → IsDestCell a = λ a at. (at.0, at.1, j + at.2, omega (arith, at.3, w), at.4, at.5, at.6) in
               let at : (k : ℕ) → P k → 0 < p.size k → (c.gpr (pointer k) + far k ≡ base k + j * p.size k) × (aligned k ≡ true → (count * p.size k ≡ 16) × ((base k + j * p.size k) % 16 ≡ 0)) = λ k hk s.
-              ((let l = set.ground.low k hk j (omega (arith, w, some)) 0 s in let x = h.pointers k (set.slots k hk) in omega (arith, l, x, far_is k, add-mul lag i (p.size k))), aligns k hk) in
+              ((let l = set.ground.low k hk j (omega (arith, w, some)) 0 s in let x = h.pointers k (set.slots k hk) in omega (arith, l, x, far_is k, add-mul lag i (p.size k), ap (λ t. t * p.size k) same)), aligns k hk) in
               let Only : Core → Type 0 = λ u. (a : ℕ) → (AtElements n base p.size (OfDests P) j count a → ⊥) → (InRunning rsp numbers.sums a → ⊥) → u.memory a ≡ c.memory a in
               let Near : Core → Ins → Type 0 = λ u ins. Calm u × ((r : ℕ) → r ≢ 0 → u.gpr r ≡ c.gpr r) × Only u in
               let calm : (u : Core) → ((r : ℕ) → r ≢ 0 → u.gpr r ≡ c.gpr r) → Rest n base p.size P numbers rsp set.ground Near far aligned count some j c.memory u.memory → Calm u = λ u g o. record {
@@ -241,7 +240,7 @@ module _ (n : ℕ) (base : ℕ → ℕ) (P : ℕ → Type 0) (numbers : Numbers)
       block_far_line : (far : ℕ → ℕ) (aligned : ℕ → Bool) → (aligned 0 ≡ false → count * p.size 0 ≡ 16 → Free) → (lag : ℕ) → ((k : ℕ) → far k ≡ lag * p.size k) → Each (λ a. Each IsIns (action_far_code count p.size far aligned a)) p.actions → (i : ℕ) → Aligns count aligned (lag + i) → (e : Memory) (totals : ℕ → ℕ) (c : Core) → lag + i + count ≤ n → Inside i e totals c → Emul (lag + i) e totals
           → (end : Memory) × (new : ℕ → ℕ) × (d : Core) × Emul (count + (lag + i)) end new × Line Q (actions_far_code count p.size far aligned p.actions) c d × Inside i end new d × (d.gpr 1 ≡ c.gpr 1)
       block_far_line far aligned free lag far_is ins_all i aligns e totals c w h em =
-          let x = block_steps count Free some fit far aligned free lag far_is ins_all i aligns e totals c w h em in
+          let x = block_steps count Free some fit far aligned free lag far_is ins_all i (lag + i) refl aligns e totals c w h em in
           let line = line_map (InBlock count Free (lag + i) c) Q (λ u ins q. calmly u ins q.calm (touches_wide count Free (lag + i) u ins w q.touches)) (actions_far_code count p.size far aligned p.actions) c x.2 x.4 in
           (x.0, x.1, x.2, x.3, line, x.5, x.6 1 (λ z. omega (arith, z)))
 
