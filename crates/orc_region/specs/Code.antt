@@ -305,6 +305,11 @@ IsTurnOf f at count true = IsAlignedTurn f at count
 
 -- ---- the elements of a row
 
+-- how many of so many slots from a first one on are in use: their elements have bytes
+abbrev pub used_from : (ℕ → ℕ) → ℕ → ℕ → ℕ
+used_from size first zero = 0
+used_from size first (suc n) = used_from size first n + (if size (first + n) == 0 then 0 else 1)
+
 -- the size of an element as a power of two
 abbrev pub shift_of : ℕ → ℕ
 shift_of size = if size == 8 then 3 else (if size == 4 then 2 else (if size == 2 then 1 else 0))
