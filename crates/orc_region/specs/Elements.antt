@@ -109,6 +109,7 @@ pub record Done (f : FunctionValue) (code : Placed) (s : Core) (args : Call) (r 
   pub d : Core
   pub runs : Way code (record { core = c; rip = code.start + from }) way (record { core = d; rip = code.start + (from + size list) })
   pub short : length way ≤ steps
+  pub stack : Each (λ m. m.point.core.gpr 4 ≡ lowered s) way
   -- in every state on the way and at its end only these elements' cells of dests and the frame have changed
   pub quiet : Each (λ m. IsQuiet f s args r i count c m.point.core) way
   pub quiet_end : IsQuiet f s args r i count c d

@@ -15,7 +15,8 @@ use Rattle.x86_ins.specs.declared.ins.Ins.{Ins}
 use Rattle.x86_ins.specs.Machine.{Core, Point, Touches}
 use Rattle.x86_ins.specs.Way.{Placed, Each}
 use Rattle.x86_flow.specs.Flow.{Plain}
-use Rattle.x86_flow.specs.Does.{Line}
+use Rattle.x86_flow.specs.Does.{Line, Does}
+use Rattle.x86_flow.proofs.Kept.{does_keeps}
 use Rattle.x86_flow.proofs.Plans.{line_map}
 use Rattle.x86_flow.proofs.Spelled.{all_allowed}
 use Rattle.orc_frame.specs.Parts.{InFrame, InRunning}
@@ -173,6 +174,7 @@ module _ (f : FunctionValue) (is : is_function f ≡ true) (at : List ℕ) (plac
 
     on_way : (u : Core) (ins : Ins) → Here u ins → Way u ins
     on_way u ins q = record {
+      stack = q.calm.stack;
       quiet = quietly u q.only;
       inside = touched u ins q.touches;
       wide = part_wide f known code s args back good Wanted (λ w. w.2) r row Free not_free u ins
@@ -192,13 +194,14 @@ module _ (f : FunctionValue) (is : is_function f ≡ true) (at : List ℕ) (plac
         let memory = y.0 in
         let emulated = y.3 in
         let t : State = state memory emulated.temps emulated.sums in
-        let z = doing f code s args back good r i count Wanted c (Plain list) (all_allowed list (block_fine f is at places count is_count stored list x)) from stands h.mapped (cost f) (subject_of f).operands list d (line_map Here Way on_way list c d line, refl) (record {
+        let does : Does Way (Plain list) c list d = (line_map Here Way on_way list c d line, refl) in
+        let z = doing f code s args back good r i count Wanted c (Plain list) (all_allowed list (block_fine f is at places count is_count stored list x)) from stands (cost f) (subject_of f).operands list d does (record {
           e = t;
           come = (come.0, come.1, subst (λ n. row_of f (meant_call f args) r n come.0 ≡ Ok t) (more_elements i count) emulated.is);
           short = block_few f is at places count is_count stored list x;
           light = block_light f is at places count is_count stored list x by_pointer refl;
           quiet = quietly d y.7;
-          holds = λ there. holds_again f is known code s args back good t d y.1 end.framed emulated.agrees end.calm.stack end.block end.agree there end.bounded;
+          holds = holds_again f is known code s args back good t d y.1 end.framed emulated.agrees end.calm.stack end.block end.agree (λ a m. does_keeps Way a (Plain list) c list d does (h.mapped a m)) end.bounded;
           words = λ a w. y.7 a (λ t. frame_cells a t (words_frame low a w)) (words_sums low (count_of kind.Accumulator f.vars) a known.few.accs w);
         }) in
         (z.0, λ n ne. ap (λ (v : Core). v.gpr n) z.1 ∙ y.6 n ne, z.2)

@@ -18,6 +18,7 @@ use Rattle.x86_flow.specs.declared.tree.Flow.{Flow as Tree}
 use Rattle.x86_flow.specs.Flow.{Flow, Plain, Repeat, flat}
 use Rattle.x86_flow.specs.Tree.{flat_of}
 use Rattle.x86_flow.specs.Does.{Does}
+use Rattle.x86_flow.proofs.Kept.{does_keeps}
 use Rattle.x86_flow.proofs.Plans.{weigh}
 use Rattle.orc_frame.specs.Layout.{frame_size, left_slot}
 use Rattle.orc_frame.specs.Parts.{InFrame, InRunning}
@@ -178,6 +179,7 @@ module _ (f : FunctionValue) (is : is_function f ≡ true) (single wide aligned 
 
       calmly : (u : Core) (ins : Ins) → Calm u → TouchesPart args.n Base size Slots low Free u ins → Q u ins
       calmly u ins w t = record {
+        stack = w.stack;
         quiet = quietly u w.quiet;
         inside = touched u ins t;
         wide = part_wide f known code s args back good Wanted (λ y. y.2) r row Free (λ n y. n y) u ins t;
@@ -282,7 +284,7 @@ module _ (f : FunctionValue) (is : is_function f ≡ true) (single wide aligned 
             short = (let b = few_besides (fills f) refl in omega (arith, y.4, b));
             light = y.5;
             quiet = quietly d only;
-            holds = λ there. holds_again f is known code s args back good t d p.totals w.framed p.emulated.agrees w.calm.stack w.block w.agree there w.bounded;
+            holds = holds_again f is known code s args back good t d p.totals w.framed p.emulated.agrees w.calm.stack w.block w.agree (λ a m. does_keeps Q a (elements_of f single wide aligned) c y.0 d y.2 (h.mapped a m)) w.bounded;
             words = λ a q. only a (λ t. dest_frame a t (words_frame low a q)) (words_sums low (count_of kind.Accumulator f.vars) a known.few.accs q) (λ z. omega (arith, q.1, z.0));
           })
 
@@ -296,7 +298,7 @@ module _ (f : FunctionValue) (is : is_function f ≡ true) (single wide aligned 
       let y = row_does code s args back good r row e come c h points counter in
       let l = y.3 in
       let steps = more_steps (most_besides f) (turns (lanes f) args.n) (cost f + arrays_of f) in
-      let z = doing f code s args back good r 0 args.n (Wanted code s args back good r row) c (elements_of f single wide aligned) (fits_elements f is single wide aligned x).allowed from stands h.mapped
+      let z = doing f code s args back good r 0 args.n (Wanted code s args back good r row) c (elements_of f single wide aligned) (fits_elements f is single wide aligned x).allowed from stands
       (most_besides f + turns (lanes f) args.n * (cost f + arrays_of f + 6)) (turns (lanes f) args.n * some) y.0 y.1 y.2 (record { e = l.e; come = l.come; short = omega (arith, l.short, steps); light = l.light; quiet = l.quiet; holds = l.holds; words = l.words }) in
       (z.0, λ full reached alone. z.2 (full, reached, alone))
 
