@@ -190,12 +190,7 @@ pub fn row_flow(alloc: Global, p: &Placed, l: &Layout) -> Result<Flow, AllocErro
 }
 
 /// The loops over the elements of a row.
-fn elements(
-    alloc: Global,
-    core: &Core,
-    places: &[u8],
-    layout: &Layout,
-) -> Result<Flow, AllocError>
+fn elements(alloc: Global, core: &Core, places: &[u8], layout: &Layout) -> Result<Flow, AllocError>
     requires of { (f : FunctionValue) × AreOf f (record { core = core.now; places = places.now }) layout.now }
     requires places { GoodPlaces core.now.steps places.now }
     ensures { IfOk result (λ flow. (f : FunctionValue) → AreOf f (record { core = core.now; places = places.now }) layout.now → IsElements f flow) }

@@ -1,5 +1,5 @@
 -- The turns over the elements of a row, and the loops around them, as they are built.
-use Rattle.std.proofs.Common.{◌≡◌, ◌≢◌, ℕ, zero, suc, ◌*◌, ◌<◌, ◌≤◌, ◌==◌, ◌&&◌, ◌⊎◌, nat_lt, if◌then◌else◌, Bool, true, false, true≢false, All, IsTrue, List, [], Result, IfOk, slice_index, sym, ap, ap₂, ◌∙◌, subst, arith, inl, inr, refl, ⊎_elim}
+use Rattle.std.proofs.Common.{◌≡◌, ◌≢◌, ℕ, zero, suc, ◌*◌, ◌<◌, ◌≤◌, ◌==◌, ◌&&◌, ◌⊎◌, if◌then◌else◌, Bool, true, false, true≢false, All, IsTrue, List, [], slice_index, sym, ap, ap₂, ◌∙◌, subst, arith, inl, inr, refl, ⊎_elim}
 use Rattle.std.proofs.lemmas.Bool.{ne_eqb, lt-ltb, eqb-true}
 use Rattle.orc_program.proofs.Sizes.{both}
 use Rattle.x86_ins.specs.declared.ins.Cond.TheVariants.{Ns}
@@ -21,7 +21,6 @@ use Rattle.orc_plan.specs.Places.{GoodPlaces, PlacedValue}
 use Rattle.orc_frame.specs.declared.frame.Layout.{Layout}
 use Rattle.orc_frame.specs.Frame.{IsLayout}
 use Rattle.orc_frame.specs.Layout.{layout_of}
-use Rattle.orc_frame.proofs.Counted.{ok_map}
 use Rattle.orc_region.specs.Code.{IsReady, IsBlock, IsBlockBy, IsTurn, IsAlignedTurn, IsTurnBy, IsTurnOf, used_from, Turns, IsElements, span_of, shift_of, is_filled, elements_flow, elements_of}
 use Rattle.orc_region.specs.Elements.{AreOf, DoesElements}
 use Rattle.orc_region.specs.Regions.{aligned_row, plain_row}

@@ -1,11 +1,11 @@
 -- Structured code that does elements of a row does so wherever its instructions stand in the code of a good call.
-use Rattle.std.proofs.Common.{◌≡◌, ℕ, ◌+◌, ◌^◌, ◌<◌, ◌≤◌, ◌⊎◌, List, ◌++◌, length, refl, sym, ap, ◌∙◌, subst, arith, length-append}
+use Rattle.std.proofs.Common.{◌≡◌, ℕ, ◌+◌, ◌≤◌, ◌⊎◌, List, ◌++◌, length, refl, sym, ap, ◌∙◌, subst, arith, length-append}
 use Rattle.orc_program.specs.Program.{FunctionValue}
 use Rattle.orc_program.specs.Meaning.{State}
 use Rattle.x86_ins.specs.declared.ins.Ins.{Ins}
 use Rattle.x86_ins.specs.Machine.{Core, Point, Touches}
 use Rattle.x86_ins.specs.Spelling.{IsAllowed}
-use Rattle.x86_ins.specs.Way.{Placed, Moment, Each, AtMost}
+use Rattle.x86_ins.specs.Way.{Placed, Each, AtMost}
 use Rattle.x86_flow.specs.Flow.{Flow, flat, size, spell_all}
 use Rattle.x86_flow.specs.Does.{Does}
 use Rattle.x86_flow.proofs.Ways.{HasAt, has_all}

@@ -1,6 +1,6 @@
 -- What a core inside a good call holds, by the layout of the function, and by the patterns and running sums of its code.
-use Rattle.std.proofs.Common.{◌≡◌, ℕ, ◌+◌, ◌*◌, ◌%◌, ◌^◌, ◌<◌, Bool, true, false, true≢false, List, length, get_or, slice_index, Some, Ok, refl, sym, ap, ap₂, ◌∙◌, subst, arith}
-use Rattle.orc_bits.specs.Memory.{Memory, IsMapped}
+use Rattle.std.proofs.Common.{◌≡◌, ℕ, ◌*◌, ◌<◌, true, true≢false, List, length, get_or, slice_index, Some, refl, sym, ap, ap₂, ◌∙◌, subst, arith}
+use Rattle.orc_bits.specs.Memory.{IsMapped}
 use Rattle.orc_bits.specs.Numbers.{cut}
 use Rattle.orc_program.specs.declared.program.VarKind.{VarKind}
 use Rattle.orc_program.specs.declared.program.VarKind.TheVariants as kind
@@ -13,7 +13,7 @@ use Rattle.orc_program.proofs.Places.{before_less, length-places_of}
 use Rattle.x86_ins.specs.Machine.{Core, Point, Bounded}
 use Rattle.x86_ins.specs.Way.{Placed}
 use Rattle.sse_acc.specs.Sums.{sum_of}
-use Rattle.orc_frame.specs.Layout.{layout_of, pattern_slot, sum_slot}
+use Rattle.orc_frame.specs.Layout.{layout_of}
 use Rattle.orc_frame.specs.Frame.{acc_size, no_pattern, pattern_at, pattern_byte}
 use Rattle.orc_frame.specs.Frame.{number_of as held}
 use Rattle.orc_frame.specs.Parts.{InFrame}
@@ -26,10 +26,10 @@ use Rattle.orc_region.specs.Elements.{Holds}
 use Rattle.orc_region.proofs.Block.Frames.{Framed}
 use Rattle.orc_region.proofs.Block.Elements.{Agrees}
 use Rattle.orc_region.proofs.Checked.Direct.{pattern_of, number_of}
-use Rattle.orc_region.proofs.Checked.Knows.{width_of, numbers_of}
+use Rattle.orc_region.proofs.Checked.Knows.{width_of}
 use Rattle.orc_region.proofs.Checked.Layouts.{patterns_are, params_are, sizes_are}
 use Rattle.orc_region.proofs.Checked.Numbered.{nth_is, sum_size, number_is}
-use Rattle.orc_region.proofs.Calls.Cells.{Arrays, call}
+use Rattle.orc_region.proofs.Calls.Cells.{Arrays}
 use Rattle.orc_region.proofs.Calls.Setting.{numbers, sums_count}
 
 is_sum_kind : (k : VarKind) → same_kind kind.Accumulator k ≡ true → k ≡ kind.Accumulator

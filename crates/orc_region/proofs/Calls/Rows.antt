@@ -1,7 +1,7 @@
 -- The loops of a row do the elements of a row of a good call.
 use Rattle.std.proofs.Common.{◌≡◌, ℕ, ◌+◌, ◌*◌, ◌%◌, ◌^◌, ◌<◌, ◌≤◌, ◌==◌, nat_lt, Bool, true, false, true≢false, List, length, Ok, is_some, refl, sym, ap, ◌∙◌, subst, arith, mul-le-mul_left, ◌⊎◌, inl, inr}
 use Rattle.std.proofs.lemmas.Bool.{ltb-true}
-use Rattle.orc_bits.specs.Memory.{Memory, IsMapped}
+use Rattle.orc_bits.specs.Memory.{Memory}
 use Rattle.orc_program.specs.declared.program.VarKind.TheVariants as kind
 use Rattle.orc_program.specs.Program.{FunctionValue, count_of}
 use Rattle.orc_program.specs.Kept.{is_function}
@@ -13,7 +13,7 @@ use Rattle.orc_plan.specs.Lowered.{steps_of}
 use Rattle.x86_ins.specs.declared.ins.Cond.TheVariants.{Ns}
 use Rattle.x86_ins.specs.declared.ins.Ins.{Ins}
 use Rattle.x86_ins.specs.Machine.{Core, Point, Touches}
-use Rattle.x86_ins.specs.Way.{Placed, Each}
+use Rattle.x86_ins.specs.Way.{Placed}
 use Rattle.x86_flow.specs.declared.tree.Flow.{Flow as Tree}
 use Rattle.x86_flow.specs.Flow.{Flow, Plain, Repeat, flat}
 use Rattle.x86_flow.specs.Tree.{flat_of}
@@ -26,7 +26,7 @@ use Rattle.orc_frame.specs.Subject.{Call as Arguments, IsArray, rows, cell}
 use Rattle.orc_frame.specs.GoodCall.{GoodCall, lowered}
 use Rattle.orc_frame.specs.Function.{IsCellByte, subject_of}
 use Rattle.orc_region.specs.Code.{Action, Plan, AreActions, Turns, IsElements, plan_with, turn_code, blocks_turn_code, aligned_first, shift_of, is_filled, elements_flow, elements_of}
-use Rattle.orc_region.specs.Elements.{meant_call, HasCome, Holds, PointsAt, InElements, InWords, IsDest, IsQuiet, IsAlone, Stands, Done, DoesRow, arrays_of}
+use Rattle.orc_region.specs.Elements.{meant_call, HasCome, Holds, PointsAt, InElements, IsDest, IsQuiet, IsAlone, DoesRow, arrays_of}
 use Rattle.orc_region.specs.Regions.{plain_row, aligned_row}
 use Rattle.orc_region.proofs.Block.Cells.{OfDests}
 use Rattle.orc_region.proofs.Block.Emulated.{state}
@@ -277,16 +277,20 @@ module _ (f : FunctionValue) (is : is_function f ≡ true) (single wide aligned 
           let p = y.3 in
           let w = p.inside in
           let t : State = state p.e p.emulated.temps p.emulated.sums in
-          let only : (a : ℕ) → (IsRowDest a → ⊥) → (InRunning low (numbers f is known code s args back good).sums a → ⊥) → (InFree a → ⊥) → d.memory a ≡ c.memory a = λ a k t z. w.calm.quiet a k t ∙ p.near a k t z in
-          (y.0, d, y.2, record {
-            e = t;
-            come = (come.0, come.1, subst (λ n. row_of f (meant_call f args) r n come.0 ≡ Ok t) (let z : args.n ≡ 0 + args.n = omega arith in z) p.emulated.is);
-            short = (let b = few_besides (fills f) refl in omega (arith, y.4, b));
-            light = y.5;
-            quiet = quietly d only;
-            holds = holds_again f is known code s args back good t d p.totals w.framed p.emulated.agrees w.calm.stack w.block w.agree (λ a m. does_keeps Q a (elements_of f single wide aligned) c y.0 d y.2 (h.mapped a m)) w.bounded;
-            words = λ a q. only a (λ t. dest_frame a t (words_frame low a q)) (words_sums low (count_of kind.Accumulator f.vars) a known.few.accs q) (λ z. omega (arith, q.1, z.0));
-          })
+          let only : (a : ℕ) → (IsRowDest a → ⊥) → (InRunning low (numbers f is known code s args back good).sums a → ⊥) → (InFree a → ⊥) → d.memory a ≡ c.memory a = λ a k t z. w.calm.quiet a k t ∙ p.near a k t z in (
+            y.0,
+            d,
+            y.2,
+            record {
+              e = t;
+              come = (come.0, come.1, subst (λ n. row_of f (meant_call f args) r n come.0 ≡ Ok t) (let z : args.n ≡ 0 + args.n = omega arith in z) p.emulated.is);
+              short = (let b = few_besides (fills f) refl in omega (arith, y.4, b));
+              light = y.5;
+              quiet = quietly d only;
+              holds = holds_again f is known code s args back good t d p.totals w.framed p.emulated.agrees w.calm.stack w.block w.agree (λ a m. does_keeps Q a (elements_of f single wide aligned) c y.0 d y.2 (h.mapped a m)) w.bounded;
+              words = λ a q. only a (λ t. dest_frame a t (words_frame low a q)) (words_sums low (count_of kind.Accumulator f.vars) a known.few.accs q) (λ z. omega (arith, q.1, z.0));
+            },
+          )
 
   -- ---- wherever they stand
 

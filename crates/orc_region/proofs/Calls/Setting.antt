@@ -16,7 +16,7 @@ use Rattle.orc_frame.specs.Layout.{layout_of, frame_size}
 use Rattle.orc_frame.specs.Parts.{InFrame, InRunning}
 use Rattle.orc_frame.specs.Subject.{Call as Arguments, rows}
 use Rattle.orc_frame.specs.GoodCall.{GoodCall, lowered}
-use Rattle.orc_frame.specs.Function.{IsCellByte, subject_of}
+use Rattle.orc_frame.specs.Function.{subject_of}
 use Rattle.orc_frame.proofs.Facts.{Facts, facts}
 use Rattle.orc_frame.proofs.Apart.{length-acc_sizes_of}
 use Rattle.orc_region.specs.Code.{Action, AreActions, plan_with}

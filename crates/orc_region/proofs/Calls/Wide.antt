@@ -1,5 +1,5 @@
 -- What the instructions of a row touch in a good call: cells by the pointer of one array alone, and the first dest's by no movdqu store where that can be.
-use Rattle.std.proofs.Common.{◌≡◌, ◌≢◌, ℕ, ◌+◌, ◌*◌, ◌<◌, ◌==◌, ◌||◌, not, Bool, true, if◌then◌else◌, sym, ap, ap₂, ◌∙◌, subst, arith, ◌⊎◌, inl, inr, ⊎_elim}
+use Rattle.std.proofs.Common.{◌≡◌, ◌≢◌, ℕ, ◌<◌, ◌==◌, ◌||◌, not, Bool, true, if◌then◌else◌, sym, ap, ap₂, ◌∙◌, subst, arith, ◌⊎◌, inl, inr, ⊎_elim}
 use Rattle.std.proofs.lemmas.Bool.{cases_eq}
 use Rattle.orc_bits.proofs.LaneLaws.{eq_false}
 use Rattle.orc_program.specs.declared.program.VarKind.TheVariants as kind

@@ -1,5 +1,5 @@
 -- Blocks for so many elements of a function's code: their lists are what the plan says, they are allowed, and few of their instructions go by pointers.
-use Rattle.std.proofs.Common.{◌≡◌, ℕ, ◌+◌, ◌*◌, ◌^◌, ◌<◌, ◌≤◌, Bool, true, false, List, length, slice_index, sym, ap, ◌∙◌, subst, arith, All, IsTrue}
+use Rattle.std.proofs.Common.{◌≡◌, ℕ, ◌*◌, ◌^◌, ◌<◌, ◌≤◌, Bool, true, false, List, length, slice_index, sym, ap, ◌∙◌, subst, arith, All, IsTrue}
 use Rattle.orc_program.specs.Program.{FunctionValue}
 use Rattle.orc_program.specs.Kept.{is_function}
 use Rattle.orc_program.specs.Need.{cost}
@@ -13,7 +13,7 @@ use Rattle.x86_flow.specs.Touching.{touch_weight}
 use Rattle.x86_flow.proofs.Plans.{weigh}
 use Rattle.x86_flow.proofs.Spelled.{IsFine, all_spelled}
 use Rattle.orc_frame.specs.Function.{subject_of}
-use Rattle.orc_region.specs.Code.{Action, AreActions, IsBlock, IsBlockBy, span_of, far_by, aligned_first, action_far_code, actions_far_code}
+use Rattle.orc_region.specs.Code.{Action, AreActions, IsBlock, IsBlockBy, span_of, far_by, aligned_first, action_far_code}
 use Rattle.orc_region.proofs.Sizes.Counts.{actions_count}
 use Rattle.orc_region.proofs.Sizes.Bytes.{fine_actions, ins_actions}
 use Rattle.orc_region.proofs.Checked.Several.{IsCount}
