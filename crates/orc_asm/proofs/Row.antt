@@ -1,7 +1,6 @@
 -- The lists around a row, and the loop over the rows.
 pub mod Lines
 pub mod Counts
-pub mod Elements
 pub mod Loop
 pub mod Path
 pub mod Built

@@ -1,12 +1,12 @@
 -- Code that runs as emulation says.
 use Rattle.std.specs.Prelude.{◌≡◌, ℕ, ◌+◌, ◌*◌, ◌%◌, ◌<◌, ◌≤◌, List, length, Some, None}
 use Rattle.orc_bits.specs.Memory.{Memory, IsMapped, word}
-use Rattle.x86_ins.specs.Machine.{Core, Point, Touches}
+use Rattle.x86_ins.specs.Machine.{Core, Point}
 use Rattle.x86_ins.specs.Way.{Placed, Way, Moment, Each, AtMost, Stop, IsOver}
 use Rattle.orc_frame.specs.Parts.{InFrame, InSums, sum_word}
-use Rattle.orc_frame.specs.Subject.{Call, End, Subject, rows, cell, InArray, InDests, VerySame}
+use Rattle.orc_frame.specs.Subject.{Call, End, Subject, rows, cell, InDests, VerySame}
 use Rattle.orc_frame.specs.GoodCall.{GoodCall, lowered}
-use Rattle.orc_region.specs.Stores.{IsMovdquStore}
+use Rattle.orc_region.specs.Stores.{TouchesCell, StoresFirst}
 
 -- ---- what code promises of a call
 
@@ -82,13 +82,6 @@ abbrev pub RunsQuietly : Subject → List ℕ → Type 0
 RunsQuietly f = RunsInsideWith f (quiet f)
 
 -- ---- wide: few steps touch cells, and aligned rows are stored by aligned stores
-
-abbrev pub TouchesCell : Subject → Call → Moment → Type 0
-TouchesCell f call m = (a : ℕ) × f.cells call a × Touches m.ins m.point.core a
-
--- a movdqu store to a cell of the first dest
-abbrev pub StoresFirst : Subject → Call → Moment → Type 0
-StoresFirst f call m = IsMovdquStore m.ins × ((a : ℕ) × InArray f call 0 a × Touches m.ins m.point.core a)
 
 -- a register of elements of the first dest can be stored aligned in every row, and the first dest is no other dest
 pub record Aligned (f : Subject) (call : Call) : Type 0 where

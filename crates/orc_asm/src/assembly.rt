@@ -1,18 +1,21 @@
 //! From functions to code.
 
-ghost use Rattle.std.specs.Prelude.{◌≡◌, ◌≤◌, IfOk, OnOk, IfErr, None, length};
+ghost use Rattle.std.specs.Prelude.{◌≡◌, ◌≤◌, IfOk, OnOk, IfErr, None, length, true};
+ghost use Rattle.orc_program.specs.declared.program.VarKind.TheVariants as kind;
+ghost use Rattle.orc_program.specs.Program.{count_of};
+ghost use Rattle.orc_program.specs.Kept.{is_function};
 ghost use Rattle.orc_program.specs.Need.{lanes};
 ghost use Rattle.orc_plan.specs.Lowered.{steps_of, sizes_of};
-ghost use Rattle.orc_plan.specs.Places.{GoodPlaces};
 ghost use Rattle.orc_asm.specs.Function.{RunsAs, RunsFully, first_pressure, IsRefusal};
 
 use crate::refusal::AsmError;
 use crate::rows::whole_code;
 use orc_bits::Code;
 use orc_frame::{epilogue, layout, prologue};
-use orc_plan::{Core, lower, place};
-use orc_program::Function;
-use orc_region::{counts_of, elements};
+use orc_plan::{Placed, lower, place};
+use orc_program::variables::count_of;
+use orc_program::{Function, VarKind};
+use orc_region::row_flow;
 use std::alloc::{AllocError, Global};
 
 /// Code that does in every good call what the function means, in at most as many steps as are stated. It does so inside any larger memory
@@ -31,7 +34,7 @@ pub fn assemble(alloc: Global, f: &Function) -> Result<Code, AsmError>
 {
     let core = lower(f);
     match place(&core) {
-        Ok(placed) => match code_of(alloc, f, &core, placed.places.as_slice()) {
+        Ok(placed) => match code_of(alloc, f, &placed) {
             Ok(code) => Ok(code),
             Err(_) => Err(AsmError::Memory),
         },
@@ -42,19 +45,42 @@ pub fn assemble(alloc: Global, f: &Function) -> Result<Code, AsmError>
     }
 }
 
-/// The code of a function whose values have places: rows of elements, and before and after them what the frame wants.
-fn code_of(alloc: Global, f: &Function, core: &Core, places: &[u8]) -> Result<Code, AllocError>
-    requires steps { core.now.steps ≡ steps_of f.now }
-    requires sizes { core.now.sizes ≡ sizes_of f.now }
-    requires lanes { core.now.lanes ≡ lanes f.now }
-    requires places { GoodPlaces core.now.steps places.now }
+/// How many arrays a function has.
+#[derive(Clone, Copy)]
+struct Counts {
+    /// Its dests.
+    dests: usize,
+    /// Its sources.
+    sources: usize,
+}
+
+/// Counts variables.
+#[tactic(auto, using(orc_region::proofs::Checked::Slots::limits))]
+fn counts_of(f: &Function) -> Counts
+    ensures dests { result.dests ≡ count_of kind.Dest f.now.vars }
+    ensures sources { result.sources ≡ count_of kind.Source f.now.vars }
+    ensures few { (result.dests ≤ 4) × (result.sources ≤ 8) }
+    ensures kept { is_function f.now ≡ true }
+{
+    let vars = f.vars.as_slice();
+    Counts {
+        dests: count_of(vars, VarKind::Dest),
+        sources: count_of(vars, VarKind::Source),
+    }
+}
+
+/// The code of a function by its placed steps: rows of elements, and before and after them what the frame wants.
+fn code_of(alloc: Global, f: &Function, placed: &Placed) -> Result<Code, AllocError>
+    requires steps { placed.now.core.steps ≡ steps_of f.now }
+    requires sizes { placed.now.core.sizes ≡ sizes_of f.now }
+    requires lanes { placed.now.core.lanes ≡ lanes f.now }
     ensures inside { IfOk result (λ code. RunsFully f.now code) }
     ensures bytes { IfOk result (λ code. (1 ≤ length code) × (length code ≤ 1048576)) }
 {
     let counts = counts_of(f);
     let layout = layout(f);
     let first = prologue(alloc, &layout)?;
-    let elements = elements(alloc, f, core, places, &layout)?;
+    let elements = row_flow(alloc, placed, &layout)?;
     let last = epilogue(alloc, &layout)?;
     whole_code(
         alloc,

@@ -15,7 +15,7 @@ use Rattle.orc_jobs.specs.declared.world.Turn.TheVariants as turns
 use Rattle.orc_jobs.specs.World.{Stand, Shared, stand_at, point_at, no_memory, on, moved_to, Ended, Takes, Plays, first_trap}
 use Rattle.orc_jobs.specs.Alone.{Within, KeepsBut, Isolated, AsAlone}
 use Rattle.orc_bits.proofs.Memories.{mapped_value}
-use Rattle.orc_jobs.proofs.Kept.{way_keeps}
+use Rattle.x86_ins.proofs.Kept.{way_keeps}
 use Rattle.orc_jobs.proofs.Schedules.{moved_same, moved_other, moved_count}
 
 -- ---- one step on the common memory is the step alone

@@ -1,7 +1,6 @@
 pub mod Turns
 pub mod Schedules
 pub mod Isolation
-pub mod Kept
 pub mod Lefts
 pub mod Draws
 pub mod OnePlay

@@ -14,7 +14,7 @@ use Rattle.orc_frame.specs.GoodCall.{ReadsCall}
 use Rattle.orc_frame.specs.Function.{subject_of}
 use Rattle.orc_region.proofs.Checked.Slots.{Limits}
 use Rattle.orc_program.proofs.Places.{before_less}
-use Rattle.orc_asm.proofs.Calls.Agree.{HasSlot, has_slot, in_slot, of_variable}
+use Rattle.orc_region.proofs.Calls.Agree.{HasSlot, has_slot, in_slot, of_variable}
 use Rattle.orc_parts.specs.Split.{call_with}
 
 -- the strides that a block holds are words

@@ -55,7 +55,7 @@ size_of_later vars n used =
     ∙ ap (λ m. if nat_lt m (count_of kind.Source vars) then (var_at vars (slice_index (places_of kind.Source vars) m)).size else 0) (let z : 4 + n - 4 ≡ n = omega arith in z)
     ∙ ap (λ b. if b then (var_at vars (slice_index (places_of kind.Source vars) n)).size else 0) used
 
-in_slot : (f : FunctionValue) (slot : ℕ) → slot < 12 → slice_index (sizes_of f) slot ≡ size_in_slot f.vars slot
+pub in_slot : (f : FunctionValue) (slot : ℕ) → slot < 12 → slice_index (sizes_of f) slot ≡ size_in_slot f.vars slot
 unfolding sizes_of
 in_slot f slot l = get_or-map-range_with_len (size_in_slot f.vars) 0 12 slot slot 0 l (omega arith)
 

@@ -2,3 +2,4 @@
 pub mod Actions
 pub mod Turns
 pub mod Loops
+pub mod Slots

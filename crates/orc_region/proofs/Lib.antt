@@ -5,3 +5,4 @@ pub mod Turn
 pub mod Row
 pub mod Sizes
 pub mod Built
+pub mod Calls

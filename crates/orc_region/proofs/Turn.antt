@@ -5,3 +5,4 @@ pub mod SameSizes
 pub mod Lists
 pub mod Touches
 pub mod Operands
+pub mod Blocks

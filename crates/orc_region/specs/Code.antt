@@ -287,6 +287,10 @@ abbrev pub AddsActions : List ℕ → (ℕ → ℕ) → Span → List Step → L
 AddsActions at size span steps old new =
     (actions : List Action) × AreActions at span.count steps actions × (new ≡ old ++ actions_far_code span.count size (far_by span.first size) (aligned_first span.aligned) actions)
 
+-- a block of steps with these places, by the sizes of array slots
+abbrev pub IsBlockBy : List ℕ → List ℕ → List Step → Span → List Ins → Type 0
+IsBlockBy at sizes steps span list = AddsActions at (slice_index sizes) span steps [] list
+
 -- a turn of steps with these places, by the sizes of array slots
 abbrev pub IsTurnBy : List ℕ → List ℕ → List Step → ℕ → ℕ → Span → List Ins → Type 0
 IsTurnBy at sizes steps dests sources span list =
@@ -296,6 +300,11 @@ IsTurnBy at sizes steps dests sources span list =
 -- so many elements from the one that the pointers are at, with aligned stores to the first dest or without
 abbrev pub span_of : ℕ → Bool → Span
 span_of count aligned = record { first = 0; count = count; aligned = aligned }
+
+-- a block for so many elements of a function's code, by these places of its values, with aligned stores to the first dest or without
+abbrev pub IsBlock : FunctionValue → List ℕ → ℕ → Bool → List Ins → Type 0
+IsBlock f at count aligned list =
+    (actions : List Action) × AreActions at count (steps_of f) actions × (list ≡ actions_far_code count (size_of_slot f.vars) (far_by 0 (size_of_slot f.vars)) (aligned_first aligned) actions)
 
 -- a turn of so many elements of a function's code, by these places of its values
 abbrev pub IsTurn : FunctionValue → List ℕ → ℕ → List Ins → Type 0
@@ -311,6 +320,11 @@ IsTurnOf f at count false = IsTurn f at count
 IsTurnOf f at count true = IsAlignedTurn f at count
 
 -- ---- the elements of a row
+
+-- how many of so many slots from a first one on are in use: their elements have bytes
+abbrev pub used_from : (ℕ → ℕ) → ℕ → ℕ → ℕ
+used_from size first zero = 0
+used_from size first (suc n) = used_from size first n + (if size (first + n) == 0 then 0 else 1)
 
 -- the size of an element as a power of two
 abbrev pub shift_of : ℕ → ℕ

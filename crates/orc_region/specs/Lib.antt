@@ -1,3 +1,4 @@
 pub mod Stores
 pub mod Code
 pub mod Regions
+pub mod Elements

@@ -1,23 +1,18 @@
-//! What does the elements of a row: turns of one element and of several, in loops.
+//! What does the elements of a row: blocks and turns of one element and of several, in loops.
 
-ghost use Rattle.std.specs.Prelude.{◌≡◌, ◌≤◌, ◌⊎◌, All, IfOk, slice_index, true};
-ghost use Rattle.orc_program.specs.declared.program.VarKind.TheVariants as kind;
-ghost use Rattle.orc_program.specs.Program.{count_of};
-ghost use Rattle.orc_program.specs.Kept.{is_function};
-ghost use Rattle.orc_program.specs.Need.{lanes};
-ghost use Rattle.orc_plan.specs.Lowered.{steps_of, sizes_of};
+ghost use Rattle.std.specs.Prelude.{◌≡◌, ◌≤◌, ◌+◌, ◌*◌, ◌==◌, ◌⊎◌, All, IfOk, slice_index, true};
+ghost use Rattle.orc_program.specs.Program.{FunctionValue};
 ghost use Rattle.orc_plan.specs.Places.{GoodPlaces};
 ghost use Rattle.orc_frame.specs.Frame.{IsLayout};
-ghost use Rattle.orc_frame.specs.Layout.{layout_of};
-ghost use Rattle.orc_region.specs.Code.{IsReady, IsTurnBy, IsTurnOf, IsElements, shift_of};
+ghost use Rattle.x86_flow.specs.Tree.{flat_of};
+ghost use Rattle.orc_region.specs.Code.{IsReady, IsBlockBy, IsTurnBy, IsBlock, IsTurnOf, IsElements, shift_of, used_from};
+ghost use Rattle.orc_region.specs.Elements.{AreOf, DoesElements, DoesRow};
 
 use crate::lists::{COUNTER, push_actions, push_advances};
 use crate::loops::{aligned_loops, plain_loops};
 use crate::span::Span;
 use orc_frame::Layout;
-use orc_plan::Core;
-use orc_program::variables::count_of;
-use orc_program::{Function, VarKind};
+use orc_plan::{Core, Placed};
 use std::alloc::{AllocError, Global};
 use x86_flow::Block;
 use x86_flow::tree::{Flow, plain, repeat};
@@ -26,28 +21,45 @@ use x86_ins::{AluOp, Cond, Ins, InsList};
 /// The bytes of a vector register.
 const REGISTER: usize = 16;
 
-/// How many arrays a function has.
-#[derive(Clone, Copy)]
-pub struct Counts {
-    /// Its dests.
-    pub dests: usize,
-    /// Its sources.
-    pub sources: usize,
+/// How many of `most` slots from `first` on are in use: a slot has the bytes of an element, and 0 where it is in no use.
+#[tactic(auto, using(crate::proofs::Built::Slots::used_few))]
+fn used(sizes: &[u8; 12], first: usize, most: usize) -> usize
+    requires { first + most ≤ 12 }
+    ensures is { result ≡ used_from (slice_index sizes.now) first most }
+    ensures few { result ≤ most }
+{
+    let mut count = 0;
+    for k in 0..most {
+        if sizes[first + k] != 0 {
+            count += 1;
+        }
+    }
+    count
 }
 
-/// Counts variables.
-#[tactic(auto, using(crate::proofs::Checked::Slots::limits))]
-pub fn counts_of(f: &Function) -> Counts
-    ensures dests { result.dests ≡ count_of kind.Dest f.now.vars }
-    ensures sources { result.sources ≡ count_of kind.Source f.now.vars }
-    ensures few { (result.dests ≤ 4) × (result.sources ≤ 8) }
-    ensures kept { is_function f.now ≡ true }
+/// Does elements of a turn.
+fn block_list(
+    alloc: Global,
+    core: &Core,
+    places: &[u8],
+    layout: &Layout,
+    span: Span,
+) -> Result<InsList, AllocError>
+    requires layout { IsLayout layout.now }
+    requires ready { All (IsReady layout.now places.now (slice_index core.now.sizes) span.count) core.now.steps }
+    requires near { span.first ≤ 64 }
+    ensures { IfOk result (IsBlockBy places.now core.now.sizes core.now.steps span) }
 {
-    let vars = f.vars.as_slice();
-    Counts {
-        dests: count_of(vars, VarKind::Dest),
-        sources: count_of(vars, VarKind::Source),
-    }
+    let mut list = InsList::new(alloc);
+    push_actions(
+        &mut list,
+        places,
+        &core.sizes,
+        layout,
+        core.steps.as_slice(),
+        span,
+    )?;
+    Ok(list)
 }
 
 /// Does the elements that the pointers are at, and moves the pointers and the counter on.
@@ -56,29 +68,18 @@ fn turn_list(
     core: &Core,
     places: &[u8],
     layout: &Layout,
-    counts: Counts,
     span: Span,
 ) -> Result<InsList, AllocError>
     requires layout { IsLayout layout.now }
     requires ready { All (IsReady layout.now places.now (slice_index core.now.sizes) span.count) core.now.steps }
-    requires dests { counts.dests ≤ 4 }
-    requires sources { counts.sources ≤ 8 }
     requires first { span.first ≡ 0 }
     requires count { span.count ≤ 16 }
-    ensures { IfOk result (IsTurnBy places.now core.now.sizes core.now.steps counts.dests counts.sources span) }
+    ensures { IfOk result (IsTurnBy places.now core.now.sizes core.now.steps (used_from (slice_index core.now.sizes) 0 4) (used_from (slice_index core.now.sizes) 4 8) span) }
 {
     let sizes = &core.sizes;
-    let mut list = InsList::new(alloc);
-    push_actions(
-        &mut list,
-        places,
-        sizes,
-        layout,
-        core.steps.as_slice(),
-        span,
-    )?;
-    push_advances(&mut list, sizes, span.count, 0, counts.dests)?;
-    push_advances(&mut list, sizes, span.count, 4, counts.sources)?;
+    let mut list = block_list(alloc, core, places, layout, span)?;
+    push_advances(&mut list, sizes, span.count, 0, used(sizes, 0, 4))?;
+    push_advances(&mut list, sizes, span.count, 4, used(sizes, 4, 8))?;
     list.push(Ins::AluImm {
         op: AluOp::Sub,
         dst: COUNTER,
@@ -90,27 +91,79 @@ fn turn_list(
 /// A turn of one element or of as many as are done at once, with aligned stores to the first dest or without.
 fn turn(
     alloc: Global,
-    f: &Function,
     core: &Core,
     places: &[u8],
     layout: &Layout,
     count: usize,
     aligned: bool,
 ) -> Result<Block, AllocError>
-    requires steps { core.now.steps ≡ steps_of f.now }
-    requires sizes { core.now.sizes ≡ sizes_of f.now }
+    requires of { (f : FunctionValue) × AreOf f (record { core = core.now; places = places.now }) layout.now }
     requires places { GoodPlaces core.now.steps places.now }
-    requires layout { layout.now ≡ layout_of f.now }
-    requires count { (count ≡ 1) ⊎ (count ≡ lanes f.now) }
-    ensures { IfOk result (λ block. IsTurnOf f.now places.now count aligned block.list) }
+    requires count { (count ≡ 1) ⊎ (count ≡ core.now.lanes) }
+    ensures { IfOk result (λ block. (f : FunctionValue) → AreOf f (record { core = core.now; places = places.now }) layout.now → IsTurnOf f places.now count aligned block.list) }
 {
     let span = Span {
         first: 0,
         count,
         aligned,
     };
-    let list = turn_list(alloc, core, places, layout, counts_of(f), span)?;
+    let list = turn_list(alloc, core, places, layout, span)?;
     Ok(Block { list })
+}
+
+/// A block for one element or for as many as are done at once, with aligned stores to the first dest or without.
+fn block(
+    alloc: Global,
+    core: &Core,
+    places: &[u8],
+    layout: &Layout,
+    count: usize,
+    aligned: bool,
+) -> Result<Block, AllocError>
+    requires of { (f : FunctionValue) × AreOf f (record { core = core.now; places = places.now }) layout.now }
+    requires places { GoodPlaces core.now.steps places.now }
+    requires count { (count ≡ 1) ⊎ (count ≡ core.now.lanes) }
+    ensures { IfOk result (λ block. (f : FunctionValue) → AreOf f (record { core = core.now; places = places.now }) layout.now → IsBlock f places.now count aligned block.list) }
+{
+    let span = Span {
+        first: 0,
+        count,
+        aligned,
+    };
+    let list = block_list(alloc, core, places, layout, span)?;
+    Ok(Block { list })
+}
+
+/// Whether so many elements of the first slot fill a register.
+fn fills(core: &Core, count: u8) -> bool
+    ensures { result ≡ (count * slice_index core.now.sizes 0 == 16) }
+{
+    count as usize * core.sizes[0] as usize == REGISTER
+}
+
+/// Does `count` elements of a row from the one that the pointers of arrays are at, by the layout of the same function. `count` is 1, or as
+/// many as are done at once. Where `aligned` is true, the cell of the first dest has to be at a multiple of 16, and is stored to by aligned
+/// stores where so many of its elements fill a register. The pointers stay.
+pub fn region(
+    alloc: Global,
+    p: &Placed,
+    l: &Layout,
+    count: u8,
+    aligned: bool,
+) -> Result<Block, AllocError>
+    requires of { (f : FunctionValue) × AreOf f p.now l.now }
+    requires count { (count ≡ 1) ⊎ (count ≡ p.now.core.lanes) }
+    ensures { IfOk result (λ block. (f : FunctionValue) → AreOf f p.now l.now → DoesElements f count aligned block.list) }
+{
+    let aligned = aligned & fills(&p.core, count);
+    block(
+        alloc,
+        &p.core,
+        p.places.as_slice(),
+        l,
+        count as usize,
+        aligned,
+    )
 }
 
 /// The size of an element as a power of two.
@@ -126,31 +179,31 @@ fn shift_of(size: usize) -> u8
     }
 }
 
-/// The loops over the elements of a row of a function whose values have places. Where elements of the first dest fill a register, several
-/// elements at once are stored to it at multiples of 16.
-pub fn elements(
-    alloc: Global,
-    f: &Function,
-    core: &Core,
-    places: &[u8],
-    layout: &Layout,
-) -> Result<Flow, AllocError>
-    requires steps { core.now.steps ≡ steps_of f.now }
-    requires sizes { core.now.sizes ≡ sizes_of f.now }
-    requires lanes { core.now.lanes ≡ lanes f.now }
+/// The loops over the elements of a row, by the layout of the same function. The pointers of arrays are at the first element, and the counter
+/// has the number of elements. Where elements of the first dest fill a register, several elements at once are stored to it at multiples of 16.
+pub fn row_flow(alloc: Global, p: &Placed, l: &Layout) -> Result<Flow, AllocError>
+    requires of { (f : FunctionValue) × AreOf f p.now l.now }
+    ensures is { IfOk result (λ flow. (f : FunctionValue) → AreOf f p.now l.now → IsElements f flow) }
+    ensures does { IfOk result (λ flow. (f : FunctionValue) → AreOf f p.now l.now → DoesRow f (flat_of flow)) }
+{
+    elements(alloc, &p.core, p.places.as_slice(), l)
+}
+
+/// The loops over the elements of a row.
+fn elements(alloc: Global, core: &Core, places: &[u8], layout: &Layout) -> Result<Flow, AllocError>
+    requires of { (f : FunctionValue) × AreOf f (record { core = core.now; places = places.now }) layout.now }
     requires places { GoodPlaces core.now.steps places.now }
-    requires layout { layout.now ≡ layout_of f.now }
-    ensures { IfOk result (λ flow. IsElements f.now flow) }
+    ensures { IfOk result (λ flow. (f : FunctionValue) → AreOf f (record { core = core.now; places = places.now }) layout.now → IsElements f flow) }
 {
     let lanes = core.lanes as usize;
     let size = core.sizes[0] as usize;
-    let tail = turn(alloc, f, core, places, layout, 1, false)?;
-    let turns = plain(turn(alloc, f, core, places, layout, lanes, false)?);
+    let tail = turn(alloc, core, places, layout, 1, false)?;
+    let turns = plain(turn(alloc, core, places, layout, lanes, false)?);
     let wide = repeat(alloc, Cond::Ns, turns)?;
-    if counts_of(f).dests == 0 || lanes * size != REGISTER {
+    if lanes * size != REGISTER {
         return plain_loops(alloc, lanes, wide, tail);
     }
-    let turns = plain(turn(alloc, f, core, places, layout, lanes, true)?);
+    let turns = plain(turn(alloc, core, places, layout, lanes, true)?);
     let aligned = repeat(alloc, Cond::Ns, turns)?;
     let head = Block {
         list: InsList::from_slice(alloc, tail.list.as_slice())?,

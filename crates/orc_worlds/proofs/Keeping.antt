@@ -14,7 +14,7 @@ use Rattle.orc_jobs.specs.declared.world.World.{World}
 use Rattle.orc_jobs.specs.World.{Stand, Shared, stand_at, point_at, stand_of, seen, Takes, HasRoom}
 use Rattle.orc_jobs.specs.Drawn.{next_seed, Draws, PlaysDrawn}
 use Rattle.orc_jobs.proofs.Draws.{plays_drawn}
-use Rattle.orc_jobs.proofs.Kept.{way_keeps}
+use Rattle.x86_ins.proofs.Kept.{way_keeps}
 use Rattle.orc_worlds.specs.declared.playing.Played.{Played}
 use Rattle.orc_worlds.specs.Mapped.{AreMapped}
 use Rattle.orc_worlds.specs.Now.{AreNow}

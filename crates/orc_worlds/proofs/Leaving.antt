@@ -14,7 +14,7 @@ use Rattle.orc_program.specs.declared.call.Call.{Call}
 use Rattle.orc_job.specs.declared.job.Job.{Job}
 use Rattle.orc_job.specs.Forms.{is_within}
 use Rattle.orc_job.specs.Kept.{IsJob}
-use Rattle.orc_jobs.proofs.Kept.{way_keeps}
+use Rattle.x86_ins.proofs.Kept.{way_keeps}
 use Rattle.x86_ins.specs.Machine.{Point}
 use Rattle.x86_ins.specs.Way.{Placed, Stop}
 use Rattle.x86_machine.specs.declared.machine.End.{End}

@@ -14,3 +14,4 @@ pub mod Returning
 pub mod Appends
 pub mod Trees
 pub mod Shapes
+pub mod Kept

@@ -6,3 +6,4 @@ pub mod Renamed
 pub mod Permutations
 pub mod VectorLists
 pub mod RenamedEffects
+pub mod Kept

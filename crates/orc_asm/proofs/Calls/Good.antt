@@ -13,7 +13,7 @@ use Rattle.orc_program.specs.declared.program.Operand.TheVariants as operand
 use Rattle.orc_program.specs.Program.{FunctionValue}
 use Rattle.orc_frame.specs.GoodCall.{GoodCall}
 use Rattle.orc_region.proofs.Checked.Slots.{Limits}
-use Rattle.orc_asm.proofs.Calls.Agree.{InCells, good_by_variables, cells_by_slots, cells_by_variables}
+use Rattle.orc_region.proofs.Calls.Agree.{InCells, good_by_variables, cells_by_slots, cells_by_variables}
 use Rattle.orc_frame.specs.Function.{subject_of}
 
 abbrev pub inside : ℕ → ℕ → ℕ → Bool

@@ -7,8 +7,8 @@ use Rattle.x86_ins.specs.Way.{Placed, Moment, AtMost, Stop, IsOver}
 use Rattle.x86_flow.proofs.Larger.{Beside, Alike, LargerWay, big, way_larger, value_larger, alike_length, alike_each, beside_touches}
 use Rattle.orc_frame.specs.Parts.{sum_word}
 use Rattle.orc_frame.specs.Subject.{Call, Subject, rows}
-use Rattle.orc_asm.specs.RunsAs.{Within, Promise, RunsWith, RunsInsideWith, QuietAt, TouchesCell, StoresFirst, quiet, wide, stop}
-use Rattle.orc_region.specs.Stores.{IsMovdquStore}
+use Rattle.orc_asm.specs.RunsAs.{Within, Promise, RunsWith, RunsInsideWith, QuietAt, quiet, wide, stop}
+use Rattle.orc_region.specs.Stores.{IsMovdquStore, TouchesCell, StoresFirst}
 
 -- the promise carries over from a run in the smaller memory to the one beside it: it speaks of registers, of instructions, and of memory by what changed
 abbrev pub Lifts : Promise → Type 0

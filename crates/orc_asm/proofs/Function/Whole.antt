@@ -11,6 +11,7 @@ use Rattle.orc_program.proofs.Apart.{IsSize}
 use Rattle.orc_program.proofs.Sizes.{both, size_kept}
 use Rattle.orc_plan.specs.Lowered.{steps_of}
 use Rattle.orc_plan.specs.Places.{GoodPlaces}
+use Rattle.orc_plan.specs.Standing.{AllStand}
 use Rattle.x86_ins.specs.declared.ins.Ins.{Ins}
 use Rattle.x86_ins.specs.declared.ins.Ins.TheVariants.{Ret}
 use Rattle.x86_ins.specs.Spelling.{IsAllowed, spelling}
@@ -36,7 +37,6 @@ use Rattle.orc_asm.specs.RunsAs.{wide as wide_promise}
 use Rattle.orc_asm.specs.Function.{RunsFully}
 use Rattle.orc_region.specs.Code.{Action, AreActions, Turns, IsElements, is_filled, shift_of, elements_of}
 use Rattle.orc_asm.specs.Rows.{rows_flow, whole_flow}
-use Rattle.orc_region.proofs.Checked.Acts.{AllPlaced}
 use Rattle.orc_region.proofs.Checked.Several.{IsCount, one_count, lanes_count}
 use Rattle.orc_region.proofs.Checked.Layouts.{patterns_are, sizes_are}
 use Rattle.orc_region.proofs.Checked.Slots.{Limits, limits}
@@ -46,64 +46,16 @@ use Rattle.orc_region.proofs.Turn.Lists.{stand_is, fit_actions, ins_blocks, ins_
 use Rattle.orc_region.proofs.Sizes.Loops.{Fits}
 use Rattle.orc_region.proofs.Built.Turns.{fits_elements}
 use Rattle.orc_asm.proofs.Row.Counts.{rows_bytes, rows_allowed}
-use Rattle.orc_asm.proofs.Row.Path.{by_pointer, cell_weight, own_free}
+use Rattle.orc_asm.proofs.Row.Path.{own_free}
+use Rattle.orc_region.proofs.Calls.Wide.{cell_weight}
 use Rattle.orc_asm.proofs.Row.Runs.{AreShort, runs_with}
 use Rattle.orc_asm.proofs.Function.WideSteps.{WideAt, own_wide, wide_way}
 use Rattle.orc_region.proofs.Turn.Operands.{turn_light, aligned_light}
 use Rattle.orc_asm.proofs.Calls.Inside.{lift, quiet_lifts, wide_lifts, both_lift}
-use Rattle.orc_asm.proofs.Function.Parts.{Able, Stored, Done, fills, besides_of, parts}
-
--- ---- what is known of a function whose values have places
-
--- of a dest's size so many of which fill a register
-record Filled (dests count size : ℕ) : Type 0 where
-  some : 0 < dests
-  shift : shift_of size ≤ 3
-  size_is : size ≡ 2 ^ shift_of size
-  full : 16 / 2 ^ shift_of size ≡ count
-
-filled_by : (dests count size : ℕ) → IsSize size → is_filled dests count size ≡ true → Filled dests count size
-filled_by dests count size is h =
-    let x = both (nat_lt 0 dests) (count * size == 16) h in
-    let some : 0 < dests = ltb-true 0 dests x.0 in
-    let whole : count * size ≡ 16 = eqb-true (count * size) 16 x.1 in
-    go is some whole
-  where
-    go : IsSize size → 0 < dests → count * size ≡ 16 → Filled dests count size
-    go (inl e) some w = subst (λ n. count * n ≡ 16 → Filled dests count n) (sym e) (λ w. record { some = some; shift = omega arith; size_is = refl; full = omega (arith, w) }) w
-    go (inr (inl e)) some w = subst (λ n. count * n ≡ 16 → Filled dests count n) (sym e) (λ w. record { some = some; shift = omega arith; size_is = refl; full = omega (arith, w) }) w
-    go (inr (inr (inl e))) some w = subst (λ n. count * n ≡ 16 → Filled dests count n) (sym e) (λ w. record { some = some; shift = omega arith; size_is = refl; full = omega (arith, w) }) w
-    go (inr (inr (inr e))) some w = subst (λ n. count * n ≡ 16 → Filled dests count n) (sym e) (λ w. record { some = some; shift = omega arith; size_is = refl; full = omega (arith, w) }) w
-
-module _ (f : FunctionValue) (h : is_function f ≡ true) where
-  -- the first dest has a size
-  first_size : 0 < count_of kind.Dest f.vars → IsSize (size_of_slot f.vars 0)
-  first_size l =
-      let x = nth_is kind.Dest f.vars 0 (omega (arith, l, length-places_of kind.Dest f.vars)) in
-      size_kept f h (slice_index (places_of kind.Dest f.vars) 0) x.inside
-
-  filled_first : fills f ≡ true → Filled (count_of kind.Dest f.vars) (lanes f) (size_of_slot f.vars 0)
-  filled_first e =
-      let some = ltb-true 0 (count_of kind.Dest f.vars) (both (nat_lt 0 (count_of kind.Dest f.vars)) (lanes f * size_of_slot f.vars 0 == 16) e).0 in
-      filled_by (count_of kind.Dest f.vars) (lanes f) (size_of_slot f.vars 0) (first_size some) e
-
-  module _ (at : List ℕ) (good : GoodPlaces (steps_of f) at) where
-    able : (count : ℕ) → IsCount f count → (actions : List Action) → AreActions at count (steps_of f) actions → Able f at count actions
-    able count c actions is = record { are = is; fit = fit_actions f h at good count c actions is; turn = ins_turn f h at good count c actions is }
-
-    stored : (actions : List Action) → AreActions at (lanes f) (steps_of f) actions → fills f ≡ true → Stored f at (lanes f) actions
-    stored actions is e =
-        let c = lanes_count f h in
-        let x = filled_first e in
-        record {
-          able = able (lanes f) c actions is;
-          block = ins_blocks f h at good (lanes f) c actions is;
-          turn = ins_aligned f h at good (lanes f) c actions is;
-          some = x.some;
-          shift = x.shift;
-          size = x.size_is;
-          full = x.full;
-        }
+use Rattle.orc_asm.proofs.Function.Parts.{parts}
+use Rattle.orc_region.proofs.Calls.Cells.{Arrays}
+use Rattle.orc_region.proofs.Calls.Blocks.{arrays_known}
+use Rattle.orc_region.proofs.Calls.Rows.{most_besides, most_turn}
 
 -- ---- the code
 
@@ -131,10 +83,6 @@ ret_bytes = refl
 
 -- ---- the code of rows in turns
 
-besides_fit : (dests lanes size sources : ℕ) (b : Bool) → is_filled dests lanes size ≡ b → besides_of b ≤ 17 + 3 * (dests + sources)
-besides_fit dests lanes size sources true e = (let some = ltb-true 0 dests (both (nat_lt 0 dests) (lanes * size == 16) e).0 in omega (arith, some))
-besides_fit dests lanes size sources false e = omega arith
-
 module _ (f : FunctionValue) (h : is_function f ≡ true) (l : Layout) (first last : List Ins) (x : Lists f l first last) (single wide aligned : List Ins) (turns : Turns f single wide aligned) where
   abbrev dests : ℕ
   dests = count_of kind.Dest f.vars
@@ -157,37 +105,12 @@ module _ (f : FunctionValue) (h : is_function f ≡ true) (l : Layout) (first la
   abbrev pub flow : Flow
   flow = whole_flow first elements last f.two_d dests sources
 
-  -- the longest turn, and how often one touches cells
-  abbrev each : ℕ
-  each = cost f + (dests + sources) + 1
-
+  -- how often a turn touches cells
   abbrev some : ℕ
   some = (subject_of f).operands
 
-  stand : AllPlaced f turns.at
-  stand = stand_is f h turns.at turns.good
-
-  done : Done f turns.at single wide aligned each some
-  done = record {
-    is = h;
-    arrays = record { few = few; small = slot_size f h; some = some_size f h };
-    stand = stand;
-    positive = (lanes_count f h).some;
-    most = (lanes_count f h).most;
-    one = turns.one.0;
-    able_one = able f h turns.at turns.good 1 (one_count f h) turns.one.0 turns.one.1;
-    single_is = turns.one.2;
-    more = turns.more.0;
-    able_more = able f h turns.at turns.good (lanes f) (lanes_count f h) turns.more.0 turns.more.1;
-    wide_is = turns.more.2;
-    stored = λ e. ((turns.stored e).0, stored f h turns.at turns.good (turns.stored e).0 (turns.stored e).1 e, (turns.stored e).2);
-    short_single = turn_few f h turns.at turns.good 1 (one_count f h) single turns.one;
-    short_wide = turn_few f h turns.at turns.good (lanes f) (lanes_count f h) wide turns.more;
-    short_aligned = λ e. aligned_few f h turns.at turns.good (lanes f) (lanes_count f h) aligned (turns.stored e);
-    light_single = turn_light by_pointer refl f h turns.at stand 1 (one_count f h) single turns.one;
-    light_wide = turn_light by_pointer refl f h turns.at stand (lanes f) (lanes_count f h) wide turns.more;
-    light_aligned = λ e. aligned_light by_pointer refl f h turns.at stand (lanes f) (lanes_count f h) aligned (turns.stored e);
-  }
+  abbrev known : Arrays f
+  known = arrays_known f h
 
   fits : Fits 900000 (flat elements)
   fits = fits_elements f h single wide aligned turns
@@ -206,14 +129,14 @@ module _ (f : FunctionValue) (h : is_function f ≡ true) (l : Layout) (first la
       let b = fits.bytes in
       (omega (arith, all, ret_bytes), omega (arith, all, ret_bytes, front, back, middle, b, x.first_bytes, x.first_short, x.last_bytes, x.last_short, fact.few_patterns, fact.few_sums))
 
-  short : AreShort f first last each (besides_of (fills f))
+  short : AreShort f first last (most_turn f) (most_besides f)
   short =
       let patterns : length l.patterns.items ≡ length (patterns_of f.vars f.insns) = ap (λ (y : Layout). length y.patterns.items) x.layout ∙ ap length (patterns_are f) in
       let sums : length l.acc_sizes.items ≡ count_of kind.Accumulator f.vars = ap (λ (y : Layout). length y.acc_sizes.items) x.layout ∙ ap length (sizes_are f) ∙ length-acc_sizes_of f in
       record {
         lists = omega (arith, x.first_short, x.last_short, patterns, sums);
         turn_few = omega arith;
-        besides_few = besides_fit dests (lanes f) (size_of_slot f.vars 0) sources (fills f) refl;
+        besides_few = omega arith;
       }
 
   -- the lists around the rows touch no cell
@@ -227,8 +150,8 @@ module _ (f : FunctionValue) (h : is_function f ≡ true) (l : Layout) (first la
   code_runs =
       let subject = subject_of f in
       lift subject (fully subject) (both_lift (quiet subject) (wide_promise subject) (quiet_lifts subject) (wide_lifts subject)) (spell_all (with_return flow))
-      (runs_with f done.arrays first elements last each (besides_of (fills f)) some short (λ s args. WideAt subject args) (λ code s args back good. own_wide f done.arrays code s args back good)
-      (λ code s args back good. parts f turns.at single wide aligned each some done code s args back good first last (subst (λ y. Prepares y first) x.layout x.prepares) (subst (λ y. Finishes y last) x.layout x.finishes))
+      (runs_with f known first elements last (most_turn f) (most_besides f) some short (λ s args. WideAt subject args) (λ code s args back good. own_wide f known code s args back good)
+      (λ code s args back good. parts f h single wide aligned turns code s args back good first last (subst (λ y. Prepares y first) x.layout x.prepares) (subst (λ y. Finishes y last) x.layout x.finishes))
       (fully subject)
       (λ s args way t q each counted. (q, wide_way subject s args way t each (λ R sees. subst (λ k. AtMost k R way) (bound args) (counted R sees))))
       allowed)

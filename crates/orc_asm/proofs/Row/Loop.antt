@@ -24,7 +24,7 @@ use Rattle.orc_asm.specs.Rows.{rows_code, row_entry_code, row_step_code, row_flo
 use Rattle.orc_region.proofs.Block.Registers.{not_4, not_7}
 use Rattle.orc_region.proofs.Block.Keeping.{line_bounded, ins_of}
 use Rattle.orc_asm.proofs.Row.Emulated.{more_rows}
-use Rattle.orc_asm.proofs.Calls.Cells.{Arrays, call, P, row_base, base_small, first_base, next_base, rows_small, dest_cell, cell_block}
+use Rattle.orc_region.proofs.Calls.Cells.{Arrays, call, P, row_base, base_small, first_base, next_base, rows_small, dest_cell, cell_block}
 use Rattle.orc_asm.proofs.Row.Counts.{fine_rows, fine_row_entry, fine_row_step, row_entry_count, row_step_count, row_entry_free, row_step_free}
 use Rattle.orc_asm.proofs.Row.Lines.{InRows, OnWay, TouchesFew, HasRows, rows_line, row_entry_line, row_step_line}
 
@@ -87,6 +87,7 @@ module _ (f : FunctionValue) (known : Arrays f) (code : Placed) (s : Point) (arg
 
     -- before the elements of row r
     pub record Ready (r : ℕ) (e : State) (c : Core) : Type 0 where
+      pub emulated : rows_of f (call f known code s args back good) r (start s.core.memory) ≡ Ok e
       pub steady : Steady e c
       pub pointers : (k : ℕ) → P f known code s args back good k → c.gpr (pointer k) ≡ slot_base r k
       pub counter : c.gpr 1 ≡ args.n
@@ -180,7 +181,7 @@ module _ (f : FunctionValue) (known : Arrays f) (code : Placed) (s : Point) (arg
             mapped = λ x m. subst (λ f. IsMapped f x) (sym a.2.memory) m;
           } in
           let bounded = line_bounded Q (row_entry_code dests sources) c d (ins_of (row_entry_code dests sources) (fine_row_entry dests sources known.few.dests known.few.sources)) a.1 h.steady.bounded in
-          (d, a.1, record { steady = on_way e c d h.steady still bounded; pointers = a.2.pointers; counter = a.2.counter; tests = a.2.tests }, a.2.memory)
+          (d, a.1, record { emulated = h.emulated; steady = on_way e c d h.steady still bounded; pointers = a.2.pointers; counter = a.2.counter; tests = a.2.tests }, a.2.memory)
         where
           none : (a : ℕ) → a + 0 ≡ a
           none a = omega arith

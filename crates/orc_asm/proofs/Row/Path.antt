@@ -19,18 +19,11 @@ use Rattle.orc_frame.specs.Function.{subject_of}
 use Rattle.orc_frame.specs.Frame.{saved}
 use Rattle.orc_asm.specs.Rows.{rows_code, whole_flow}
 use Rattle.orc_asm.proofs.Row.Emulated.{end_with}
-use Rattle.orc_asm.proofs.Calls.Cells.{Arrays, call}
+use Rattle.orc_region.proofs.Calls.Cells.{Arrays, call}
+use Rattle.orc_region.proofs.Calls.Wide.{by_pointer, cell_weight}
 use Rattle.orc_asm.proofs.Row.Counts.{rows_count, rows_free}
 use Rattle.orc_asm.proofs.Row.Lines.{InRows}
 use Rattle.orc_asm.proofs.Row.Loop.{rsp, Frame, Dests, stack_low, Steady, Ready, Ended, begin, rows_done}
-
--- cells go by the registers that are neither RSP nor RDI
-abbrev pub by_pointer : ℕ → Bool
-by_pointer r = not (r == 4 || r == 7)
-
--- 1 for an instruction that may touch a cell
-abbrev pub cell_weight : Ins → ℕ
-cell_weight = touch_weight by_pointer
 
 -- a list that goes by RSP and RDI alone weighs nothing
 pub own_free : (list : List Ins) → AreOwn list → weigh cell_weight list ≡ 0

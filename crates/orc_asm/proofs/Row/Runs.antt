@@ -23,8 +23,9 @@ use Rattle.orc_frame.specs.Function.{subject_of}
 use Rattle.orc_frame.specs.Frame.{saved}
 use Rattle.orc_asm.specs.Rows.{whole_flow}
 use Rattle.orc_asm.proofs.Row.Emulated.{end_with, all_rows}
-use Rattle.orc_asm.proofs.Calls.Cells.{Arrays, call, mapped, dest_cell}
-use Rattle.orc_asm.proofs.Row.Path.{Parts, Still, Own, cell_weight, path}
+use Rattle.orc_region.proofs.Calls.Cells.{Arrays, call, mapped, dest_cell}
+use Rattle.orc_asm.proofs.Row.Path.{Parts, Still, Own, path}
+use Rattle.orc_region.proofs.Calls.Wide.{cell_weight}
 use Rattle.x86_flow.proofs.Frame.{word_same}
 
 -- ---- what a return leaves

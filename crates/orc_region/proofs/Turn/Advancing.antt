@@ -1,5 +1,5 @@
 -- A turn does so many elements: a block, and the pointers and the counter go on.
-use Rattle.std.proofs.Common.{◌≡◌, ◌≢◌, ℕ, zero, suc, ◌+◌, ◌-◌, ◌*◌, ◌%◌, ◌^◌, ◌<◌, ◌≤◌, Bool, true, false, true≢false, pos, List, [], ◌∷◌, ◌++◌, suc-mul, Some, is_some, refl, sym, ap, ◌∙◌, subst, arith, ◌⊎◌, inl, ⊎_elim}
+use Rattle.std.proofs.Common.{◌≡◌, ◌≢◌, ℕ, zero, suc, ◌+◌, ◌-◌, ◌*◌, ◌%◌, ◌^◌, ◌<◌, ◌≤◌, Bool, true, false, true≢false, pos, List, [], ◌∷◌, ◌++◌, suc-mul, Some, is_some, refl, sym, ap, ◌∙◌, subst, arith, ◌⊎◌, inl, inr, ⊎_elim}
 use Rattle.std.proofs.Math.Nat.{add-mul, mul_assoc}
 use Rattle.std.proofs.lemmas.Bool.{cases_eq}
 use Rattle.orc_bits.specs.Memory.{Memory, IsMapped}
@@ -15,11 +15,12 @@ use Rattle.orc_bits.specs.Numbers.{wrap}
 use Rattle.x86_flow.specs.Does.{Line}
 use Rattle.x86_flow.proofs.Moves.{line_append}
 use Rattle.x86_flow.proofs.Touching.{touches_none}
+use Rattle.x86_flow.proofs.Plans.{line_map}
 use Rattle.orc_frame.specs.Parts.{InChanged}
 use Rattle.orc_region.specs.Code.{Plan, Action, pointer, at_pointer, unaligned, action_far_code, actions_far_code, actions_code, block_far, blocks_code, blocks_turn_code, advance_code, turn_code}
 use Rattle.orc_region.proofs.Block.Registers.{not_0, not_1, not_4, not_7, pointer_one}
 use Rattle.sse_acc.specs.Sums.{sum_below}
-use Rattle.orc_region.proofs.Block.Cells.{Numbers, OfDests, Local, no_values, Lanes, Others, AtElements, AllKnown, Decided, local, adds, elements_or_not, same_end}
+use Rattle.orc_region.proofs.Block.Cells.{Numbers, OfDests, Local, no_values, Lanes, Others, AtElements, AllKnown, Decided, Low, local, adds, elements_or_not, same_end}
 use Rattle.orc_region.proofs.Block.Frames.{Framed}
 use Rattle.orc_region.proofs.Arithmetic.Digits.{number_of, digit_of}
 use Rattle.orc_region.proofs.Block.Keeping.{line_bounded}
@@ -110,30 +111,9 @@ module _ (n : ℕ) (base : ℕ → ℕ) (P : ℕ → Type 0) (numbers : Numbers)
       pub framed : Framed numbers rsp c.memory totals
       pub bounded : Bounded c
 
-    -- Free is what holds where the first dest is stored a whole register at once by stores that aren't aligned
-    module _ (Q : Core → Ins → Type 0) (Free : Type 0) (calmly : (u : Core) (i : Ins) → Calm u → TouchesPart n base p.size P rsp Free u i → Q u i) (count : ℕ) (some : 0 < count) (most : count ≤ 16) (fit : Each (IsFit count p.size) p.actions) (ins : Each IsIns (turn_code p count)) where
-      -- an instruction that touches nothing
-      calm_none : (u : Core) (i : Ins) → Calm u → (span i u).1 ≡ 0 → Q u i
-      calm_none u i h e = calmly u i h (inl (λ a t. absurd (touches_none i u e a t)))
+    -- ---- a block of so many elements
 
-      -- the number in a cell
-      abbrev number_in : Memory → ℕ → ℕ → ℕ
-      number_in m i k = number_of (p.size k) (λ r. or_else 0 (m (base k + i * p.size k + r)))
-
-      -- the numbers of elements from one on; nothing is known of places
-      abbrev numbers_in : Memory → ℕ → ℕ → Local
-      numbers_in m i q = record { cells = number_in m (i + q); values = no_values }
-
-      holds : (z i : ℕ) (e : Memory) (totals : ℕ → ℕ) (c : Core) → Inside z e totals c → i + count ≤ n → Lanes n base p.size P i count c.memory (numbers_in c.memory i)
-      holds z i e totals c h w k hk q l r lr =
-          let lq : i + q < n = omega (arith, l, w) in
-          let at : ℕ → ℕ = λ j. base k + (i + q) * p.size k + j in
-          let byte : (j : ℕ) → j < p.size k → (v : ℕ) × (c.memory (at j) ≡ Some v) = λ j lj.
-          let v = mapped_value e (at j) (h.mapped (at j) (k, hk, i + q, lq, j, lj, refl)) in (v.0, h.agree (at j) (set.apart k hk (i + q) lq j lj) ∙ v.1) in
-          let small : (j : ℕ) → j < p.size k → or_else 0 (c.memory (at j)) < 256 = λ j lj. let v = byte j lj in subst (λ o. or_else 0 o < 256) (sym v.1) (h.bounded.memory (at j) v.0 v.1) in
-          let v = byte r lr in
-          v.1 ∙ ap (λ o. Some (or_else 0 o)) (sym v.1) ∙ ap Some (sym (digit_of (p.size k) (λ j. or_else 0 (c.memory (at j))) r small lr))
-
+    module _ (count : ℕ) where
       -- slots with aligned stores have a register's bytes of `count` elements, at a multiple of 16 at element i
       abbrev pub Aligns : (ℕ → Bool) → ℕ → Type 0
       Aligns aligned i = (k : ℕ) → P k → aligned k ≡ true → (count * p.size k ≡ 16) × ((base k + i * p.size k) % 16 ≡ 0)
@@ -150,48 +130,119 @@ module _ (n : ℕ) (base : ℕ → ℕ) (P : ℕ → Type 0) (numbers : Numbers)
           let blocks : b * count * p.size k ≡ b * 16 = mul_assoc b count (p.size k) ∙ ap (λ t. b * t) first in
           (first, omega (arith, second, blocks, add-mul (b * count) i (p.size k)))
 
+      -- where the cells of elements from j on begin
+      abbrev pub base_from : ℕ → ℕ → ℕ
+      base_from j k = base k + j * p.size k
+
+      -- Free is what holds where the first dest is stored a whole register at once by stores that aren't aligned
+      module _ (Free : Type 0) where
+        -- what holds at each step of a block for the elements from j on that began in core c: but for RAX the general registers stand, outside these elements' cells of dests, the running sums and the spill slots so does memory, and the instruction touches the frame or these elements' cells of one array
+        pub record InBlock (j : ℕ) (c u : Core) (ins : Ins) : Type 0 where
+          pub calm : Calm u
+          pub registers : (r : ℕ) → r ≢ 0 → u.gpr r ≡ c.gpr r
+          pub only : (a : ℕ) → (AtElements n base p.size (OfDests P) j count a → ⊥) → (InChanged rsp numbers.sums a → ⊥) → u.memory a ≡ c.memory a
+          pub touches : TouchesPart count (base_from j) p.size P rsp Free u ins
+
+        -- such an instruction touches the frame or cells of one array
+        pub touches_wide : (j : ℕ) (u : Core) (ins : Ins) → j + count ≤ n → TouchesPart count (base_from j) p.size P rsp Free u ins → TouchesPart n base p.size P rsp Free u ins
+        touches_wide j u ins w (inl h) = inl h
+        touches_wide j u ins w (inr h) = inr (
+          h.0,
+          h.1,
+          h.2,
+          λ a t. let x = h.3 a t in (j + x.0, omega (arith, x.1, w), x.2, x.3, omega (arith, x.4, add-mul j x.0 (p.size h.0))),
+          h.4,
+        )
+
+        module _ (some : 0 < count) (fit : Each (IsFit count p.size) p.actions) where
+          -- the number in a cell
+          abbrev number_in : Memory → ℕ → ℕ → ℕ
+          number_in m i k = number_of (p.size k) (λ r. or_else 0 (m (base k + i * p.size k + r)))
+
+          -- the numbers of elements from one on; nothing is known of places
+          abbrev numbers_in : Memory → ℕ → ℕ → Local
+          numbers_in m i q = record { cells = number_in m (i + q); values = no_values }
+
+          holds : (z i : ℕ) (e : Memory) (totals : ℕ → ℕ) (c : Core) → Inside z e totals c → i + count ≤ n → Lanes n base p.size P i count c.memory (numbers_in c.memory i)
+          holds z i e totals c h w k hk q l r lr =
+              let lq : i + q < n = omega (arith, l, w) in
+              let at : ℕ → ℕ = λ j. base k + (i + q) * p.size k + j in
+              let byte : (j : ℕ) → j < p.size k → (v : ℕ) × (c.memory (at j) ≡ Some v) = λ j lj.
+              let v = mapped_value e (at j) (h.mapped (at j) (k, hk, i + q, lq, j, lj, refl)) in (v.0, h.agree (at j) (set.apart k hk (i + q) lq j lj) ∙ v.1) in
+              let small : (j : ℕ) → j < p.size k → or_else 0 (c.memory (at j)) < 256 = λ j lj. let v = byte j lj in subst (λ o. or_else 0 o < 256) (sym v.1) (h.bounded.memory (at j) v.0 v.1) in
+              let v = byte r lr in
+              v.1 ∙ ap (λ o. Some (or_else 0 o)) (sym v.1) ∙ ap Some (sym (digit_of (p.size k) (λ j. or_else 0 (c.memory (at j))) r small lr))
+
+          -- the elements from j on lie low
+          low_from : (j : ℕ) → j + count ≤ n → Low count (base_from j) p.size P
+          low_from j w k hk q l r lr = (let x = set.ground.low k hk (j + q) (omega (arith, l, w)) r lr in omega (arith, x, add-mul j q (p.size k)))
+
+          -- the block does the elements from j on, which lie so far behind the pointers, and leaves the pointers
+          pub block_steps : (far : ℕ → ℕ) (aligned : ℕ → Bool) → (aligned 0 ≡ false → count * p.size 0 ≡ 16 → Free) → (lag : ℕ) → ((k : ℕ) → far k ≡ lag * p.size k) → Each (λ a. Each IsIns (action_far_code count p.size far aligned a)) p.actions → (i j : ℕ) → j ≡ lag + i → Aligns aligned j → (e : Memory) (totals : ℕ → ℕ) (c : Core) → j + count ≤ n → Inside i e totals c → Emul j e totals
+              → (end : Memory) × (new : ℕ → ℕ) × (d : Core) × Emul (count + j) end new × Line (InBlock j c) (actions_far_code count p.size far aligned p.actions) c d × Inside i end new d × ((r : ℕ) → r ≢ 0 → d.gpr r ≡ c.gpr r)
+              × ((a : ℕ) → (AtElements n base p.size (OfDests P) j count a → ⊥) → (InChanged rsp numbers.sums a → ⊥) → d.memory a ≡ c.memory a)
+          block_steps far aligned free lag far_is ins_all i j same aligns e totals c w h em =
+              let sig : ℕ → Local = numbers_in c.memory j in
+              let hc : Lanes n base p.size P j count c.memory sig = holds i j e totals c h w in
+              let he : Lanes n base p.size P j count e sig = λ k hk q l r lr. sym (h.agree (base k + (j + q) * p.size k + r) (set.apart k hk (j + q) (omega (arith, l, w)) r lr)) ∙ hc k hk q l r lr in
+              let dest : (a : ℕ) → AtElements n base p.size (OfDests P) j count a → IsDestCell a = λ a at. (at.0, at.1, j + at.2, omega (arith, at.3, w), at.4, at.5, at.6) in
+              let at : (k : ℕ) → P k → 0 < p.size k → (c.gpr (pointer k) + far k ≡ base k + j * p.size k) × (aligned k ≡ true → (count * p.size k ≡ 16) × ((base k + j * p.size k) % 16 ≡ 0)) = λ k hk s.
+              ((let l = set.ground.low k hk j (omega (arith, w, some)) 0 s in let x = h.pointers k (set.slots k hk) in omega (arith, l, x, far_is k, add-mul lag i (p.size k), ap (λ t. t * p.size k) same)), aligns k hk) in
+              let Only : Core → Type 0 = λ u. (a : ℕ) → (AtElements n base p.size (OfDests P) j count a → ⊥) → (InChanged rsp numbers.sums a → ⊥) → u.memory a ≡ c.memory a in
+              let Near : Core → Ins → Type 0 = λ u ins. Calm u × ((r : ℕ) → r ≢ 0 → u.gpr r ≡ c.gpr r) × Only u in
+              let calm : (u : Core) → ((r : ℕ) → r ≢ 0 → u.gpr r ≡ c.gpr r) → Rest n base p.size P numbers rsp set.ground Near far aligned count some j c.memory u.memory → Calm u = λ u g o. record {
+                stack = g 4 (λ x. omega (arith, x)) ∙ h.calm.stack;
+                quiet = λ a m s. o a (λ x. m (dest a x)) s ∙ h.calm.quiet a m s;
+              } in
+              let b = actions_line n base p.size P numbers rsp set.ground Near far aligned count some j p.actions c c.memory no_values sig totals set.known fit ins_all w at h.calm.stack hc h.framed (λ p l q lq r lr lb. absurd (omega (arith, lr))) h.bounded (λ a m s. refl) (λ u ins g o. (calm u g o, g, o)) in
+              let frame = set.ground.frame in
+              let whole : (k : ℕ) → P k → aligned k ≡ true → count * p.size k ≡ 16 = λ k hk t. (aligns k hk t).0 in
+              let goes = actions_go n base p.size P numbers frame.few_patterns frame.few_sums far aligned count whole no_values p.actions set.known fit in
+              let here : (ins : Ins) → Goes n base p.size P numbers frame.few_patterns frame.few_sums far aligned count whole ins → Goes count (base_from j) p.size P numbers frame.few_patterns frame.few_sums far aligned count whole ins = λ ins g.
+              ⊎_elim (λ x. inl x) (λ y. ⊎_elim (λ x. inr (inl x)) (λ x. inr (inr (x.0, record { array = x.1.array; some = x.1.some; few = x.1.few; by = x.1.by; stores = x.1.stores }))) y) g in
+              let touch : (u : Core) (ins : Ins) → Near u ins → Goes n base p.size P numbers frame.few_patterns frame.few_sums far aligned count whole ins → InBlock j c u ins = λ u ins q g. record {
+                calm = q.0;
+                registers = q.1;
+                only = q.2;
+                touches = goes_touch count (base_from j) p.size P numbers frame.few_patterns frame.few_sums far aligned count whole rsp frame.low (low_from j w) some Free free 0 (omega arith) u q.0.stack
+                    (λ k hk s. ap (λ y. y + far k) (q.1 (pointer k) (not_0 k)) ∙ (at k hk s).0 ∙ (let z : base k + j * p.size k ≡ base k + j * p.size k + 0 * p.size k = omega arith in z)) ins (here ins g);
+              } in
+              let line : Line (InBlock j c) (actions_far_code count p.size far aligned p.actions) c b.0 = line_with Near (InBlock j c) (Goes n base p.size P numbers frame.few_patterns frame.few_sums far aligned count whole) touch (actions_far_code count p.size far aligned p.actions) goes c b.0 b.1 in
+              let m = set.emulates j e totals sig em count w he in
+              let d = b.0 in
+              let x = b.2 in (
+                m.0,
+                (λ g. totals g + sum_below count (λ q. adds n base p.size P numbers p.actions (sig q) g)),
+                d,
+                m.1,
+                line,
+                record {
+                  pointers = λ k hk. x.gpr (pointer k) (λ z. not_0 k z) ∙ h.pointers k hk;
+                  block = x.gpr 7 (λ z. omega (arith, z)) ∙ h.block;
+                  calm = calm d x.gpr x.others;
+                  agree = λ a nf. same_end n base p.size P set.ground.separate set.ground.low set.decided slot_small j count c.memory e d.memory m.0 (λ q. local n base p.size P numbers p.actions (sig q)) x.lanes m.2 m.3 a (λ k. x.others a (λ t. k (t.0, t.1.0, t.2, t.3, t.4, t.5, t.6)) (λ s. nf (set.changed a s))) (h.agree a nf);
+                  mapped = λ a t. ⊎_elim (λ at. ap is_some (ap m.0 at.6 ∙ m.2 at.0 at.1 at.2 at.3 at.4 at.5)) (λ k. ap is_some (m.3 a k) ∙ h.mapped a t) (elements_or_not n base p.size P set.ground.separate set.ground.low set.decided slot_small j count a);
+                  framed = x.framed;
+                  bounded = x.bounded;
+                },
+                x.gpr,
+                x.others,
+              )
+
+    -- ---- with what holds at each step of a row
+
+    module _ (Q : Core → Ins → Type 0) (Free : Type 0) (calmly : (u : Core) (i : Ins) → Calm u → TouchesPart n base p.size P rsp Free u i → Q u i) (count : ℕ) (some : 0 < count) (most : count ≤ 16) (fit : Each (IsFit count p.size) p.actions) (ins : Each IsIns (turn_code p count)) where
+      -- an instruction that touches nothing
+      calm_none : (u : Core) (i : Ins) → Calm u → (span i u).1 ≡ 0 → Q u i
+      calm_none u i h e = calmly u i h (inl (λ a t. absurd (touches_none i u e a t)))
+
       -- a block for the elements so far behind the pointers, which it leaves
-      block_far_line : (far : ℕ → ℕ) (aligned : ℕ → Bool) → (aligned 0 ≡ false → count * p.size 0 ≡ 16 → Free) → (lag : ℕ) → ((k : ℕ) → far k ≡ lag * p.size k) → Each (λ a. Each IsIns (action_far_code count p.size far aligned a)) p.actions → (i : ℕ) → Aligns aligned (lag + i) → (e : Memory) (totals : ℕ → ℕ) (c : Core) → lag + i + count ≤ n → Inside i e totals c → Emul (lag + i) e totals
+      block_far_line : (far : ℕ → ℕ) (aligned : ℕ → Bool) → (aligned 0 ≡ false → count * p.size 0 ≡ 16 → Free) → (lag : ℕ) → ((k : ℕ) → far k ≡ lag * p.size k) → Each (λ a. Each IsIns (action_far_code count p.size far aligned a)) p.actions → (i : ℕ) → Aligns count aligned (lag + i) → (e : Memory) (totals : ℕ → ℕ) (c : Core) → lag + i + count ≤ n → Inside i e totals c → Emul (lag + i) e totals
           → (end : Memory) × (new : ℕ → ℕ) × (d : Core) × Emul (count + (lag + i)) end new × Line Q (actions_far_code count p.size far aligned p.actions) c d × Inside i end new d × (d.gpr 1 ≡ c.gpr 1)
       block_far_line far aligned free lag far_is ins_all i aligns e totals c w h em =
-          let j = lag + i in
-          let sig : ℕ → Local = numbers_in c.memory j in
-          let hc : Lanes n base p.size P j count c.memory sig = holds i j e totals c h w in
-          let he : Lanes n base p.size P j count e sig = λ k hk q l r lr. sym (h.agree (base k + (j + q) * p.size k + r) (set.apart k hk (j + q) (omega (arith, l, w)) r lr)) ∙ hc k hk q l r lr in
-          let dest : (a : ℕ) → AtElements n base p.size (OfDests P) j count a → IsDestCell a = λ a at. (at.0, at.1, j + at.2, omega (arith, at.3, w), at.4, at.5, at.6) in
-          let at : (k : ℕ) → P k → 0 < p.size k → (c.gpr (pointer k) + far k ≡ base k + j * p.size k) × (aligned k ≡ true → (count * p.size k ≡ 16) × ((base k + j * p.size k) % 16 ≡ 0)) = λ k hk s.
-          ((let l = set.ground.low k hk j (omega (arith, w, some)) 0 s in let x = h.pointers k (set.slots k hk) in omega (arith, l, x, far_is k, add-mul lag i (p.size k))), aligns k hk) in
-          let Near : Core → Ins → Type 0 = λ u ins. Calm u × ((r : ℕ) → r ≢ 0 → u.gpr r ≡ c.gpr r) in
-          let calm : (u : Core) → ((r : ℕ) → r ≢ 0 → u.gpr r ≡ c.gpr r) → Rest n base p.size P numbers rsp set.ground Near far aligned count some j c.memory u.memory → Calm u = λ u g o. record {
-            stack = g 4 (λ x. omega (arith, x)) ∙ h.calm.stack;
-            quiet = λ a m s. o a (λ x. m (dest a x)) s ∙ h.calm.quiet a m s;
-          } in
-          let b = actions_line n base p.size P numbers rsp set.ground Near far aligned count some j p.actions c c.memory no_values sig totals set.known fit ins_all w at h.calm.stack hc h.framed (λ p l q lq r lr lb. absurd (omega (arith, lr))) h.bounded (λ a m s. refl) (λ u ins g o. (calm u g o, g)) in
-          let frame = set.ground.frame in
-          let whole : (k : ℕ) → P k → aligned k ≡ true → count * p.size k ≡ 16 = λ k hk t. (aligns k hk t).0 in
-          let goes = actions_go n base p.size P numbers frame.few_patterns frame.few_sums far aligned count whole no_values p.actions set.known fit in
-          let touch : (u : Core) (ins : Ins) → Near u ins → Goes n base p.size P numbers frame.few_patterns frame.few_sums far aligned count whole ins → Q u ins = λ u ins q g.
-          calmly u ins q.0 (goes_touch n base p.size P numbers frame.few_patterns frame.few_sums far aligned count whole rsp frame.low set.ground.low some Free free j w u q.0.stack (λ k hk s. ap (λ y. y + far k) (q.1 (pointer k) (not_0 k)) ∙ (at k hk s).0) ins g) in
-          let line : Line Q (actions_far_code count p.size far aligned p.actions) c b.0 = line_with Near Q (Goes n base p.size P numbers frame.few_patterns frame.few_sums far aligned count whole) touch (actions_far_code count p.size far aligned p.actions) goes c b.0 b.1 in
-          let m = set.emulates j e totals sig em count w he in
-          let d = b.0 in
-          let x = b.2 in (
-            m.0,
-            (λ g. totals g + sum_below count (λ q. adds n base p.size P numbers p.actions (sig q) g)),
-            d,
-            m.1,
-            line,
-            record {
-              pointers = λ k hk. x.gpr (pointer k) (λ z. not_0 k z) ∙ h.pointers k hk;
-              block = x.gpr 7 (λ z. omega (arith, z)) ∙ h.block;
-              calm = calm d x.gpr x.others;
-              agree = λ a nf. same_end n base p.size P set.ground.separate set.ground.low set.decided slot_small j count c.memory e d.memory m.0 (λ q. local n base p.size P numbers p.actions (sig q)) x.lanes m.2 m.3 a (λ k. x.others a (λ t. k (t.0, t.1.0, t.2, t.3, t.4, t.5, t.6)) (λ s. nf (set.changed a s))) (h.agree a nf);
-              mapped = λ a t. ⊎_elim (λ at. ap is_some (ap m.0 at.6 ∙ m.2 at.0 at.1 at.2 at.3 at.4 at.5)) (λ k. ap is_some (m.3 a k) ∙ h.mapped a t) (elements_or_not n base p.size P set.ground.separate set.ground.low set.decided slot_small j count a);
-              framed = x.framed;
-              bounded = x.bounded;
-            },
-            x.gpr 1 (λ z. omega (arith, z)),
-          )
+          let x = block_steps count Free some fit far aligned free lag far_is ins_all i (lag + i) refl aligns e totals c w h em in
+          let line = line_map (InBlock count Free (lag + i) c) Q (λ u ins q. calmly u ins q.calm (touches_wide count Free (lag + i) u ins w q.touches)) (actions_far_code count p.size far aligned p.actions) c x.2 x.4 in
+          (x.0, x.1, x.2, x.3, line, x.5, x.6 1 (λ z. omega (arith, z)))
 
       at_pointers : (actions : List Action) → Each (IsFit count p.size) actions → Each (λ a. Each IsIns (action_far_code count p.size at_pointer unaligned a)) actions
       at_pointers [] h = tt
@@ -202,16 +253,16 @@ module _ (n : ℕ) (base : ℕ → ℕ) (P : ℕ → Type 0) (numbers : Numbers)
           → (end : Memory) × (new : ℕ → ℕ) × (d : Core) × Emul (count + i) end new × Line Q (actions_code count p.size p.actions) c d × Inside i end new d × (d.gpr 1 ≡ c.gpr 1)
       block_line free i e totals c w h em =
           let same : i ≡ 0 + i = omega arith in
-          let x = block_far_line at_pointer unaligned (λ u. free) 0 (λ k. omega arith) (at_pointers p.actions fit) i (none_aligned (0 + i)) e totals c (omega (arith, w)) h (subst (λ k. Emul k e totals) same em) in
+          let x = block_far_line at_pointer unaligned (λ u. free) 0 (λ k. omega arith) (at_pointers p.actions fit) i (none_aligned count (0 + i)) e totals c (omega (arith, w)) h (subst (λ k. Emul k e totals) same em) in
           (x.0, x.1, x.2, subst (λ k. Emul (count + k) x.0 x.1) (sym same) x.3, x.4, x.5, x.6)
 
       -- so many blocks, one behind another
-      pub blocks_line : (aligned : ℕ → Bool) → (aligned 0 ≡ false → count * p.size 0 ≡ 16 → Free) → (b : ℕ) → ((k : ℕ) → k < b → Each (λ a. Each IsIns (action_far_code count p.size (block_far p (k * count)) aligned a)) p.actions) → (i : ℕ) → Aligns aligned i → (e : Memory) (totals : ℕ → ℕ) (c : Core) → i + b * count ≤ n → Inside i e totals c → Emul i e totals
+      pub blocks_line : (aligned : ℕ → Bool) → (aligned 0 ≡ false → count * p.size 0 ≡ 16 → Free) → (b : ℕ) → ((k : ℕ) → k < b → Each (λ a. Each IsIns (action_far_code count p.size (block_far p (k * count)) aligned a)) p.actions) → (i : ℕ) → Aligns count aligned i → (e : Memory) (totals : ℕ → ℕ) (c : Core) → i + b * count ≤ n → Inside i e totals c → Emul i e totals
           → (end : Memory) × (new : ℕ → ℕ) × (d : Core) × Emul (b * count + i) end new × Line Q (blocks_code p aligned count b) c d × Inside i end new d × (d.gpr 1 ≡ c.gpr 1)
       blocks_line aligned free zero ins_all i aligns e totals c w h em = (let same : i ≡ 0 * count + i = omega arith in (e, totals, c, subst (λ k. Emul k e totals) same em, refl, h, refl))
       blocks_line aligned free (suc b) ins_all i aligns e totals c w h em =
           let x = blocks_line aligned free b (λ k l. ins_all k (omega (arith, l))) i aligns e totals c (omega (arith, w, suc-mul b count)) h em in
-          let y = block_far_line (block_far p (b * count)) aligned free (b * count) (λ k. refl) (ins_all b (omega arith)) i (aligns_on aligned i b aligns) x.0 x.1 x.2 (omega (arith, w, suc-mul b count)) x.5 x.3 in
+          let y = block_far_line (block_far p (b * count)) aligned free (b * count) (λ k. refl) (ins_all b (omega arith)) i (aligns_on count aligned i b aligns) x.0 x.1 x.2 (omega (arith, w, suc-mul b count)) x.5 x.3 in
           let here : count + (b * count + i) ≡ suc b * count + i = omega (arith, suc-mul b count) in (
             y.0,
             y.1,
@@ -277,7 +328,7 @@ module _ (n : ℕ) (base : ℕ → ℕ) (P : ℕ → Type 0) (numbers : Numbers)
           (a.0, a.1, m.0, a.3, m.1, m.2, m.3, m.4)
 
       -- a turn of several blocks
-      pub blocks_turn_line : (aligned : ℕ → Bool) → (aligned 0 ≡ false → count * p.size 0 ≡ 16 → Free) → (b : ℕ) → b * count ≤ 64 → ((k : ℕ) → k < b → Each (λ a. Each IsIns (action_far_code count p.size (block_far p (k * count)) aligned a)) p.actions) → Each IsIns (blocks_turn_code p aligned count b) → (i : ℕ) → Aligns aligned i → (e : Memory) (totals : ℕ → ℕ) (c : Core) → i + b * count ≤ n → Inside i e totals c → Emul i e totals
+      pub blocks_turn_line : (aligned : ℕ → Bool) → (aligned 0 ≡ false → count * p.size 0 ≡ 16 → Free) → (b : ℕ) → b * count ≤ 64 → ((k : ℕ) → k < b → Each (λ a. Each IsIns (action_far_code count p.size (block_far p (k * count)) aligned a)) p.actions) → Each IsIns (blocks_turn_code p aligned count b) → (i : ℕ) → Aligns count aligned i → (e : Memory) (totals : ℕ → ℕ) (c : Core) → i + b * count ≤ n → Inside i e totals c → Emul i e totals
           → (end : Memory) × (new : ℕ → ℕ) × (d : Core) × Emul (b * count + i) end new × Line Q (blocks_turn_code p aligned count b) c d × Inside (b * count + i) end new d × (d.gpr 1 ≡ (c.gpr 1 + (2 ^ 64 - b * count)) % 2 ^ 64) × Tested d
       blocks_turn_line aligned free b few ins_all known i aligns e totals c w h em =
           let a = blocks_line aligned free b ins_all i aligns e totals c w h em in

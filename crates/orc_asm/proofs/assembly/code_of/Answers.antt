@@ -5,14 +5,27 @@ use Rattle.orc_frame.specs.declared.frame.Layout.{Layout}
 use Rattle.orc_frame.proofs.Counted.{ok_map}
 use Rattle.orc_region.proofs.Built.Turns.{elements_few}
 use Rattle.orc_region.proofs.Checked.Layouts.{two_d_is}
+use Rattle.orc_region.specs.Code.{IsElements}
+use Rattle.orc_region.specs.Elements.{AreOf}
 use Rattle.orc_asm.specs.Function.{RunsFully}
 use Rattle.orc_asm.specs.Rows.{whole_flow}
 use Rattle.orc_asm.proofs.Function.Whole.{HasCodeLength, list_slices, whole_runs}
 use Rattle.orc_asm.proofs.assembly.code_of.Goals as goal
 use Rattle.orc_asm.proofs.assembly.code_of.Goals.{After-whole_code}
 
+pub row_flow-requires : goal.row_flow-requires
+row_flow-requires c = record {
+  of = (c.args.f.now, record { kept = c.counts_of-counts.ensures.kept; steps = c.requires.steps; sizes = c.requires.sizes; lanes = c.requires.lanes; layout = c.layout-layout.ensures.value });
+}
+
 pub whole_code-requires-clause-few : goal.whole_code-requires-clause-few
-whole_code-requires-clause-few c = elements_few c.args.f.now c.counts_of-counts.ensures.kept _ c.in_ok-elements.ensures
+whole_code-requires-clause-few c =
+    let are : AreOf c.args.f.now c.args.placed.now c.layout-layout.result = record { kept = c.counts_of-counts.ensures.kept; steps = c.requires.steps; sizes = c.requires.sizes; lanes = c.requires.lanes; layout = c.layout-layout.ensures.value } in
+    elements_few c.args.f.now c.counts_of-counts.ensures.kept _ (c.in_ok-elements.ensures.is c.args.f.now are)
+
+-- the tree does the function's elements
+elements_are : (c : After-whole_code) → IsElements c.args.f.now c.in_ok-elements.elements
+elements_are c = c.in_ok-elements.ensures.is c.args.f.now (record { kept = c.counts_of-counts.ensures.kept; steps = c.requires.steps; sizes = c.requires.sizes; lanes = c.requires.lanes; layout = c.layout-layout.ensures.value })
 
 -- the bytes of the rows between the frame's lists
 runs : (c : After-whole_code) (code : List ℕ)
@@ -33,7 +46,7 @@ runs c code e = whole_runs c.args.f.now c.counts_of-counts.ensures.kept c.layout
       last_bytes = c.in_ok-last.ensures.bytes;
       last_short = c.in_ok-last.ensures.short;
     }))
-    _ c.in_ok-elements.ensures code c.layout-layout.result.two_d c.counts_of-counts.result.dests c.counts_of-counts.result.sources (ap (λ (x : Layout). x.two_d) c.layout-layout.ensures.value ∙ two_d_is c.args.f.now) c.counts_of-counts.ensures.dests c.counts_of-counts.ensures.sources e
+    _ (elements_are c) code c.layout-layout.result.two_d c.counts_of-counts.result.dests c.counts_of-counts.result.sources (ap (λ (x : Layout). x.two_d) c.layout-layout.ensures.value ∙ two_d_is c.args.f.now) c.counts_of-counts.ensures.dests c.counts_of-counts.ensures.sources e
 
 pub returns-clause-inside : goal.returns-clause-inside
 returns-clause-inside c = ok_map c.whole_code.result _ _ (λ code e. (runs (goal.at.returns-clause-inside c).After-whole_code code e).0) c.whole_code.ensures

@@ -12,11 +12,12 @@ use Rattle.orc_program.specs.Good.{IsArray}
 use Rattle.x86_ins.specs.Machine.{Point}
 use Rattle.x86_ins.specs.Way.{Placed}
 use Rattle.orc_frame.specs.Subject.{Call as Arguments, InArray, InDests, VerySame, rows}
+use Rattle.orc_frame.specs.Subject.{cell as slot_cell}
 use Rattle.orc_frame.specs.Parts.{InBlock, InFrame, base_word, stride_word}
 use Rattle.orc_frame.specs.GoodCall.{GoodCall, lowered}
 use Rattle.orc_frame.specs.Function.{IsCellByte, subject_of}
 use Rattle.orc_region.proofs.Block.Cells.{OfDests, Separate, Low, Decided, elements_or_not}
-use Rattle.orc_asm.proofs.Calls.Agree.{GoodSlots, good_by_slots, cells_by_slots, byte_is}
+use Rattle.orc_region.proofs.Calls.Agree.{GoodSlots, good_by_slots, cells_by_slots, byte_is}
 use Rattle.orc_region.proofs.Checked.Slots.{Limits, SlotIs, slot_is}
 use Rattle.orc_region.proofs.Turn.Advancing.{IsSlot}
 
@@ -127,6 +128,10 @@ module _ (f : FunctionValue) (known : Arrays f) (code : Placed) (s : Point) (arg
 
     pub cell_in : (k : ℕ) → P k → (i : ℕ) → i < args.n → (j : ℕ) → j < size k → InArray (subject_of f) args k (row_base r k + i * size k + j)
     cell_in k h i l j lj = subst (λ a. InArray (subject_of f) args k a) (at_cell k h i l j lj) (in_array k h i l j lj)
+
+    -- by the words of the call
+    pub cell_at : (k : ℕ) → P k → (i : ℕ) → i < args.n → (j : ℕ) → j < size k → row_base r k + i * size k + j ≡ slot_cell (subject_of f) args k r i j
+    cell_at k h i l j lj = sym (at_cell k h i l j lj) ∙ from_base (args.base k + r * args.stride k) (i * size k) j
 
     -- one array has one base in each row
     same_base : (k l : ℕ) → VerySame (subject_of f) args k l → row_base r k ≡ row_base r l

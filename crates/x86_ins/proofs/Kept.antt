@@ -27,7 +27,7 @@ module _ (a : ℕ) where
       let there : IsMapped x.0 a = subst (λ y. IsMapped y a) (store_fills n c.memory to f x.0 x.1) (fill_mapped n c.memory to f a h) in
       subst (λ y. IsMapped y.memory a) x.2 (subst (λ y. IsMapped y a) (sym (m x.0)) there)
 
-  work_keeps : (i : Ins) (c d : Core) → work i c ≡ Ok d → Keeps c d
+  pub work_keeps : (i : Ins) (c d : Core) → work i c ≡ Ok d → Keeps c d
   work_keeps (VecLoad op r p) c d e =
       let x = access_ok (move_size op) c.memory (address c p) _ _ d (aligned_ok op (address c p) _ d e) in
       stays c (with_xmm c r (from_bytes (λ j. get_or x.0 j 0))) d refl x.2

@@ -1,0 +1,311 @@
+-- The loops of a row do the elements of a row of a good call.
+use Rattle.std.proofs.Common.{◌≡◌, ℕ, ◌+◌, ◌*◌, ◌%◌, ◌^◌, ◌<◌, ◌≤◌, ◌==◌, nat_lt, Bool, true, false, true≢false, List, length, Ok, is_some, refl, sym, ap, ◌∙◌, subst, arith, mul-le-mul_left, ◌⊎◌, inl, inr}
+use Rattle.std.proofs.lemmas.Bool.{ltb-true}
+use Rattle.orc_bits.specs.Memory.{Memory}
+use Rattle.orc_program.specs.declared.program.VarKind.TheVariants as kind
+use Rattle.orc_program.specs.Program.{FunctionValue, count_of}
+use Rattle.orc_program.specs.Kept.{is_function}
+use Rattle.orc_program.specs.Meaning.{State, row_of}
+use Rattle.orc_program.specs.Need.{cost, lanes, turns}
+use Rattle.orc_program.specs.Slots.{size_of_slot}
+use Rattle.orc_program.proofs.Sizes.{both}
+use Rattle.orc_plan.specs.Lowered.{steps_of}
+use Rattle.x86_ins.specs.declared.ins.Cond.TheVariants.{Ns}
+use Rattle.x86_ins.specs.declared.ins.Ins.{Ins}
+use Rattle.x86_ins.specs.Machine.{Core, Point, Touches}
+use Rattle.x86_ins.specs.Way.{Placed}
+use Rattle.x86_flow.specs.declared.tree.Flow.{Flow as Tree}
+use Rattle.x86_flow.specs.Flow.{Flow, Plain, Repeat, flat}
+use Rattle.x86_flow.specs.Tree.{flat_of}
+use Rattle.x86_flow.specs.Does.{Does}
+use Rattle.x86_flow.proofs.Kept.{does_keeps}
+use Rattle.x86_flow.proofs.Plans.{weigh}
+use Rattle.orc_frame.specs.Layout.{frame_size, left_slot}
+use Rattle.orc_frame.specs.Parts.{InFrame, InChanged}
+use Rattle.orc_frame.specs.Subject.{Call as Arguments, IsArray, rows, cell}
+use Rattle.orc_frame.specs.GoodCall.{GoodCall, lowered}
+use Rattle.orc_frame.specs.Function.{IsCellByte, subject_of}
+use Rattle.orc_region.specs.Code.{Action, Plan, AreActions, Turns, IsElements, plan_with, turn_code, blocks_turn_code, aligned_first, shift_of, is_filled, elements_flow, elements_of}
+use Rattle.orc_region.specs.Elements.{meant_call, HasCome, Holds, PointsAt, InElements, IsDest, IsQuiet, IsAlone, DoesRow, arrays_of}
+use Rattle.orc_region.specs.Regions.{plain_row, aligned_row}
+use Rattle.orc_region.proofs.Block.Cells.{OfDests}
+use Rattle.orc_region.proofs.Block.Emulated.{state}
+use Rattle.orc_region.proofs.Block.Touched.{TouchesPart}
+use Rattle.orc_region.proofs.Built.Turns.{fits_elements}
+use Rattle.orc_region.proofs.Checked.Several.{one_count, lanes_count}
+use Rattle.orc_region.proofs.Row.Gaps.{AtSixteen}
+use Rattle.orc_region.proofs.Sizes.Steps.{regions_of}
+use Rattle.orc_region.proofs.Turn.Advancing.{Setting, IsCell, IsDestCell, Inside}
+use Rattle.orc_region.proofs.Turn.Lists.{stand_is, turn_few, aligned_few}
+use Rattle.orc_region.proofs.Turn.Operands.{turn_light, aligned_light}
+use Rattle.orc_region.proofs.Turn.Rounds.{Outside, At, plain_done, aligned_done}
+use Rattle.orc_region.proofs.Calls.Cells.{Arrays, mapped, cell_cells, cell_at, cell_frame}
+use Rattle.orc_region.proofs.Calls.Setting.{meant, base, numbers, Emul, Slot, setting, apart, changed_frame, stack_room}
+use Rattle.orc_region.proofs.Calls.Holding.{totals_in, framed_in, agrees_in, holds_again}
+use Rattle.orc_region.proofs.Calls.Wide.{by_pointer, cell_weight, part_wide}
+use Rattle.orc_region.proofs.Calls.Doing.{OnWay, Leaves, doing}
+use Rattle.orc_region.proofs.Calls.Blocks.{arrays_known, from_row, cell_begins, words_kept, words_frame}
+use Rattle.orc_region.proofs.Calls.Turns.{fills, Able, Stored, able, stored, filled_is}
+
+-- the instructions of a row's elements besides their turns
+abbrev besides_of : Bool → ℕ
+besides_of true = 19
+besides_of false = 4
+
+abbrev pub most_besides : FunctionValue → ℕ
+most_besides f = 17 + 3 * arrays_of f
+
+abbrev pub most_turn : FunctionValue → ℕ
+most_turn f = cost f + arrays_of f + 1
+
+besides_fit : (dests lanes size sources : ℕ) → is_filled dests lanes size ≡ true → 19 ≤ 17 + 3 * (dests + sources)
+besides_fit dests lanes size sources e = (let some = ltb-true 0 dests (both (nat_lt 0 dests) (lanes * size == 16) e).0 in omega (arith, some))
+
+module _ (f : FunctionValue) (is : is_function f ≡ true) (single wide aligned : List Ins) (x : Turns f single wide aligned) where
+  abbrev known : Arrays f
+  known = arrays_known f is
+
+  abbrev at : List ℕ
+  at = x.at
+
+  abbrev size : ℕ → ℕ
+  size = size_of_slot f.vars
+
+  abbrev each : ℕ
+  each = most_turn f
+
+  abbrev some : ℕ
+  some = (subject_of f).operands
+
+  module _ (code : Placed) (s : Point) (args : Arguments) (back : ℕ) (good : GoodCall (subject_of f) code s args back) (r : ℕ) (row : r < rows (subject_of f) args) where
+    -- where no movdqu stores to the first dest
+    abbrev pub Wanted : Type 0
+    Wanted = (lanes f * size 0 ≡ 16) × ((h : ℕ) × (h + lanes f ≤ args.n) × (cell (subject_of f) args 0 r h 0 % 16 ≡ 0)) × IsAlone f args
+
+    abbrev Base : ℕ → ℕ
+    Base = base f is known code s args back good r row
+
+    abbrev Slots : ℕ → Type 0
+    Slots = Slot f is known code s args back good r row
+
+    abbrev low : ℕ
+    low = lowered s.core
+
+    module _ (e : State) (come : HasCome f args s.core.memory r 0 e) (c : Core) (h : Holds f s.core args e c) (points : PointsAt f args r 0 c) (counter : c.gpr 1 ≡ args.n) where
+      abbrev Emulates : ℕ → Memory → (ℕ → ℕ) → Type 0
+      Emulates = Emul f is known code s args back good r row come.0
+
+      set : (count : ℕ) (actions : List Action) → AreActions at count (steps_of f) actions → Setting args.n Base Slots (numbers f is known code s args back good) low (plan_with f actions) Emulates (InFrame low)
+      set count actions are = setting f is known code s args back good r row at (stand_is f is at x.good) come.0 count actions are
+
+      abbrev one : List Action
+      one = x.one.0
+
+      abbrev more : List Action
+      more = x.more.0
+
+      abbrev plan : Plan
+      plan = plan_with f one
+
+      first : Setting args.n Base Slots (numbers f is known code s args back good) low plan Emulates (InFrame low)
+      first = set 1 one x.one.1
+
+      abbrev Within : ℕ → Memory → (ℕ → ℕ) → Core → Type 0
+      Within = Inside args.n Base Slots (numbers f is known code s args back good) low plan Emulates (InFrame low) first (s.core.gpr 7) c.memory
+
+      abbrev IsRowCell : ℕ → Type 0
+      IsRowCell = IsCell args.n Base Slots (numbers f is known code s args back good) low plan Emulates (InFrame low) first
+
+      abbrev IsRowDest : ℕ → Type 0
+      IsRowDest = IsDestCell args.n Base Slots (numbers f is known code s args back good) low plan Emulates (InFrame low) first
+
+      row_cell : (a : ℕ) → IsRowCell a → IsCellByte f (meant f is known code s args back good) a
+      row_cell a w = subst (IsCellByte f (meant f is known code s args back good)) (sym w.6) (cell_cells f known code s args back good r row w.0 w.1 w.2 w.3 w.4 w.5)
+
+      begins : Within 0 e.memory (totals_in f is known code s args back good e c h) c
+      begins = record {
+        pointers = λ k hk. points k hk ∙ from_row (args.base k + r * args.stride k) (0 * size k);
+        block = h.block;
+        calm = record { stack = h.stack; quiet = λ a m n. refl };
+        agree = h.agree;
+        mapped = λ a w. let m = row_cell a w in subst (λ o. is_some o ≡ true) (h.agree a (cell_frame f known code s args back good a m)) (h.mapped a (mapped f known code s args back good a m));
+        framed = framed_in f is known code s args back good e c h;
+        bounded = h.bounded;
+      }
+
+      -- ---- the cells of the row
+
+      abbrev These : (ℕ → Type 0) → ℕ → Type 0
+      These D = InElements D f args r 0 args.n
+
+      dest_few : (k : ℕ) → OfDests Slots k → IsDest f k
+      dest_few k (inl l, few) = l
+      dest_few k (inr l, few) = absurd (omega (arith, l.0, few))
+
+      row_dests : (a : ℕ) → IsRowDest a → These (IsDest f) a
+      row_dests a t = (t.0, dest_few t.0 t.1, t.2, omega arith, omega (arith, t.3), t.4, t.5, t.6 ∙ cell_at f known code s args back good r row t.0 t.1.0 t.2 t.3 t.4 t.5)
+
+      dest_frame : (a : ℕ) → IsRowDest a → InFrame low a → ⊥
+      dest_frame a t w = apart f is known code s args back good r row t.0 t.1.0 t.2 t.3 t.4 t.5 (subst (InFrame low) t.6 w)
+
+      -- the word of the frame that waits in a row
+      abbrev InFree : ℕ → Type 0
+      InFree a = (low + left_slot ≤ a) × (a < low + left_slot + 8)
+
+      free_frame : (a : ℕ) → InFree a → InFrame low a
+      free_frame a w = (omega (arith, w.0), omega (arith, w.1))
+
+      in_frame : (a : ℕ) → low ≤ a → a < low + frame_size → InFrame low a
+      in_frame a l u = (l, u)
+
+      -- ---- on the way
+
+      -- where the first dest may be stored a whole register at once by stores that aren't aligned
+      abbrev Free : Type 0
+      Free = Wanted → ⊥
+
+      abbrev Q : Core → Ins → Type 0
+      Q = OnWay f code s args back good r 0 args.n Wanted c
+
+      abbrev Calm : Core → Type 0
+      Calm = Outside args.n Base Slots (numbers f is known code s args back good) low plan Emulates (InFrame low) first (s.core.gpr 7) c.memory Q (stack_room f is known code s args back good) in_frame
+
+      quietly : (u : Core) → ((a : ℕ) → (IsRowDest a → ⊥) → (InChanged low (numbers f is known code s args back good).sums a → ⊥) → (InFree a → ⊥) → u.memory a ≡ c.memory a) → IsQuiet f s.core args r 0 args.n c u
+      quietly u w a nd nf = w a (λ t. nd (row_dests a t)) (λ t. nf (changed_frame f is known code s args back good a t)) (λ t. nf (free_frame a t))
+
+      touched : (u : Core) (ins : Ins) → TouchesPart args.n Base size Slots low Free u ins → (a : ℕ) → Touches ins u a → These (IsArray (subject_of f)) a ⊎ InFrame low a
+      touched u ins (inl g) a t = inr (g a t)
+      touched u ins (inr g) a t = (let y = g.3 a t in inl (g.0, g.1, y.0, omega arith, omega (arith, y.1), y.2, y.3, y.4 ∙ cell_at f known code s args back good r row g.0 g.1 y.0 y.1 y.2 y.3))
+
+      calmly : (u : Core) (ins : Ins) → Calm u → TouchesPart args.n Base size Slots low Free u ins → Q u ins
+      calmly u ins w t = record {
+        stack = w.stack;
+        quiet = quietly u w.quiet;
+        inside = touched u ins t;
+        wide = part_wide f known code s args back good Wanted (λ y. y.2) r row Free (λ n y. n y) u ins t;
+      }
+
+      abbrev Place : ℕ → Core → Type 0
+      Place = At args.n Base Slots (numbers f is known code s args back good) low plan Emulates (InFrame low) first (s.core.gpr 7) c.memory Q (stack_room f is known code s args back good) in_frame
+
+      place_first : Place 0 c
+      place_first = record {
+        e = e.memory;
+        totals = totals_in f is known code s args back good e c h;
+        mem = c.memory;
+        near = λ a k t w. refl;
+        inside = begins;
+        emulated = record { temps = e.temps; sums = e.sums; is = come.2; agrees = agrees_in f is known code s args back good e c h };
+        there = λ a w. h.mapped a (good.frame a (free_frame a w));
+      }
+
+      abbrev Goes : Flow → ℕ → Type 0
+      Goes flow besides = (list : List Ins) × (d : Core) × Does Q flow c list d × Place args.n d × (length list ≤ besides + turns (lanes f) args.n * (2 + each)) × (weigh cell_weight list ≤ turns (lanes f) args.n * some)
+
+      -- ---- turns
+
+      able_one : Able f at 1 one
+      able_one = able f is at x.good 1 (one_count f is) one x.one.1
+
+      able_more : Able f at (lanes f) more
+      able_more = able f is at x.good (lanes f) (lanes_count f is) more x.more.1
+
+      few_one : length (turn_code plan 1) ≤ each
+      few_one = subst (λ l. length l ≤ each) x.one.2 (turn_few f is at x.good 1 (one_count f is) single x.one)
+
+      few_more : length (turn_code (plan_with f more) (lanes f)) ≤ each
+      few_more = subst (λ l. length l ≤ each) x.more.2 (turn_few f is at x.good (lanes f) (lanes_count f is) wide x.more)
+
+      light_one : weigh cell_weight (turn_code plan 1) ≤ some
+      light_one = subst (λ l. weigh cell_weight l ≤ some) x.one.2 (turn_light by_pointer refl f is at (stand_is f is at x.good) 1 (one_count f is) single x.one)
+
+      light_more : weigh cell_weight (turn_code (plan_with f more) (lanes f)) ≤ some
+      light_more = subst (λ l. weigh cell_weight l ≤ some) x.more.2 (turn_light by_pointer refl f is at (stand_is f is at x.good) (lanes f) (lanes_count f is) wide x.more)
+
+      abbrev by_one : Flow
+      by_one = Plain (turn_code plan 1)
+
+      abbrev by_more : Flow
+      by_more = Repeat Ns (Plain (turn_code (plan_with f more) (lanes f)))
+
+      -- where no register of the first dest is filled nothing is asked of stores
+      none_filled : fills f ≡ false → Free
+      none_filled empty w = true≢false (sym (filled_is (count_of kind.Dest f.vars) (lanes f) (size 0) w.2.0 w.0) ∙ empty)
+
+      plain : fills f ≡ false → Goes (plain_row (lanes f) by_one by_more) 4
+      plain empty = plain_done args.n Base Slots (numbers f is known code s args back good) low plan Emulates (InFrame low) first (s.core.gpr 7) c.memory Q (stack_room f is known code s args back good) in_frame Free calmly by_pointer refl more (set (lanes f) more x.more.1) (lanes f) (lanes_count f is).some (lanes_count f is).most
+          able_one.fit able_one.turn able_more.fit able_more.turn each some few_one few_more light_one light_more (none_filled empty) c place_first counter
+
+      -- where some element of the first dest begins at a multiple of 16, it does so by the row's base
+      some_reached : (k : ℕ) → size 0 ≡ 2 ^ k → ((j : ℕ) → j + lanes f ≤ args.n → AtSixteen k (Base 0) j → ⊥) → Free
+      some_reached k is_size none w =
+          let y = w.1 in
+          none y.0 y.1 (ap (λ z. (Base 0 + y.0 * z) % 16) (sym is_size) ∙ cell_begins (args.base 0 + r * args.stride 0) (y.0 * size 0) y.2)
+
+      filled : (acts : List Action) → Stored f at (lanes f) acts → length (blocks_turn_code (plan_with f acts) (aligned_first true) (lanes f) 1) ≤ each → weigh cell_weight (blocks_turn_code (plan_with f acts) (aligned_first true) (lanes f) 1) ≤ some
+          → Goes (aligned_row (shift_of (size 0)) (lanes f) by_one by_more (Repeat Ns (Plain (blocks_turn_code (plan_with f acts) (aligned_first true) (lanes f) 1)))) 19
+      filled acts y short light = aligned_done args.n Base Slots (numbers f is known code s args back good) low plan Emulates (InFrame low) first (s.core.gpr 7) c.memory Q (stack_room f is known code s args back good) in_frame Free calmly by_pointer refl more (set (lanes f) more x.more.1) (lanes f) (lanes_count f is).some (lanes_count f is).most
+          able_one.fit able_one.turn able_more.fit able_more.turn each some few_one few_more light_one light_more
+          acts (set (lanes f) acts y.able.are) y.able.fit y.able.turn (shift_of (size 0)) y.shift y.full y.some y.size y.block y.turn short light (some_reached (shift_of (size 0)) y.size) c place_first counter
+
+      by_turns : (b : Bool) → fills f ≡ b → Goes (elements_flow b (shift_of (size 0)) (lanes f) single wide aligned) (besides_of b)
+      by_turns false empty =
+          subst (λ l. Goes (elements_flow false (shift_of (size 0)) (lanes f) l wide aligned) 4) (sym x.one.2)
+          (subst (λ l. Goes (elements_flow false (shift_of (size 0)) (lanes f) (turn_code plan 1) l aligned) 4) (sym x.more.2) (plain empty))
+      by_turns true full =
+          let y = x.stored full in
+          let short = subst (λ l. length l ≤ each) y.2 (aligned_few f is at x.good (lanes f) (lanes_count f is) aligned y) in
+          let light = subst (λ l. weigh cell_weight l ≤ some) y.2 (aligned_light by_pointer refl f is at (stand_is f is at x.good) (lanes f) (lanes_count f is) aligned y) in
+          subst (λ l. Goes (elements_flow true (shift_of (size 0)) (lanes f) l wide aligned) 19) (sym x.one.2)
+          (subst (λ l. Goes (elements_flow true (shift_of (size 0)) (lanes f) (turn_code plan 1) l aligned) 19) (sym x.more.2)
+          (subst (λ l. Goes (elements_flow true (shift_of (size 0)) (lanes f) (turn_code plan 1) (turn_code (plan_with f more) (lanes f)) l) 19) (sym y.2)
+          (filled y.0 (stored f is at x.good y.0 y.1 full) short light)))
+
+      few_besides : (b : Bool) → fills f ≡ b → besides_of b ≤ most_besides f
+      few_besides true e = besides_fit (count_of kind.Dest f.vars) (lanes f) (size 0) (count_of kind.Source f.vars) e
+      few_besides false e = omega arith
+
+      -- ---- what they leave
+
+      abbrev Left : ℕ → List Ins → Core → Type 0
+      Left steps = Leaves f code s args back good r 0 args.n Wanted c steps (turns (lanes f) args.n * some)
+
+      pub row_does : (done : List Ins) × (d : Core) × Does Q (elements_of f single wide aligned) c done d × Left (regions_of (most_besides f) (lanes f) each args.n) done d
+      row_does =
+          let y = by_turns (fills f) refl in
+          let d = y.1 in
+          let p = y.3 in
+          let w = p.inside in
+          let t : State = state p.e p.emulated.temps p.emulated.sums in
+          let only : (a : ℕ) → (IsRowDest a → ⊥) → (InChanged low (numbers f is known code s args back good).sums a → ⊥) → (InFree a → ⊥) → d.memory a ≡ c.memory a = λ a k t z. w.calm.quiet a k t ∙ p.near a k t z in (
+            y.0,
+            d,
+            y.2,
+            record {
+              e = t;
+              come = (come.0, come.1, subst (λ n. row_of f (meant_call f args) r n come.0 ≡ Ok t) (let z : args.n ≡ 0 + args.n = omega arith in z) p.emulated.is);
+              short = (let b = few_besides (fills f) refl in omega (arith, y.4, b));
+              light = y.5;
+              quiet = quietly d only;
+              holds = holds_again f is known code s args back good t d p.totals w.framed p.emulated.agrees w.calm.stack w.block w.agree (λ a m. does_keeps Q a (elements_of f single wide aligned) c y.0 d y.2 (h.mapped a m)) w.bounded;
+              words = λ a q. only a (λ t. dest_frame a t (words_frame low a q)) (words_kept low (count_of kind.Accumulator f.vars) a known.few.accs q) (λ z. omega (arith, q.1, z.0));
+            },
+          )
+
+  -- ---- wherever they stand
+
+  more_steps : (besides t turn : ℕ) → besides + t * (2 + (turn + 1)) ≤ besides + t * (turn + 6)
+  more_steps besides t turn = (let m : t * (2 + (turn + 1)) ≤ t * (turn + 6) = mul-le-mul_left t (omega arith) in omega (arith, m))
+
+  pub does_flow : DoesRow f (flat (elements_of f single wide aligned))
+  does_flow code s args back good from stands r row e come c h points counter =
+      let y = row_does code s args back good r row e come c h points counter in
+      let l = y.3 in
+      let steps = more_steps (most_besides f) (turns (lanes f) args.n) (cost f + arrays_of f) in
+      let z = doing f code s args back good r 0 args.n (Wanted code s args back good r row) c (elements_of f single wide aligned) (fits_elements f is single wide aligned x).allowed from stands
+      (most_besides f + turns (lanes f) args.n * (cost f + arrays_of f + 6)) (turns (lanes f) args.n * some) y.0 y.1 y.2 (record { e = l.e; come = l.come; short = omega (arith, l.short, steps); light = l.light; quiet = l.quiet; holds = l.holds; words = l.words }) in
+      (z.0, λ full reached alone. z.2 (full, reached, alone))
+
+-- as the tree is built
+pub does_tree : (f : FunctionValue) → is_function f ≡ true → (tree : Tree) → IsElements f tree → DoesRow f (flat_of tree)
+does_tree f is tree (single, wide, aligned, turns, e) = subst (DoesRow f) (sym e) (does_flow f is single wide aligned turns)
