@@ -108,14 +108,6 @@ avgsl_eq σ h k = simp low_bit (simp or_low_bit (grind (arith, ints, nat_tests))
 pub avgul_eq : Computes Op.Avgul
 avgul_eq σ h k = simp low_bit (simp or_low_bit (grind (arith, nat_tests)))
 
--- ---- halves exchanged, and then the bytes of each half
-
-pub swapwl_eq : Computes Op.Swapwl
-swapwl_eq σ h k = omega arith
-
-pub swapl_eq : Computes Op.Swapl
-swapl_eq σ h k = omega arith
-
 -- ---- none: the result is the source
 
 pub copyl_eq : Computes Op.Copyl

@@ -1,3 +1,4 @@
 mod Equations
 mod Products
+mod Swaps
 pub mod Meet

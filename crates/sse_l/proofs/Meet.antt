@@ -14,6 +14,7 @@ use Rattle.sse_l.proofs.Equations.{Computes, ComputesByCount}
 use Rattle.sse_l.proofs.Equations as longs
 use Rattle.sse_l.proofs.Products.{ComputesTwice}
 use Rattle.sse_l.proofs.Products as products
+use Rattle.sse_l.proofs.Swaps as swaps
 
 -- on longs, and on longs by a count
 long : (op : Op) → all_lanewise 4 false (rule_of op) ≡ true → Computes op → OnLanes 4 (rule_of op) (first_result op)
@@ -64,7 +65,7 @@ meets Op.Storel t = record { vectors = refl; first = long Op.Storel refl longs.s
 meets Op.Subl t = record { vectors = refl; first = long Op.Subl refl longs.subl_eq; second = none Op.Subl; keeps = kept Op.Subl refl }
 meets Op.Subssl t = record { vectors = refl; first = long Op.Subssl refl longs.subssl_eq; second = none Op.Subssl; keeps = kept Op.Subssl refl }
 meets Op.Subusl t = record { vectors = refl; first = long Op.Subusl refl longs.subusl_eq; second = none Op.Subusl; keeps = kept Op.Subusl refl }
-meets Op.Swapl t = record { vectors = refl; first = long Op.Swapl refl longs.swapl_eq; second = none Op.Swapl; keeps = kept Op.Swapl refl }
-meets Op.Swapwl t = record { vectors = refl; first = long Op.Swapwl refl longs.swapwl_eq; second = none Op.Swapwl; keeps = kept Op.Swapwl refl }
+meets Op.Swapl t = record { vectors = refl; first = swaps.swapl_lanes; second = none Op.Swapl; keeps = kept Op.Swapl refl }
+meets Op.Swapwl t = record { vectors = refl; first = swaps.swapwl_lanes; second = none Op.Swapwl; keeps = kept Op.Swapwl refl }
 meets Op.Xorl t = record { vectors = refl; first = long Op.Xorl refl longs.xorl_eq; second = none Op.Xorl; keeps = kept Op.Xorl refl }
 meets _ t = absurd (false≢true t)

@@ -3,8 +3,9 @@ use Rattle.std.specs.Prelude.{List, [], ◌∷◌}
 use Rattle.orc_ops.specs.declared.opcode.Op.{Op}
 use Rattle.x86_ins.specs.declared.ins.VecOp.TheVariants as vec
 use Rattle.x86_ins.specs.declared.ins.VecImmOp.TheVariants as imm
+use Rattle.x86_ins.specs.declared.ins.ShuffleOp.TheVariants as shuffle
 use Rattle.x86_ins.specs.declared.ins.Ins.{Ins}
-use Rattle.x86_ins.specs.declared.ins.Ins.TheVariants.{Vec, VecImm}
+use Rattle.x86_ins.specs.declared.ins.Ins.TheVariants.{Vec, VecImm, Shuffle}
 
 -- the instructions of an opcode, none where it isn't one on longs
 abbrev pub rule_of : Op → List Ins
@@ -57,8 +58,8 @@ rule_of Op.Subssl = Vec vec.Movdqa 2 0 ∷ Vec vec.Psubd 0 1 ∷ Vec vec.Movdqa 
     ∷ Vec vec.Paddd 5 3 ∷ Vec vec.Pand 0 4 ∷ Vec vec.Pandn 4 5 ∷ Vec vec.Por 0 4 ∷ []
 rule_of Op.Subusl = Vec vec.Pcmpeqd 3 3 ∷ VecImm imm.Pslld 3 31 ∷ Vec vec.Movdqa 2 0 ∷ Vec vec.Paddd 2 3
     ∷ Vec vec.Paddd 3 1 ∷ Vec vec.Pcmpgtd 2 3 ∷ Vec vec.Psubd 0 1 ∷ Vec vec.Pand 0 2 ∷ []
-rule_of Op.Swapl = Vec vec.Movdqa 1 0 ∷ VecImm imm.Pslld 0 16 ∷ VecImm imm.Psrld 1 16 ∷ Vec vec.Paddd 0 1
-    ∷ Vec vec.Movdqa 1 0 ∷ VecImm imm.Psllw 0 8 ∷ VecImm imm.Psrlw 1 8 ∷ Vec vec.Paddw 0 1 ∷ []
-rule_of Op.Swapwl = Vec vec.Movdqa 1 0 ∷ VecImm imm.Pslld 0 16 ∷ VecImm imm.Psrld 1 16 ∷ Vec vec.Paddd 0 1 ∷ []
+rule_of Op.Swapl = Shuffle shuffle.Pshuflw 0 0 177 ∷ Shuffle shuffle.Pshufhw 0 0 177 ∷ Vec vec.Movdqa 1 0
+    ∷ VecImm imm.Psllw 0 8 ∷ VecImm imm.Psrlw 1 8 ∷ Vec vec.Paddw 0 1 ∷ []
+rule_of Op.Swapwl = Shuffle shuffle.Pshuflw 0 0 177 ∷ Shuffle shuffle.Pshufhw 0 0 177 ∷ []
 rule_of Op.Xorl = Vec vec.Pxor 0 1 ∷ []
 rule_of _ = []

@@ -8,7 +8,7 @@ ghost use Rattle.sse_l.specs.Rules.{rule_of};
 
 use orc_ops::Op;
 use sse_laws::Line;
-use x86_ins::{VecImmOp, VecOp};
+use x86_ins::{ShuffleOp, VecImmOp, VecOp};
 
 /// An operation on two registers, named by their numbers, the destination first.
 macro_rules! v {
@@ -18,6 +18,11 @@ macro_rules! v {
 /// A shift of a register's lanes by a fixed count.
 macro_rules! i {
     ($op:ident, $dst:literal, $count:literal) => { Line::VecImm(VecImmOp::$op, $dst, $count) };
+}
+
+/// A shuffle of the source by an order, into the destination.
+macro_rules! s {
+    ($op:ident, $dst:literal, $src:literal, $order:literal) => { Line::Shuffle(ShuffleOp::$op, $dst, $src, $order) };
 }
 
 /// The sequence of an opcode, none where it isn't one on longs. Sources are in XMM0 and XMM1, the result is in XMM0, and
@@ -204,21 +209,14 @@ pub(crate) fn lines(op: Op) -> &'static [Line]
             v!(Pand, 0, 2),
         ],
         Op::Swapl => &[
-            v!(Movdqa, 1, 0),
-            i!(Pslld, 0, 16),
-            i!(Psrld, 1, 16),
-            v!(Paddd, 0, 1),
+            s!(Pshuflw, 0, 0, 177),
+            s!(Pshufhw, 0, 0, 177),
             v!(Movdqa, 1, 0),
             i!(Psllw, 0, 8),
             i!(Psrlw, 1, 8),
             v!(Paddw, 0, 1),
         ],
-        Op::Swapwl => &[
-            v!(Movdqa, 1, 0),
-            i!(Pslld, 0, 16),
-            i!(Psrld, 1, 16),
-            v!(Paddd, 0, 1),
-        ],
+        Op::Swapwl => &[s!(Pshuflw, 0, 0, 177), s!(Pshufhw, 0, 0, 177)],
         Op::Xorl => &[v!(Pxor, 0, 1)],
         _ => &[],
     }

@@ -4,4 +4,5 @@ pub mod Ranges
 pub mod Runs
 pub mod Two
 pub mod Ways
+pub mod Words
 pub mod Formulas

@@ -27,8 +27,7 @@ rule_of Op.Splatw3q = Shuffle shuffle.Pshuflw 0 0 255 ∷ Shuffle shuffle.Pshufh
 rule_of Op.Storeq = []
 rule_of Op.Subq = Vec vec.Psubq 0 1 ∷ []
 rule_of Op.Swaplq = Shuffle shuffle.Pshufd 0 0 177 ∷ []
-rule_of Op.Swapq = Shuffle shuffle.Pshufd 0 0 177 ∷ Vec vec.Movdqa 1 0 ∷ VecImm imm.Pslld 0 16
-    ∷ VecImm imm.Psrld 1 16 ∷ Vec vec.Paddd 0 1 ∷ Vec vec.Movdqa 1 0 ∷ VecImm imm.Psllw 0 8 ∷ VecImm imm.Psrlw 1 8
-    ∷ Vec vec.Paddw 0 1 ∷ []
+rule_of Op.Swapq = Shuffle shuffle.Pshuflw 0 0 27 ∷ Shuffle shuffle.Pshufhw 0 0 27 ∷ Vec vec.Movdqa 1 0
+    ∷ VecImm imm.Psllw 0 8 ∷ VecImm imm.Psrlw 1 8 ∷ Vec vec.Paddw 0 1 ∷ []
 rule_of Op.Xorq = Vec vec.Pxor 0 1 ∷ []
 rule_of _ = []

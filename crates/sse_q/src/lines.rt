@@ -67,11 +67,8 @@ pub(crate) fn lines(op: Op) -> &'static [Line]
         Op::Subq => &[v!(Psubq, 0, 1)],
         Op::Swaplq => &[s!(Pshufd, 0, 0, 177)],
         Op::Swapq => &[
-            s!(Pshufd, 0, 0, 177),
-            v!(Movdqa, 1, 0),
-            i!(Pslld, 0, 16),
-            i!(Psrld, 1, 16),
-            v!(Paddd, 0, 1),
+            s!(Pshuflw, 0, 0, 27),
+            s!(Pshufhw, 0, 0, 27),
             v!(Movdqa, 1, 0),
             i!(Psllw, 0, 8),
             i!(Psrlw, 1, 8),

@@ -20,7 +20,7 @@ rule_of Op.Avguw = Vec vec.Pavgw 0 1 ∷ []
 rule_of Op.Cmpeqw = Vec vec.Pcmpeqw 0 1 ∷ []
 rule_of Op.Cmpgtsw = Vec vec.Pcmpgtw 0 1 ∷ []
 rule_of Op.Copyw = []
-rule_of Op.Div255w = Vec vec.Pcmpeqw 1 1 ∷ VecImm imm.Psrlw 1 15 ∷ VecImm imm.Psllw 1 7 ∷ Vec vec.Paddw 0 1
+rule_of Op.Div255w = Vec vec.Pcmpeqw 1 1 ∷ VecImm imm.Psllw 1 7 ∷ Vec vec.Psubw 0 1
     ∷ Vec vec.Movdqa 1 0 ∷ VecImm imm.Psrlw 1 8 ∷ Vec vec.Paddw 0 1 ∷ VecImm imm.Psrlw 0 8 ∷ []
 rule_of Op.Divluw = VecImm imm.Psllw 1 8 ∷ VecImm imm.Psrlw 1 8 ∷ Vec vec.Pxor 4 4 ∷ Vec vec.Pxor 5 5
     ∷ Vec vec.Movdqa 2 1 ∷ VecImm imm.Psllw 2 7 ∷ Vec vec.Movdqa 3 2 ∷ Vec vec.Psubusw 3 0 ∷ Vec vec.Pcmpeqw 3 4

@@ -49,9 +49,8 @@ pub(crate) fn lines(op: Op) -> &'static [Line]
         Op::Copyw => &[],
         Op::Div255w => &[
             v!(Pcmpeqw, 1, 1),
-            i!(Psrlw, 1, 15),
             i!(Psllw, 1, 7),
-            v!(Paddw, 0, 1),
+            v!(Psubw, 0, 1),
             v!(Movdqa, 1, 0),
             i!(Psrlw, 1, 8),
             v!(Paddw, 0, 1),

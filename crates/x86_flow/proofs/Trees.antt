@@ -1,5 +1,5 @@
 -- The bytes of a tree of structured code, from those of its parts.
-use Rattle.std.proofs.Common.{◌≡◌, ℕ, zero, suc, ◌+◌, ◌<◌, ◌≤◌, pos, negsuc, List, [], ◌∷◌, ◌++◌, length, map, take, get_or, OnOk, Result, Ok, Err, sym, ap, ◌∙◌, arith, refl, ap₂, append_assoc, append-nil}
+use Rattle.std.proofs.Common.{◌≡◌, ℕ, zero, suc, ◌+◌, ◌<◌, ◌≤◌, pos, List, [], ◌∷◌, ◌++◌, length, map, take, get_or, OnOk, Result, Ok, Err, sym, ap, ◌∙◌, arith, refl, ap₂, append_assoc, append-nil}
 use Rattle.std.proofs.lemmas.List.{take_more}
 use Rattle.x86_ins.specs.declared.ins.Ins.{Ins}
 use Rattle.x86_ins.specs.declared.ins.Ins.TheVariants.{Jump, JumpIf}
@@ -10,7 +10,7 @@ use Rattle.x86_flow.specs.declared.tree.Flow.{Flow}
 use Rattle.x86_flow.specs.declared.tree.Flow.TheVariants as tree
 use Rattle.x86_flow.specs.declared.tree.Flow.TheFolds.{fold-roll-Flow}
 use Rattle.x86_flow.specs.declared.tree.Flow.TheOpen.{Flow-F}
-use Rattle.x86_flow.specs.Flow.{spell_all, size, opposite, choice_code, loop_code}
+use Rattle.x86_flow.specs.Flow.{spell_all, size, enter_jump, again_jump, choice_code, loop_code}
 use Rattle.x86_flow.specs.Tree.{flat_at, flat_of, all_behind}
 use Rattle.x86_flow.proofs.Ways.{spell_append}
 use Rattle.x86_flow.proofs.Appends.{one_more}
@@ -59,8 +59,12 @@ part_bytes part bytes code old a b e = a ∙ b ∙ ap (λ o. o ++ spell_all (fla
 choice_spelled : (q : Cond) (one two : List Ins) → spell_all (choice_code q one two) ≡ spelling (JumpIf q (pos (size two + 5))) ++ (spell_all two ++ (spelling (Jump (pos (size one))) ++ spell_all one))
 choice_spelled q one two = ap (λ l. spelling (JumpIf q (pos (size two + 5))) ++ l) (spell_append two (Jump (pos (size one)) ∷ one))
 
-loop_spelled : (q : Cond) (body : List Ins) → spell_all (loop_code q body) ≡ spelling (JumpIf (opposite q) (pos (size body + 5))) ++ (spell_all body ++ spelling (Jump (negsuc (size body + 10))))
-loop_spelled q body = ap (λ l. spelling (JumpIf (opposite q) (pos (size body + 5))) ++ l) (one_more body (Jump (negsuc (size body + 10))))
+-- the bytes of a loop around bytes
+abbrev pub loop_bytes : Cond → List ℕ → List ℕ
+loop_bytes q turn = spelling (enter_jump q (length turn)) ++ (turn ++ spelling (again_jump q (length turn)))
+
+pub loop_spelled : (q : Cond) (body : List Ins) → spell_all (loop_code q body) ≡ loop_bytes q (spell_all body)
+loop_spelled q body = ap (λ l. spelling (enter_jump q (size body)) ++ l) (one_more body (again_jump q (size body)))
 
 on_ok : {A E : Type 0} (r : Result A E) (P Q : Type 0) → (P → Q) → OnOk r P → OnOk r Q
 on_ok (Ok x) P Q f h = f h
@@ -76,11 +80,11 @@ choice_whole r flow one two q base code a b e y n h = on_ok r _ _ whole h
         ∙ ap (λ l. base ++ l) (sym (choice_spelled q (flat_of one) (flat_of two))) ∙ ap (λ f. base ++ spell_all f) (sym (ap flat_of e ∙ flat_choice q one two))
 
 pub loop_whole : {E : Type 0} (r : Result Unit E) (flow body : Flow) (q : Cond) (base code turn : List ℕ) → flow ≡ tree.Repeat q body → turn ≡ spell_all (flat_of body)
-    → OnOk r (code ≡ base ++ (spelling (JumpIf (opposite q) (pos (length turn + 5))) ++ (turn ++ spelling (Jump (negsuc (length turn + 10)))))) → OnOk r (code ≡ base ++ spell_all (flat_of flow))
+    → OnOk r (code ≡ base ++ loop_bytes q turn) → OnOk r (code ≡ base ++ spell_all (flat_of flow))
 loop_whole r flow body q base code turn e t h = on_ok r _ _ whole h
   where
-    whole : code ≡ base ++ (spelling (JumpIf (opposite q) (pos (length turn + 5))) ++ (turn ++ spelling (Jump (negsuc (length turn + 10))))) → code ≡ base ++ spell_all (flat_of flow)
-    whole w = w ∙ ap (λ l. base ++ (spelling (JumpIf (opposite q) (pos (length l + 5))) ++ (l ++ spelling (Jump (negsuc (length l + 10)))))) t
+    whole : code ≡ base ++ loop_bytes q turn → code ≡ base ++ spell_all (flat_of flow)
+    whole w = w ∙ ap (λ l. base ++ loop_bytes q l) t
         ∙ ap (λ l. base ++ l) (sym (loop_spelled q (flat_of body))) ∙ ap (λ f. base ++ spell_all f) (sym (ap flat_of e ∙ flat_repeat q body))
 
 -- ---- trees that are made

@@ -34,9 +34,17 @@ opposite conds.Ge = conds.L
 opposite conds.Le = conds.G
 opposite conds.G = conds.Le
 
--- a loop: a jump past the end, the body, and a jump back to the test
+-- the test before a loop around so many bytes: a jump past its end where the condition doesn't hold
+abbrev pub enter_jump : Cond → ℕ → Ins
+enter_jump q bytes = JumpIf (opposite q) (pos (bytes + 6))
+
+-- the test behind each turn: a jump back to its first byte where the condition holds
+abbrev pub again_jump : Cond → ℕ → Ins
+again_jump q bytes = JumpIf q (negsuc (bytes + 5))
+
+-- a loop, with the one test before the body and the other behind it
 abbrev pub loop_code : Cond → List Ins → List Ins
-loop_code q body = JumpIf (opposite q) (pos (size body + 5)) ∷ (body ++ Jump (negsuc (size body + 10)) ∷ [])
+loop_code q body = enter_jump q (size body) ∷ (body ++ again_jump q (size body) ∷ [])
 
 abbrev pub choice_code : Cond → List Ins → List Ins → List Ins
 choice_code q one two = JumpIf q (pos (size two + 5)) ∷ (two ++ (Jump (pos (size one)) ∷ one))

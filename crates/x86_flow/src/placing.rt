@@ -3,7 +3,7 @@
 ghost use Rattle.std.specs.Prelude.{◌≡◌, ◌<◌, ◌+◌, ◌++◌, All, OnOk, IsTrue, length, pos, negsuc};
 ghost use Rattle.x86_ins.specs.Spelling.{spelling, has_spelling};
 ghost use Rattle.x86_ins.specs.declared.ins.Ins.TheVariants.{JumpIf, Jump};
-ghost use Rattle.x86_flow.specs.Flow.{spell_all, opposite};
+ghost use Rattle.x86_flow.specs.Flow.{spell_all, opposite, enter_jump, again_jump};
 
 use std::alloc::AllocError;
 use x86_encode::encode;
@@ -28,25 +28,14 @@ pub fn put_list(code: &mut Vec<u8>, list: &[Ins]) -> Result<(), AllocError>
     Ok(())
 }
 
-/// Appends a loop around the bytes of its turn, which is done while the condition holds.
+/// Appends a loop around the bytes of its turn, which is done while the condition holds: a jump past it where that doesn't hold at first, and behind the turn a jump back to it where that still holds.
 pub fn put_loop(code: &mut Vec<u8>, cond: Cond, turn: &[u8]) -> Result<(), AllocError>
     requires { length turn.now < 2000000000 }
-    ensures { OnOk result (code.new.items ≡ code.old.items ++ (spelling (JumpIf (opposite cond) (pos (length turn.now + 5))) ++ (turn.now ++ spelling (Jump (negsuc (length turn.now + 10)))))) }
+    ensures { OnOk result (code.new.items ≡ code.old.items ++ (spelling (enter_jump cond (length turn.now)) ++ (turn.now ++ spelling (again_jump cond (length turn.now))))) }
 {
-    put(
-        code,
-        &Ins::JumpIf {
-            cond: opposite(cond),
-            rel: ahead(turn.len()),
-        },
-    )?;
+    put(code, &enter_jump(cond, turn.len()))?;
     code.extend_from_slice(turn)?;
-    put(
-        code,
-        &Ins::Jump {
-            rel: behind(turn.len()),
-        },
-    )
+    put(code, &again_jump(cond, turn.len()))
 }
 
 /// Appends a choice between bytes: the first where the condition holds, and else the second.
@@ -92,7 +81,7 @@ pub fn opposite(cond: Cond) -> Cond
     }
 }
 
-/// The distance over a turn of so many bytes and the jump behind it.
+/// The distance over so many bytes and a jump behind them.
 fn ahead(size: usize) -> i32
     requires { size < 2000000000 }
     ensures { result ≡ pos (size + 5) }
@@ -100,10 +89,24 @@ fn ahead(size: usize) -> i32
     size as i32 + 5
 }
 
-/// The distance back to the test.
-fn behind(size: usize) -> i32
+/// The test before a loop around so many bytes: a jump past its end where the condition doesn't hold.
+fn enter_jump(cond: Cond, size: usize) -> Ins
     requires { size < 2000000000 }
-    ensures { result ≡ negsuc (size + 10) }
+    ensures { result ≡ enter_jump cond size }
 {
-    -(size as i32 + 11)
+    Ins::JumpIf {
+        cond: opposite(cond),
+        rel: size as i32 + 6,
+    }
+}
+
+/// The test behind each turn: a jump back to its first byte where the condition holds.
+fn again_jump(cond: Cond, size: usize) -> Ins
+    requires { size < 2000000000 }
+    ensures { result ≡ again_jump cond size }
+{
+    Ins::JumpIf {
+        cond,
+        rel: -(size as i32 + 6),
+    }
 }

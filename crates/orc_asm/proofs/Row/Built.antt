@@ -1,12 +1,13 @@
 -- The lists around rows, built one instruction or one slot after another.
-use Rattle.std.proofs.Common.{◌≡◌, ℕ, suc, ◌+◌, ◌<◌, ◌≤◌, Bool, pos, negsuc, length, All, IsTrue, subst, List, [], ◌∷◌, ◌++◌, sym, ap, ◌∙◌, arith, append-nil, append_assoc}
+use Rattle.std.proofs.Common.{◌≡◌, ℕ, suc, ◌+◌, ◌<◌, ◌≤◌, Bool, pos, length, All, IsTrue, subst, List, [], ◌∷◌, ◌++◌, sym, ap, ◌∙◌, arith, append-nil, append_assoc}
 use Rattle.x86_ins.specs.declared.ins.AluOp.TheVariants.{Sub}
 use Rattle.x86_ins.specs.declared.ins.Ins.{Ins}
-use Rattle.x86_ins.specs.declared.ins.Cond.TheVariants.{Ne, E}
-use Rattle.x86_ins.specs.declared.ins.Ins.TheVariants.{Load, Store, AluImm, Test, Jump, JumpIf, Ret}
+use Rattle.x86_ins.specs.declared.ins.Cond.TheVariants.{Ne}
+use Rattle.x86_ins.specs.declared.ins.Ins.TheVariants.{Load, Store, AluImm, Test, Ret}
 use Rattle.x86_ins.specs.Spelling.{has_spelling, spelling}
 use Rattle.x86_flow.specs.Flow.{Plain, flat, size, spell_all, loop_code}
 use Rattle.x86_flow.proofs.Ways.{spell_append}
+use Rattle.x86_flow.proofs.Trees.{loop_bytes, loop_spelled}
 use Rattle.x86_flow.proofs.Spelled.{all_spelled}
 use Rattle.x86_flow.specs.Moves.{away}
 use Rattle.orc_asm.specs.declared.rows.SlotCode.{SlotCode}
@@ -50,13 +51,6 @@ step_whole base a b c d dests sources n p q r s =
 one_more : (a : List Ins) (i : Ins) → spell_all (a ++ i ∷ []) ≡ spell_all a ++ spelling i
 one_more a i = spell_append a (i ∷ []) ∙ ap (λ l. spell_all a ++ l) (append-nil (spelling i))
 
--- the bytes of a loop around these
-abbrev looped : List ℕ → List ℕ
-looped t = spelling (JumpIf E (pos (length t + 5))) ++ (t ++ spelling (Jump (negsuc (length t + 10))))
-
-loop_spelled : (turn : List Ins) → spell_all (loop_code Ne turn) ≡ looped (spell_all turn)
-loop_spelled turn = ap (λ l. spelling (JumpIf E (pos (size turn + 5))) ++ l) (one_more turn (Jump (negsuc (size turn + 10))))
-
 pub row_assembled : (enter elements leave : List Ins) (c0 c1 c2 c3 : List ℕ) → c0 ≡ [] → c1 ≡ c0 ++ spell_all enter → c2 ≡ c1 ++ spell_all elements → c3 ≡ c2 ++ spell_all leave → c3 ≡ spell_all (enter ++ (elements ++ leave))
 row_assembled enter elements leave c0 c1 c2 c3 h0 h1 h2 h3 =
     let a = spell_all enter in
@@ -66,7 +60,7 @@ row_assembled enter elements leave c0 c1 c2 c3 h0 h1 h2 h3 =
     let second : c2 ≡ a ++ b = h2 ∙ ap (λ l. l ++ b) first in
     h3 ∙ ap (λ l. l ++ c) second ∙ append_assoc a b c ∙ sym (spell_append enter (elements ++ leave) ∙ ap (λ l. a ++ l) (spell_append elements leave))
 
-pub whole_assembled : (first starts body last : List Ins) (t c0 c1 c2 c3 c4 c5 : List ℕ) → t ≡ spell_all body → c0 ≡ [] → c1 ≡ c0 ++ spell_all first → c2 ≡ c1 ++ spell_all starts → c3 ≡ c2 ++ looped t → c4 ≡ c3 ++ spell_all last → c5 ≡ c4 ++ spelling Ret
+pub whole_assembled : (first starts body last : List Ins) (t c0 c1 c2 c3 c4 c5 : List ℕ) → t ≡ spell_all body → c0 ≡ [] → c1 ≡ c0 ++ spell_all first → c2 ≡ c1 ++ spell_all starts → c3 ≡ c2 ++ loop_bytes Ne t → c4 ≡ c3 ++ spell_all last → c5 ≡ c4 ++ spelling Ret
     → c5 ≡ spell_all ((first ++ ((starts ++ loop_code Ne body) ++ last)) ++ Ret ∷ [])
 whole_assembled first starts body last t c0 c1 c2 c3 c4 c5 ht h0 h1 h2 h3 h4 h5 =
     let a = spell_all first in
@@ -75,7 +69,7 @@ whole_assembled first starts body last t c0 c1 c2 c3 c4 c5 ht h0 h1 h2 h3 h4 h5 
     let d = spell_all last in
     let one : c1 ≡ a = h1 ∙ ap (λ l. l ++ a) h0 in
     let two : c2 ≡ a ++ b = h2 ∙ ap (λ l. l ++ b) one in
-    let three : c3 ≡ a ++ (b ++ c) = h3 ∙ ap (λ l. l ++ looped t) two ∙ ap (λ l. (a ++ b) ++ l) (ap looped ht ∙ sym (loop_spelled body)) ∙ append_assoc a b c in
+    let three : c3 ≡ a ++ (b ++ c) = h3 ∙ ap (λ l. l ++ loop_bytes Ne t) two ∙ ap (λ l. (a ++ b) ++ l) (ap (loop_bytes Ne) ht ∙ sym (loop_spelled Ne body)) ∙ append_assoc a b c in
     let four : c4 ≡ a ++ ((b ++ c) ++ d) = h4 ∙ ap (λ l. l ++ d) three ∙ append_assoc a (b ++ c) d in
     let middle : spell_all ((starts ++ loop_code Ne body) ++ last) ≡ (b ++ c) ++ d = spell_append (starts ++ loop_code Ne body) last ∙ ap (λ l. l ++ d) (spell_append starts (loop_code Ne body)) in
     h5 ∙ ap (λ l. l ++ spelling Ret) (four ∙ sym (spell_append first ((starts ++ loop_code Ne body) ++ last) ∙ ap (λ l. a ++ l) middle)) ∙ sym (one_more (first ++ ((starts ++ loop_code Ne body) ++ last)) Ret)

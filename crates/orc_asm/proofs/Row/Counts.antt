@@ -1,17 +1,17 @@
 -- The instructions of the lists around rows: they are allowed, and few.
-use Rattle.std.proofs.Common.{◌≡◌, ℕ, zero, suc, ◌+◌, ◌*◌, ◌^◌, ◌<◌, ◌≤◌, Bool, true, false, if◌then◌else◌, pos, negsuc, List, [], ◌∷◌, ◌++◌, length, refl, ap, ◌∙◌, arith, suc-mul, length-append}
+use Rattle.std.proofs.Common.{◌≡◌, ℕ, zero, suc, ◌+◌, ◌*◌, ◌^◌, ◌<◌, ◌≤◌, Bool, true, false, if◌then◌else◌, pos, List, ◌++◌, length, refl, ap, arith, suc-mul, length-append}
 use Rattle.x86_ins.specs.declared.ins.AluOp.TheVariants.{Add, Sub}
-use Rattle.x86_ins.specs.declared.ins.Cond.TheVariants.{Ne, E}
+use Rattle.x86_ins.specs.declared.ins.Cond.TheVariants.{Ne}
 use Rattle.x86_ins.specs.declared.ins.Ins.{Ins}
-use Rattle.x86_ins.specs.declared.ins.Ins.TheVariants.{Load, Store, MovImm, Alu, Jump, JumpIf}
+use Rattle.x86_ins.specs.declared.ins.Ins.TheVariants.{Load, Store, MovImm, Alu}
 use Rattle.x86_ins.specs.Spelling.{IsAllowed, spelling, reg_form, plus_form}
 use Rattle.x86_ins.specs.Way.{Each}
-use Rattle.x86_flow.specs.Flow.{Flow, flat, spell_all, size, loop_code}
+use Rattle.x86_flow.specs.Flow.{Flow, flat, size, loop_code}
 use Rattle.x86_flow.specs.Moves.{away}
-use Rattle.x86_flow.proofs.Ways.{spell_append}
+use Rattle.x86_flow.proofs.Shapes.{size_both, loop_size, loop_fine}
 use Rattle.x86_flow.proofs.Plans.{weigh, weigh_append}
 use Rattle.x86_flow.specs.Touching.{touch_weight}
-use Rattle.x86_flow.proofs.Spelled.{IsFine, fine_load, fine_store, fine_alu_imm, fine_test, fits_up, fits_down, each_both, all_allowed, size_within}
+use Rattle.x86_flow.proofs.Spelled.{IsFine, fine_load, fine_store, fine_alu_imm, fine_test, fits_up, each_both, all_allowed, size_within}
 use Rattle.orc_region.specs.Code.{pointer}
 use Rattle.orc_frame.specs.Layout.{row_slot, rows_slot}
 use Rattle.orc_frame.specs.Parts.{rows_word, base_word, stride_word}
@@ -124,19 +124,6 @@ module _ (dests sources : ℕ) where
 
     -- ---- the whole
 
-    pub size_both : (a b : List Ins) → size (a ++ b) ≡ size a + size b
-    size_both a b = ap length (spell_append a b) ∙ length-append (spell_all a) (spell_all b)
-
-    pub loop_bytes : (body : List Ins) → size (loop_code Ne body) ≡ size body + 11
-    unfolding spelling
-    loop_bytes body = omega (arith, length-append (spelling (JumpIf E (pos (size body + 5)))) (spell_all (body ++ Jump (negsuc (size body + 10)) ∷ [])), size_both body (Jump (negsuc (size body + 10)) ∷ []))
-
-    pub loop_allowed : (body : List Ins) → size body ≤ 1000000 → Each IsAllowed body → Each IsAllowed (loop_code Ne body)
-    loop_allowed body few h = (
-      (fits_up (size body + 5) (omega (arith, few)), refl),
-      each_both IsAllowed body (Jump (negsuc (size body + 10)) ∷ []) h ((fits_down (size body + 10) (omega (arith, few)), refl), tt),
-    )
-
     module _ (elements : Flow) where
       pub row_bytes : size (flat (row_flow elements dests sources)) ≤ size (flat elements) + 715
       row_bytes =
@@ -155,11 +142,11 @@ module _ (dests sources : ℕ) where
           )
 
       -- the code of rows has few bytes more than that of a row's elements
-      pub rows_bytes : (two_d : Bool) → size (flat (rows_flow elements two_d dests sources)) ≤ size (flat elements) + 1023
+      pub rows_bytes : (two_d : Bool) → size (flat (rows_flow elements two_d dests sources)) ≤ size (flat elements) + 1024
       rows_bytes two_d =
           let first = rows_code two_d dests sources in
           let body = flat (row_flow elements dests sources) in
-          omega (arith, size_both first (loop_code Ne body), loop_bytes body, row_bytes, size_within first (fine_rows two_d), rows_count two_d, few_dests, few_sources)
+          omega (arith, size_both first (loop_code Ne body), loop_size Ne body, row_bytes, size_within first (fine_rows two_d), rows_count two_d, few_dests, few_sources)
 
       -- and is allowed where that is
       pub rows_allowed : (two_d : Bool) → size (flat elements) ≤ 900000 → Each IsAllowed (flat elements) → Each IsAllowed (flat (rows_flow elements two_d dests sources))
@@ -168,4 +155,4 @@ module _ (dests sources : ℕ) where
           let go_on = row_step_code dests sources in
           let body = flat (row_flow elements dests sources) in
           let all : Each IsAllowed body = each_both IsAllowed enter (flat elements ++ go_on) (all_allowed enter fine_row_entry) (each_both IsAllowed (flat elements) go_on h (all_allowed go_on fine_row_step)) in
-          each_both IsAllowed (rows_code two_d dests sources) (loop_code Ne body) (all_allowed (rows_code two_d dests sources) (fine_rows two_d)) (loop_allowed body (omega (arith, row_bytes, few)) all)
+          each_both IsAllowed (rows_code two_d dests sources) (loop_code Ne body) (all_allowed (rows_code two_d dests sources) (fine_rows two_d)) (loop_fine Ne body (omega (arith, row_bytes, few)) all)

@@ -199,7 +199,7 @@ few_shifts false false false = omega arith
 shift_few : (bytes : ℕ) → shift_of bytes ≤ 3
 shift_few bytes = few_shifts (bytes == 8) (bytes == 4) (bytes == 2)
 
-fits_loop : (list : List Ins) → Fits 200000 list → Fits 200011 (loop_code Ns list)
+fits_loop : (list : List Ins) → Fits 200000 list → Fits 200012 (loop_code Ns list)
 fits_loop list h = (let b = h.bytes in record { allowed = loop_fine Ns list (omega (arith, b)) h.allowed; bytes = omega (arith, loop_size Ns list, b) })
 
 -- they are allowed, and are few
@@ -220,10 +220,10 @@ fits_elements f h single wide aligned t = go (is_filled (count_of kind.Dest f.va
 
     go : (b : Bool) → is_filled (count_of kind.Dest f.vars) (lanes f) (size_of_slot f.vars 0) ≡ b → Fits 900000 (flat (elements_of f single wide aligned))
     go true e =
-        let fits = fits_aligned (Plain single) (Repeat Ns (Plain wide)) (Repeat Ns (Plain aligned)) (lanes f) 200000 200011 200011 most (omega arith) (omega arith) (omega arith) fits_one (fits_loop wide fits_more) (fits_loop aligned (fits_stored (t.stored e))) (shift_of (size_of_slot f.vars 0)) (shift_few (size_of_slot f.vars 0)) in
+        let fits = fits_aligned (Plain single) (Repeat Ns (Plain wide)) (Repeat Ns (Plain aligned)) (lanes f) 200000 200012 200012 most (omega arith) (omega arith) (omega arith) fits_one (fits_loop wide fits_more) (fits_loop aligned (fits_stored (t.stored e))) (shift_of (size_of_slot f.vars 0)) (shift_few (size_of_slot f.vars 0)) in
         subst (λ b. Fits 900000 (flat (elements_flow b (shift_of (size_of_slot f.vars 0)) (lanes f) single wide aligned))) (sym e) (record { allowed = fits.allowed; bytes = (let b = fits.bytes in omega (arith, b)) })
     go false e =
-        let fits = fits_plain (Plain single) (Repeat Ns (Plain wide)) (Repeat Ns (Plain wide)) (lanes f) 200000 200011 200011 most (omega arith) (omega arith) (omega arith) fits_one (fits_loop wide fits_more) (fits_loop wide fits_more) in
+        let fits = fits_plain (Plain single) (Repeat Ns (Plain wide)) (Repeat Ns (Plain wide)) (lanes f) 200000 200012 200012 most (omega arith) (omega arith) (omega arith) fits_one (fits_loop wide fits_more) (fits_loop wide fits_more) in
         subst (λ b. Fits 900000 (flat (elements_flow b (shift_of (size_of_slot f.vars 0)) (lanes f) single wide aligned))) (sym e) (record { allowed = fits.allowed; bytes = (let b = fits.bytes in omega (arith, b)) })
 
 pub elements_few : (f : FunctionValue) → is_function f ≡ true → (t : Tree) → IsElements f t → size (flat_of t) ≤ 900000

@@ -60,29 +60,29 @@ fine_count : (op : AluOp) (n : ℕ) → n ≤ 64 → IsFine (AluImm op 1 (pos n)
 fine_count op n l = fine_alu_imm op 1 (pos n) (omega arith) (fits_up n (omega (arith, l)))
 
 module _ (single wide aligned : Flow) (lanes s w a : ℕ) (most : lanes ≤ 64) (few_single : s ≤ 1000000) (few_wide : w ≤ 1000000) (few_aligned : a ≤ 1000000) (is_single : Fits s (flat single)) (is_wide : Fits w (flat wide)) (is_aligned : Fits a (flat aligned)) where
-  fits_singles : Fits (s + 11) (loop_code Ne (flat single))
+  fits_singles : Fits (s + 12) (loop_code Ne (flat single))
   fits_singles = (let b = is_single.bytes in record { allowed = loop_fine Ne (flat single) (omega (arith, b, few_single)) is_single.allowed; bytes = omega (arith, loop_size Ne (flat single), b) })
 
-  fits_tail : Fits (s + 22) (flat (tail_flow lanes single))
+  fits_tail : Fits (s + 23) (flat (tail_flow lanes single))
   fits_tail =
-      let x = fits_both 11 (s + 11) (AluImm Add 1 (pos lanes) ∷ []) (loop_code Ne (flat single)) (fits_list (AluImm Add 1 (pos lanes) ∷ []) 1 (omega arith) (fine_count Add lanes most, tt)) fits_singles in
+      let x = fits_both 11 (s + 12) (AluImm Add 1 (pos lanes) ∷ []) (loop_code Ne (flat single)) (fits_list (AluImm Add 1 (pos lanes) ∷ []) 1 (omega arith) (fine_count Add lanes most, tt)) fits_singles in
       record { allowed = x.allowed; bytes = (let b = x.bytes in omega (arith, b)) }
 
   -- a row without aligned stores
-  pub fits_plain : Fits (s + w + 33) (flat (plain_row lanes single wide))
+  pub fits_plain : Fits (s + w + 34) (flat (plain_row lanes single wide))
   fits_plain =
       let first = fits_list (AluImm Sub 1 (pos lanes) ∷ []) 1 (omega arith) (fine_count Sub lanes most, tt) in
-      let x = fits_both 11 (w + (s + 22)) (AluImm Sub 1 (pos lanes) ∷ []) (flat wide ++ flat (tail_flow lanes single)) first (fits_both w (s + 22) (flat wide) (flat (tail_flow lanes single)) is_wide fits_tail) in
+      let x = fits_both 11 (w + (s + 23)) (AluImm Sub 1 (pos lanes) ∷ []) (flat wide ++ flat (tail_flow lanes single)) first (fits_both w (s + 23) (flat wide) (flat (tail_flow lanes single)) is_wide fits_tail) in
       record { allowed = x.allowed; bytes = (let b = x.bytes in omega (arith, b)) }
 
-  fits_reached : Fits (s + a + 66) (flat (reached_flow single aligned))
+  fits_reached : Fits (s + a + 67) (flat (reached_flow single aligned))
   fits_reached =
       let far = fits_up left_slot (omega arith) in
       let enter = fits_list enter_head_code 3 (omega arith) (fine_store 1 (away 4 left_slot) (omega arith) (omega arith) far, (fine_move 1 0 (omega arith) (omega arith), (fine_test 1 1 (omega arith) (omega arith), tt))) in
       let leave = fits_list leave_head_code 2 (omega arith) (fine_load 1 (away 4 left_slot) (omega arith) (omega arith) far, (fine_test 1 1 (omega arith) (omega arith), tt)) in
       let body = fits_both 22 a leave_head_code (flat aligned) leave is_aligned in
-      let turns = fits_both (s + 11) (22 + a) (loop_code Ne (flat single)) (leave_head_code ++ flat aligned) fits_singles body in
-      let x = fits_both 33 (s + 11 + (22 + a)) enter_head_code (loop_code Ne (flat single) ++ (leave_head_code ++ flat aligned)) enter turns in
+      let turns = fits_both (s + 12) (22 + a) (loop_code Ne (flat single)) (leave_head_code ++ flat aligned) fits_singles body in
+      let x = fits_both 33 (s + 12 + (22 + a)) enter_head_code (loop_code Ne (flat single) ++ (leave_head_code ++ flat aligned)) enter turns in
       record { allowed = x.allowed; bytes = (let b = x.bytes in omega (arith, b)) }
 
   fits_unreached : Fits (w + 11) (flat (unreached_flow wide))
@@ -90,7 +90,7 @@ module _ (single wide aligned : Flow) (lanes s w a : ℕ) (most : lanes ≤ 64) 
       let x = fits_both 11 w (Alu Add 1 0 ∷ []) (flat wide) (fits_list (Alu Add 1 0 ∷ []) 1 (omega arith) (fine_alu Add 1 0 (omega arith) (omega arith), tt)) is_wide in
       record { allowed = x.allowed; bytes = (let b = x.bytes in omega (arith, b)) }
 
-  fits_ways : Fits (s + a + w + 88) (choice_code Ns (flat (reached_flow single aligned)) (flat (unreached_flow wide)))
+  fits_ways : Fits (s + a + w + 89) (choice_code Ns (flat (reached_flow single aligned)) (flat (unreached_flow wide)))
   fits_ways =
       let b = fits_reached.bytes in
       let c = fits_unreached.bytes in
@@ -100,11 +100,11 @@ module _ (single wide aligned : Flow) (lanes s w a : ℕ) (most : lanes ≤ 64) 
       }
 
   -- a row whose first dest has elements of 2 ^ k bytes
-  pub fits_aligned : (k : ℕ) → k ≤ 3 → Fits (2 * s + a + w + 220) (flat (aligned_row k lanes single wide aligned))
+  pub fits_aligned : (k : ℕ) → k ≤ 3 → Fits (2 * s + a + w + 222) (flat (aligned_row k lanes single wide aligned))
   fits_aligned k l =
       let ways = choice_code Ns (flat (reached_flow single aligned)) (flat (unreached_flow wide)) in
       let behind = fits_list (behind_code lanes) 2 (omega arith) (fine_alu Sub 1 0 (omega arith) (omega arith), (fine_count Sub lanes most, tt)) in
-      let turns = fits_both (s + a + w + 88) (s + 22) ways (flat (tail_flow lanes single)) fits_ways fits_tail in
-      let counted = fits_both 22 (s + a + w + 88 + (s + 22)) (behind_code lanes) (ways ++ flat (tail_flow lanes single)) behind turns in
-      let x = fits_both 88 (22 + (s + a + w + 88 + (s + 22))) (flat (gap_flow k)) (behind_code lanes ++ (ways ++ flat (tail_flow lanes single))) (fits_gap k l) counted in
+      let turns = fits_both (s + a + w + 89) (s + 23) ways (flat (tail_flow lanes single)) fits_ways fits_tail in
+      let counted = fits_both 22 (s + a + w + 89 + (s + 23)) (behind_code lanes) (ways ++ flat (tail_flow lanes single)) behind turns in
+      let x = fits_both 88 (22 + (s + a + w + 89 + (s + 23))) (flat (gap_flow k)) (behind_code lanes ++ (ways ++ flat (tail_flow lanes single))) (fits_gap k l) counted in
       record { allowed = x.allowed; bytes = (let b = x.bytes in omega (arith, b)) }
