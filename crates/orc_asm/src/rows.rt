@@ -281,7 +281,7 @@ pub fn whole_code(
     requires layout { IsLayout layout.now }
     requires first_spelled { All (λ i. IsTrue (has_spelling i)) first.now }
     requires last_spelled { All (λ i. IsTrue (has_spelling i)) last.now }
-    requires few { size (flat_of elements.now) ≤ 900000 }
+    requires few { size (flat_of elements.now) ≤ 960000 }
     requires dests { dests ≤ 4 }
     requires sources { sources ≤ 8 }
     ensures { IfOk result (λ code. code ≡ spell_all (with_return (whole_flow first.now (Plain (flat_of elements.now)) last.now layout.now.two_d dests sources))) }

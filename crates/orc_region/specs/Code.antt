@@ -22,10 +22,9 @@ use Rattle.orc_plan.specs.declared.steps.Step.{Step}
 use Rattle.orc_plan.specs.Places.{GoodPlaces}
 use Rattle.orc_plan.specs.Lowered.{steps_of}
 use Rattle.orc_region.specs.declared.span.Span.{Span}
-use Rattle.orc_region.specs.Regions.{aligned_row, plain_row}
-use Rattle.x86_ins.specs.declared.ins.Cond.TheVariants.{Ns}
+use Rattle.orc_region.specs.Regions.{aligned_row, plain_row, wide_loop, wide_loops}
 use Rattle.x86_flow.specs.declared.tree.Flow.{Flow as Tree}
-use Rattle.x86_flow.specs.Flow.{Flow, Plain, Repeat, flat}
+use Rattle.x86_flow.specs.Flow.{Flow, Plain, flat}
 use Rattle.x86_flow.specs.Moves.{IsWidth, away, load_far_code, store_either_code}
 use Rattle.x86_flow.specs.Tree.{flat_of}
 use Rattle.orc_frame.specs.declared.frame.Layout.{Layout}
@@ -209,21 +208,6 @@ abbrev pub advance_code : (ℕ → ℕ) → ℕ → ℕ → ℕ → List Ins
 advance_code size count first zero = []
 advance_code size count first (suc n) = advance_code size count first n ++ AluImm Add (pointer (first + n)) (pos (count * size (first + n))) ∷ []
 
--- so many blocks of `count` elements each, one behind another, with the pointers at the first
-abbrev pub block_far : Plan → ℕ → ℕ → ℕ
-block_far p lag = far_by lag p.size
-
-abbrev pub blocks_code : Plan → (ℕ → Bool) → ℕ → ℕ → List Ins
-blocks_code p aligned count zero = []
-blocks_code p aligned count (suc b) = blocks_code p aligned count b ++ actions_far_code count p.size (block_far p (b * count)) aligned p.actions
-
-abbrev pub turn_code : Plan → ℕ → List Ins
-turn_code p count = actions_code count p.size p.actions ++ (advance_code p.size count 0 p.dests ++ (advance_code p.size count 4 p.sources ++ AluImm Sub 1 (pos count) ∷ []))
-
--- a turn of so many blocks: the pointers and the counter go on once
-abbrev pub blocks_turn_code : Plan → (ℕ → Bool) → ℕ → ℕ → List Ins
-blocks_turn_code p aligned count b = blocks_code p aligned count b ++ (advance_code p.size (b * count) 0 p.dests ++ (advance_code p.size (b * count) 4 p.sources ++ AluImm Sub 1 (pos (b * count)) ∷ []))
-
 -- ---- from steps with places to a plan
 
 -- where a value at a place comes from, and where it goes: to the place's register, or to a spill slot
@@ -291,11 +275,20 @@ AddsActions at size span steps old new =
 abbrev pub IsBlockBy : List ℕ → List ℕ → List Step → Span → List Ins → Type 0
 IsBlockBy at sizes steps span list = AddsActions at (slice_index sizes) span steps [] list
 
--- a turn of steps with these places, by the sizes of array slots
-abbrev pub IsTurnBy : List ℕ → List ℕ → List Step → ℕ → ℕ → Span → List Ins → Type 0
-IsTurnBy at sizes steps dests sources span list =
-    (actions : List Action) × AreActions at span.count steps actions
-    × (list ≡ actions_far_code span.count (slice_index sizes) (far_by span.first (slice_index sizes)) (aligned_first span.aligned) actions ++ (advance_code (slice_index sizes) span.count 0 dests ++ (advance_code (slice_index sizes) span.count 4 sources ++ AluImm Sub 1 (pos span.count) ∷ [])))
+-- so many blocks of `count` elements each, one behind another, with the pointers at the first; each is of actions of which Are holds
+abbrev pub AreBlocks : (List Action → Type 0) → ℕ → (ℕ → ℕ) → (ℕ → Bool) → ℕ → List Ins → Type 0
+AreBlocks Are count size aligned zero list = list ≡ []
+AreBlocks Are count size aligned (suc b) list =
+    (before : List Ins) × (actions : List Action) × AreBlocks Are count size aligned b before × Are actions × (list ≡ before ++ actions_far_code count size (far_by (b * count) size) aligned actions)
+
+-- a turn of so many blocks: the pointers of dests and of sources and the counter go on once
+abbrev pub AreTurns : (List Action → Type 0) → ℕ → (ℕ → ℕ) → (ℕ → Bool) → ℕ → ℕ → ℕ → List Ins → Type 0
+AreTurns Are count size aligned dests sources b list =
+    (blocks : List Ins) × AreBlocks Are count size aligned b blocks × (list ≡ blocks ++ (advance_code size (b * count) 0 dests ++ (advance_code size (b * count) 4 sources ++ AluImm Sub 1 (pos (b * count)) ∷ [])))
+
+-- a turn of blocks of steps with these places, by the sizes of array slots
+abbrev pub IsTurnBy : List ℕ → List ℕ → List Step → ℕ → ℕ → Span → ℕ → List Ins → Type 0
+IsTurnBy at sizes steps dests sources span = AreTurns (AreActions at span.count steps) span.count (slice_index sizes) (aligned_first span.aligned) dests sources
 
 -- so many elements from the one that the pointers are at, with aligned stores to the first dest or without
 abbrev pub span_of : ℕ → Bool → Span
@@ -306,18 +299,9 @@ abbrev pub IsBlock : FunctionValue → List ℕ → ℕ → Bool → List Ins �
 IsBlock f at count aligned list =
     (actions : List Action) × AreActions at count (steps_of f) actions × (list ≡ actions_far_code count (size_of_slot f.vars) (far_by 0 (size_of_slot f.vars)) (aligned_first aligned) actions)
 
--- a turn of so many elements of a function's code, by these places of its values
-abbrev pub IsTurn : FunctionValue → List ℕ → ℕ → List Ins → Type 0
-IsTurn f at count list = (actions : List Action) × AreActions at count (steps_of f) actions × (list ≡ turn_code (plan_with f actions) count)
-
--- and one that stores the first dest aligned
-abbrev pub IsAlignedTurn : FunctionValue → List ℕ → ℕ → List Ins → Type 0
-IsAlignedTurn f at count list = (actions : List Action) × AreActions at count (steps_of f) actions × (list ≡ blocks_turn_code (plan_with f actions) (aligned_first true) count 1)
-
--- the one that is wanted
-abbrev pub IsTurnOf : FunctionValue → List ℕ → ℕ → Bool → List Ins → Type 0
-IsTurnOf f at count false = IsTurn f at count
-IsTurnOf f at count true = IsAlignedTurn f at count
+-- a turn of so many blocks of a function's code, each of `count` elements, with aligned stores to the first dest or without
+abbrev pub IsTurnOf : FunctionValue → List ℕ → ℕ → Bool → ℕ → List Ins → Type 0
+IsTurnOf f at count aligned = AreTurns (AreActions at count (steps_of f)) count (size_of_slot f.vars) (aligned_first aligned) (count_of kind.Dest f.vars) (count_of kind.Source f.vars)
 
 -- ---- the elements of a row
 
@@ -334,28 +318,44 @@ shift_of size = if size == 8 then 3 else (if size == 4 then 2 else (if size == 2
 abbrev pub is_filled : ℕ → ℕ → ℕ → Bool
 is_filled dests lanes size = nat_lt 0 dests && lanes * size == 16
 
--- the loops over a row's elements, by turns of one element, of `lanes` and of `lanes` with aligned stores
-abbrev pub elements_flow : Bool → ℕ → ℕ → List Ins → List Ins → List Ins → Flow
-elements_flow true shift lanes single wide aligned = aligned_row shift lanes (Plain single) (Repeat Ns (Plain wide)) (Repeat Ns (Plain aligned))
-elements_flow false shift lanes single wide aligned = plain_row lanes (Plain single) (Repeat Ns (Plain wide))
+-- the blocks of a large turn, where a turn of one block has so many instructions: the fewer those are, the more a turn's jump and counting weigh
+abbrev pub blocks_of : ℕ → ℕ
+blocks_of n = if nat_lt n 15 then 4 else (if nat_lt n 31 then 2 else 1)
+
+-- turns of `lanes` elements, after large ones of so many blocks
+abbrev pub turns_flow : ℕ → ℕ → List Ins → List Ins → Flow
+turns_flow lanes b large turn = if nat_lt 1 b then wide_loops lanes (b * lanes) (Plain large) (Plain turn) else wide_loop (Plain turn)
+
+-- so they are in a function's code, by large turns where these have several blocks
+abbrev pub AreWholeTurns : FunctionValue → List ℕ → Bool → ℕ → List Ins → List Ins → Type 0
+AreWholeTurns f at aligned b turn list = (large : List Ins) × (1 < b → IsTurnOf f at (lanes f) aligned b large) × (list ≡ flat (turns_flow (lanes f) b large turn))
+
+-- the loops over a row's elements, by turns of one element, of `lanes`, of `lanes` with aligned stores, and large ones of so many blocks
+abbrev pub elements_flow : Bool → ℕ → ℕ → ℕ → List Ins → List Ins → List Ins → List Ins → Flow
+elements_flow true shift lanes b single wide aligned large = aligned_row shift lanes (Plain single) (wide_loop (Plain wide)) (turns_flow lanes b large aligned)
+elements_flow false shift lanes b single wide aligned large = plain_row lanes (Plain single) (turns_flow lanes b large wide)
+
+-- a register of the first dest is filled by as many elements as a block does
+abbrev pub fills : FunctionValue → Bool
+fills f = is_filled (count_of kind.Dest f.vars) (lanes f) (size_of_slot f.vars 0)
 
 -- the turns of a function's code by some good places of its values
-pub record Turns (f : FunctionValue) (single wide aligned : List Ins) : Type 0 where
+pub record Turns (f : FunctionValue) (single wide aligned large : List Ins) : Type 0 where
   pub at : List ℕ
   pub good : GoodPlaces (steps_of f) at
-  pub one : IsTurn f at 1 single
-  pub more : IsTurn f at (lanes f) wide
-  -- where a register of the first dest is filled
-  pub stored : is_filled (count_of kind.Dest f.vars) (lanes f) (size_of_slot f.vars 0) ≡ true → IsAlignedTurn f at (lanes f) aligned
+  pub one : IsTurnOf f at 1 false 1 single
+  pub more : IsTurnOf f at (lanes f) false 1 wide
+  pub stored : fills f ≡ true → IsTurnOf f at (lanes f) true 1 aligned
+  -- where they have several blocks
+  pub many : 1 < blocks_of (length wide) → IsTurnOf f at (lanes f) (fills f) (blocks_of (length wide)) large
 
-abbrev pub elements_of : FunctionValue → List Ins → List Ins → List Ins → Flow
-elements_of f single wide aligned =
-    elements_flow (is_filled (count_of kind.Dest f.vars) (lanes f) (size_of_slot f.vars 0)) (shift_of (size_of_slot f.vars 0)) (lanes f) single wide aligned
+abbrev pub elements_of : FunctionValue → List Ins → List Ins → List Ins → List Ins → Flow
+elements_of f single wide aligned large = elements_flow (fills f) (shift_of (size_of_slot f.vars 0)) (lanes f) (blocks_of (length wide)) single wide aligned large
 
 -- the tree does the elements of a row
 abbrev pub IsElements : FunctionValue → Tree → Type 0
 IsElements f tree =
-    (single : List Ins) × (wide : List Ins) × (aligned : List Ins) × Turns f single wide aligned × (flat_of tree ≡ flat (elements_of f single wide aligned))
+    (single : List Ins) × (wide : List Ins) × (aligned : List Ins) × (large : List Ins) × Turns f single wide aligned large × (flat_of tree ≡ flat (elements_of f single wide aligned large))
 
 -- ---- steps whose code can be given for so many elements
 

@@ -7,7 +7,7 @@ ghost use Rattle.x86_ins.specs.declared.ins.Ins.TheVariants.{Alu, AluImm};
 ghost use Rattle.x86_ins.specs.declared.ins.Cond.TheVariants.{Ne};
 ghost use Rattle.x86_flow.specs.Flow.{Plain, flat, loop_code};
 ghost use Rattle.x86_flow.specs.Tree.{flat_of};
-ghost use Rattle.orc_region.specs.Regions.{gap_code, gap_flow, low_bits_code, behind_code, enter_head_code, leave_head_code, tail_flow, aligned_row, plain_row};
+ghost use Rattle.orc_region.specs.Regions.{gap_code, gap_flow, low_bits_code, behind_code, enter_head_code, leave_head_code, tail_flow, wide_loops, aligned_row, plain_row};
 
 use crate::lists::{COUNTER, pointer};
 use orc_frame::{LEFT_AT, slot};
@@ -215,6 +215,28 @@ fn rest(alloc: Global, lanes: usize, single: Block) -> Result<Flow, AllocError>
     let count = of(counted(alloc, AluOp::Add, lanes)?);
     let turns = repeat(alloc, Cond::Ne, plain(single))?;
     chain(alloc, count, turns)
+}
+
+/// Turns of `more` elements while as many are left, and then turns of `lanes`, from where the counter is `lanes` less than the elements left.
+#[tactic(auto, using(crate::proofs::Built::Loops::spelled_one))]
+pub fn wide_loops(
+    alloc: Global,
+    lanes: usize,
+    more: usize,
+    large: Flow,
+    turn: Flow,
+) -> Result<Flow, AllocError>
+    requires under { lanes ≤ more }
+    requires most { more ≤ 64 }
+    ensures { IfOk result (λ flow. flat_of flow ≡ flat (wide_loops lanes more (Plain (flat_of large)) (Plain (flat_of turn)))) }
+{
+    let less = of(counted(alloc, AluOp::Sub, more - lanes)?);
+    let larges = repeat(alloc, Cond::Ns, large)?;
+    let first = chain(alloc, less, larges)?;
+    let back = of(counted(alloc, AluOp::Add, more - lanes)?);
+    let turns = repeat(alloc, Cond::Ns, turn)?;
+    let last = chain(alloc, back, turns)?;
+    chain(alloc, first, last)
 }
 
 /// The loops of a row whose first dest has elements of `1 << shift` bytes, of which `lanes` fill a register: `head` and `tail` do one element, and `wide` and `aligned` do whole turns, without and with aligned stores to the first dest.

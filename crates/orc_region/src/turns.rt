@@ -5,11 +5,11 @@ ghost use Rattle.orc_program.specs.Program.{FunctionValue};
 ghost use Rattle.orc_plan.specs.Places.{GoodPlaces};
 ghost use Rattle.orc_frame.specs.Frame.{IsLayout};
 ghost use Rattle.x86_flow.specs.Tree.{flat_of};
-ghost use Rattle.orc_region.specs.Code.{IsReady, IsBlockBy, IsTurnBy, IsBlock, IsTurnOf, IsElements, shift_of, used_from};
+ghost use Rattle.orc_region.specs.Code.{AreActions, IsReady, IsBlockBy, AreBlocks, IsTurnBy, IsBlock, IsTurnOf, AreWholeTurns, IsElements, aligned_first, blocks_of, shift_of, used_from};
 ghost use Rattle.orc_region.specs.Elements.{AreOf, DoesElements, DoesRow};
 
 use crate::lists::{COUNTER, push_actions, push_advances};
-use crate::loops::{aligned_loops, plain_loops};
+use crate::loops::{aligned_loops, plain_loops, wide_loops};
 use crate::span::Span;
 use orc_frame::Layout;
 use orc_plan::{Core, Placed};
@@ -62,33 +62,68 @@ fn block_list(
     Ok(list)
 }
 
-/// Does the elements that the pointers are at, and moves the pointers and the counter on.
+/// Does so many blocks of a turn, one behind another, of which the span is the first.
+fn blocks_list(
+    alloc: Global,
+    core: &Core,
+    places: &[u8],
+    layout: &Layout,
+    span: Span,
+    blocks: usize,
+) -> Result<InsList, AllocError>
+    requires layout { IsLayout layout.now }
+    requires ready { All (IsReady layout.now places.now (slice_index core.now.sizes) span.count) core.now.steps }
+    requires count { span.count ≤ 16 }
+    requires blocks { blocks ≤ 4 }
+    ensures { IfOk result (AreBlocks (AreActions places.now span.count core.now.steps) span.count (slice_index core.now.sizes) (aligned_first span.aligned) blocks) }
+{
+    let mut list = InsList::new(alloc);
+    for k in 0..blocks {
+        let block = Span {
+            first: k * span.count,
+            ..span
+        };
+        push_actions(
+            &mut list,
+            places,
+            &core.sizes,
+            layout,
+            core.steps.as_slice(),
+            block,
+        )?;
+    }
+    Ok(list)
+}
+
+/// Does so many blocks from the elements that the pointers are at, and moves the pointers and the counter on.
 fn turn_list(
     alloc: Global,
     core: &Core,
     places: &[u8],
     layout: &Layout,
     span: Span,
+    blocks: usize,
 ) -> Result<InsList, AllocError>
     requires layout { IsLayout layout.now }
     requires ready { All (IsReady layout.now places.now (slice_index core.now.sizes) span.count) core.now.steps }
-    requires first { span.first ≡ 0 }
     requires count { span.count ≤ 16 }
-    ensures { IfOk result (IsTurnBy places.now core.now.sizes core.now.steps (used_from (slice_index core.now.sizes) 0 4) (used_from (slice_index core.now.sizes) 4 8) span) }
+    requires blocks { blocks ≤ 4 }
+    ensures { IfOk result (IsTurnBy places.now core.now.sizes core.now.steps (used_from (slice_index core.now.sizes) 0 4) (used_from (slice_index core.now.sizes) 4 8) span blocks) }
 {
     let sizes = &core.sizes;
-    let mut list = block_list(alloc, core, places, layout, span)?;
-    push_advances(&mut list, sizes, span.count, 0, used(sizes, 0, 4))?;
-    push_advances(&mut list, sizes, span.count, 4, used(sizes, 4, 8))?;
+    let by = blocks * span.count;
+    let mut list = blocks_list(alloc, core, places, layout, span, blocks)?;
+    push_advances(&mut list, sizes, by, 0, used(sizes, 0, 4))?;
+    push_advances(&mut list, sizes, by, 4, used(sizes, 4, 8))?;
     list.push(Ins::AluImm {
         op: AluOp::Sub,
         dst: COUNTER,
-        value: span.count as i32,
+        value: by as i32,
     })?;
     Ok(list)
 }
 
-/// A turn of one element or of as many as are done at once, with aligned stores to the first dest or without.
+/// A turn of so many blocks, each of one element or of as many as are done at once, with aligned stores to the first dest or without.
 fn turn(
     alloc: Global,
     core: &Core,
@@ -96,18 +131,20 @@ fn turn(
     layout: &Layout,
     count: usize,
     aligned: bool,
+    blocks: usize,
 ) -> Result<Block, AllocError>
     requires of { (f : FunctionValue) × AreOf f (record { core = core.now; places = places.now }) layout.now }
     requires places { GoodPlaces core.now.steps places.now }
     requires count { (count ≡ 1) ⊎ (count ≡ core.now.lanes) }
-    ensures { IfOk result (λ block. (f : FunctionValue) → AreOf f (record { core = core.now; places = places.now }) layout.now → IsTurnOf f places.now count aligned block.list) }
+    requires blocks { blocks ≤ 4 }
+    ensures { IfOk result (λ block. (f : FunctionValue) → AreOf f (record { core = core.now; places = places.now }) layout.now → IsTurnOf f places.now count aligned blocks block.list) }
 {
     let span = Span {
         first: 0,
         count,
         aligned,
     };
-    let list = turn_list(alloc, core, places, layout, span)?;
+    let list = turn_list(alloc, core, places, layout, span, blocks)?;
     Ok(Block { list })
 }
 
@@ -189,6 +226,51 @@ pub fn row_flow(alloc: Global, p: &Placed, l: &Layout) -> Result<Flow, AllocErro
     elements(alloc, &p.core, p.places.as_slice(), l)
 }
 
+/// How many blocks a large turn has, where a turn of one block has so many instructions.
+fn blocks_of(length: usize) -> usize
+    ensures is { result ≡ blocks_of length }
+    ensures some { 1 ≤ result }
+    ensures few { result ≤ 4 }
+{
+    if length < 15 {
+        4
+    } else if length < 31 {
+        2
+    } else {
+        1
+    }
+}
+
+/// Whole turns of a row: large ones of so many blocks, where that is more than one, and then the turn of one block.
+fn whole_turns(
+    alloc: Global,
+    core: &Core,
+    places: &[u8],
+    layout: &Layout,
+    aligned: bool,
+    blocks: usize,
+    turn_of_one: Block,
+) -> Result<Flow, AllocError>
+    requires of { (f : FunctionValue) × AreOf f (record { core = core.now; places = places.now }) layout.now }
+    requires places { GoodPlaces core.now.steps places.now }
+    requires some { 1 ≤ blocks }
+    requires few { blocks ≤ 4 }
+    ensures { IfOk result (λ flow. (f : FunctionValue) → AreOf f (record { core = core.now; places = places.now }) layout.now → AreWholeTurns f places.now aligned blocks turn_of_one.list (flat_of flow)) }
+{
+    let lanes = core.lanes as usize;
+    if blocks == 1 {
+        return repeat(alloc, Cond::Ns, plain(turn_of_one));
+    }
+    let large = turn(alloc, core, places, layout, lanes, aligned, blocks)?;
+    wide_loops(
+        alloc,
+        lanes,
+        blocks * lanes,
+        plain(large),
+        plain(turn_of_one),
+    )
+}
+
 /// The loops over the elements of a row.
 fn elements(alloc: Global, core: &Core, places: &[u8], layout: &Layout) -> Result<Flow, AllocError>
     requires of { (f : FunctionValue) × AreOf f (record { core = core.now; places = places.now }) layout.now }
@@ -197,16 +279,18 @@ fn elements(alloc: Global, core: &Core, places: &[u8], layout: &Layout) -> Resul
 {
     let lanes = core.lanes as usize;
     let size = core.sizes[0] as usize;
-    let tail = turn(alloc, core, places, layout, 1, false)?;
-    let turns = plain(turn(alloc, core, places, layout, lanes, false)?);
-    let wide = repeat(alloc, Cond::Ns, turns)?;
+    let tail = turn(alloc, core, places, layout, 1, false, 1)?;
+    let wide = turn(alloc, core, places, layout, lanes, false, 1)?;
+    let blocks = blocks_of(wide.list.len());
     if lanes * size != REGISTER {
-        return plain_loops(alloc, lanes, wide, tail);
+        let turns = whole_turns(alloc, core, places, layout, false, blocks, wide)?;
+        return plain_loops(alloc, lanes, turns, tail);
     }
-    let turns = plain(turn(alloc, core, places, layout, lanes, true)?);
-    let aligned = repeat(alloc, Cond::Ns, turns)?;
+    let stored = turn(alloc, core, places, layout, lanes, true, 1)?;
+    let aligned = whole_turns(alloc, core, places, layout, true, blocks, stored)?;
     let head = Block {
         list: InsList::from_slice(alloc, tail.list.as_slice())?,
     };
+    let wide = repeat(alloc, Cond::Ns, plain(wide))?;
     aligned_loops(alloc, shift_of(size), lanes, head, wide, aligned, tail)
 }

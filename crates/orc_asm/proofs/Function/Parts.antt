@@ -70,7 +70,7 @@ ok_same x y r a b = ap (ok_value x) (sym a ∙ b)
 is_mapped : (m e : Memory) (a : ℕ) → m a ≡ e a → IsMapped m a → IsMapped e a
 is_mapped m e a q h = subst (λ o. is_some o ≡ true) q h
 
-module _ (f : FunctionValue) (is : is_function f ≡ true) (single wide aligned : List Ins) (turns_are : Turns f single wide aligned) (code : Placed) (s : Point) (args : Arguments) (back : ℕ) (good : GoodCall (subject_of f) code s args back) where
+module _ (f : FunctionValue) (is : is_function f ≡ true) (single wide aligned large : List Ins) (turns_are : Turns f single wide aligned large) (code : Placed) (s : Point) (args : Arguments) (back : ℕ) (good : GoodCall (subject_of f) code s args back) where
   abbrev known : Arrays f
   known = arrays_known f is
 
@@ -235,7 +235,7 @@ module _ (f : FunctionValue) (is : is_function f ≡ true) (single wide aligned 
     row_dest a w = (w.0, w.1, (r, row, w.2, omega (arith, w.4), w.5, w.6, w.7))
 
     -- what holds at each step in a row
-    on_way : (u : Core) (i : Ins) → OnWay f code s args back good r 0 args.n (Wanted f is single wide aligned turns_are code s args back good r row) c u i → Q u i
+    on_way : (u : Core) (i : Ins) → OnWay f code s args back good r 0 args.n (Wanted f is single wide aligned large turns_are code s args back good r row) c u i → Q u i
     on_way u i w = (
       record { stack = inr w.stack; quiet = λ a nc nf ns. w.quiet a (λ t. nc (row_dest a t)) nf ∙ h.steady.quiet a nc nf },
       record { apart = w.wide.apart; stored = λ al. w.wide.stored (al.full, al.reached r row, (al.some, al.alone)) },
@@ -266,11 +266,11 @@ module _ (f : FunctionValue) (is : is_function f ≡ true) (single wide aligned 
           slots = λ x w. words x (omega (arith, w.0), omega (arith, w.1));
         }
 
-    does : (t : State) × (list : List Ins) × (d : Core) × Does Q (elements_of f single wide aligned) c list d × Ended f known code s args back good Kept r e t c d × (length list ≤ regions_of (most_besides f) (lanes f) (most_turn f) args.n) × (weigh cell_weight list ≤ turns (lanes f) args.n * (subject_of f).operands)
+    does : (t : State) × (list : List Ins) × (d : Core) × Does Q (elements_of f single wide aligned large) c list d × Ended f known code s args back good Kept r e t c d × (length list ≤ regions_of (most_besides f) (lanes f) (most_turn f) args.n) × (weigh cell_weight list ≤ turns (lanes f) args.n * (subject_of f).operands)
     does =
-        let x = row_does f is single wide aligned turns_are code s args back good r row e (e, h.emulated, refl) c holds points h.counter in
+        let x = row_does f is single wide aligned large turns_are code s args back good r row e (e, h.emulated, refl) c holds points h.counter in
         let y = x.3 in
-        (y.e, x.0, x.1, does_map _ Q on_way (elements_of f single wide aligned) c x.0 x.1 x.2, row_ended x.1 y.e y.come y.quiet y.holds y.words, y.short, y.light)
+        (y.e, x.0, x.1, does_map _ Q on_way (elements_of f single wide aligned large) c x.0 x.1 x.2, row_ended x.1 y.e y.come y.quiet y.holds y.words, y.short, y.light)
 
   -- ---- after the rows
 
@@ -331,7 +331,7 @@ module _ (f : FunctionValue) (is : is_function f ≡ true) (single wide aligned 
         )
 
   pub parts : (first last : List Ins) → Prepares (layout_of f) first → Finishes (layout_of f) last
-      → Parts f known code s args back good Fair first (elements_of f single wide aligned) last (regions_of (most_besides f) (lanes f) (most_turn f) args.n) (turns (lanes f) args.n * (subject_of f).operands)
+      → Parts f known code s args back good Fair first (elements_of f single wide aligned large) last (regions_of (most_besides f) (lanes f) (most_turn f) args.n) (turns (lanes f) args.n * (subject_of f).operands)
   parts first last prepares finishes = record {
     Kept = Kept;
     kept_on = kept_on;

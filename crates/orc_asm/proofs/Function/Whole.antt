@@ -83,7 +83,7 @@ ret_bytes = refl
 
 -- ---- the code of rows in turns
 
-module _ (f : FunctionValue) (h : is_function f ≡ true) (l : Layout) (first last : List Ins) (x : Lists f l first last) (single wide aligned : List Ins) (turns : Turns f single wide aligned) where
+module _ (f : FunctionValue) (h : is_function f ≡ true) (l : Layout) (first last : List Ins) (x : Lists f l first last) (single wide aligned large : List Ins) (turns : Turns f single wide aligned large) where
   abbrev dests : ℕ
   dests = count_of kind.Dest f.vars
 
@@ -97,7 +97,7 @@ module _ (f : FunctionValue) (h : is_function f ≡ true) (l : Layout) (first la
   fact = facts l (f, h, x.layout)
 
   abbrev elements : Flow
-  elements = elements_of f single wide aligned
+  elements = elements_of f single wide aligned large
 
   abbrev rows : List Ins
   rows = flat (rows_flow elements f.two_d dests sources)
@@ -112,8 +112,8 @@ module _ (f : FunctionValue) (h : is_function f ≡ true) (l : Layout) (first la
   abbrev known : Arrays f
   known = arrays_known f h
 
-  fits : Fits 900000 (flat elements)
-  fits = fits_elements f h single wide aligned turns
+  fits : Fits 960000 (flat elements)
+  fits = fits_elements f h single wide aligned large turns
 
   allowed : Each IsAllowed (with_return flow)
   allowed =
@@ -151,7 +151,7 @@ module _ (f : FunctionValue) (h : is_function f ≡ true) (l : Layout) (first la
       let subject = subject_of f in
       lift subject (fully subject) (both_lift (quiet subject) (wide_promise subject) (quiet_lifts subject) (wide_lifts subject)) (spell_all (with_return flow))
       (runs_with f known first elements last (most_turn f) (most_besides f) some short (λ s args. WideAt subject args) (λ code s args back good. own_wide f known code s args back good)
-      (λ code s args back good. parts f h single wide aligned turns code s args back good first last (subst (λ y. Prepares y first) x.layout x.prepares) (subst (λ y. Finishes y last) x.layout x.finishes))
+      (λ code s args back good. parts f h single wide aligned large turns code s args back good first last (subst (λ y. Prepares y first) x.layout x.prepares) (subst (λ y. Finishes y last) x.layout x.finishes))
       (fully subject)
       (λ s args way t q each counted. (q, wide_way subject s args way t each (λ R sees. subst (λ k. AtMost k R way) (bound args) (counted R sees))))
       allowed)
@@ -162,11 +162,11 @@ module _ (f : FunctionValue) (h : is_function f ≡ true) (l : Layout) (first la
 -- as the bytes are built from the lists around the rows and the tree that does their elements
 pub whole_runs : (f : FunctionValue) → is_function f ≡ true → (l : Layout) (first last : List Ins) → Lists f l first last → (tree : Tree) → IsElements f tree → (bytes : List ℕ) (two_d : Bool) (d s : ℕ) → two_d ≡ f.two_d → d ≡ count_of kind.Dest f.vars → s ≡ count_of kind.Source f.vars
     → bytes ≡ spell_all (with_return (whole_flow first (Plain (flat_of tree)) last two_d d s)) → RunsFully f bytes × HasCodeLength bytes
-whole_runs f h l first last x tree (single, wide, aligned, turns, t) bytes two_d d s a b c e =
-    let is : bytes ≡ spell_all (with_return (flow f h l first last x single wide aligned turns)) =
+whole_runs f h l first last x tree (single, wide, aligned, large, turns, t) bytes two_d d s a b c e =
+    let is : bytes ≡ spell_all (with_return (flow f h l first last x single wide aligned large turns)) =
     e ∙ ap (λ r. spell_all (with_return (whole_flow first (Plain (flat_of tree)) last r d s))) a ∙ ap₂ (λ d s. spell_all (with_return (whole_flow first (Plain (flat_of tree)) last f.two_d d s))) b c
     ∙ ap (λ t. spell_all (with_return (whole_flow first (Plain t) last f.two_d (count_of kind.Dest f.vars) (count_of kind.Source f.vars)))) t in
-    (subst (RunsFully f) (sym is) (code_runs f h l first last x single wide aligned turns), subst HasCodeLength (sym is) (code_length f h l first last x single wide aligned turns))
+    (subst (RunsFully f) (sym is) (code_runs f h l first last x single wide aligned large turns), subst HasCodeLength (sym is) (code_length f h l first last x single wide aligned large turns))
 
 -- in whole slices
 pub list_slices : (f : FunctionValue) (l : Layout) (first last a c : List Ins) → a ≡ first → c ≡ last → Lists f l first last → Lists f l a c

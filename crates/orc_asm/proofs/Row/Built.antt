@@ -88,5 +88,5 @@ spelled_entry list dests sources h g e = subst AllSpelled (sym e) (all_spelled (
 pub spelled_step : (list : List Ins) (dests sources : ℕ) → dests ≤ 4 → sources ≤ 8 → list ≡ row_step_code dests sources → All (λ i. IsTrue (has_spelling i)) list
 spelled_step list dests sources h g e = subst AllSpelled (sym e) (all_spelled (row_step_code dests sources) (fine_row_step dests sources h g))
 
-pub row_fits : (t : List ℕ) (elements : List Ins) (dests sources : ℕ) → dests ≤ 4 → sources ≤ 8 → size elements ≤ 900000 → t ≡ spell_all (flat (row_flow (Plain elements) dests sources)) → length t < 2000000000
+pub row_fits : (t : List ℕ) (elements : List Ins) (dests sources : ℕ) → dests ≤ 4 → sources ≤ 8 → size elements ≤ 960000 → t ≡ spell_all (flat (row_flow (Plain elements) dests sources)) → length t < 2000000000
 row_fits t elements dests sources h g few e = omega (arith, ap length e, row_bytes dests sources h g (Plain elements), few)

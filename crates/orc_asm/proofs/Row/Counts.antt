@@ -149,7 +149,7 @@ module _ (dests sources : ℕ) where
           omega (arith, size_both first (loop_code Ne body), loop_size Ne body, row_bytes, size_within first (fine_rows two_d), rows_count two_d, few_dests, few_sources)
 
       -- and is allowed where that is
-      pub rows_allowed : (two_d : Bool) → size (flat elements) ≤ 900000 → Each IsAllowed (flat elements) → Each IsAllowed (flat (rows_flow elements two_d dests sources))
+      pub rows_allowed : (two_d : Bool) → size (flat elements) ≤ 960000 → Each IsAllowed (flat elements) → Each IsAllowed (flat (rows_flow elements two_d dests sources))
       rows_allowed two_d few h =
           let enter = row_entry_code dests sources in
           let go_on = row_step_code dests sources in

@@ -1,7 +1,7 @@
 -- Lists that grow by one instruction, by a rule or by an action.
-use Rattle.std.proofs.Common.{◌≡◌, ℕ, suc, ◌+◌, ◌*◌, ◌<◌, ◌≤◌, true, false, pos, List, [], ◌∷◌, ◌++◌, length, map, take, get_or, Result, Ok, Err, OnOk, refl, sym, ap, ap₂, ◌∙◌, subst, arith, append-nil, append_assoc}
+use Rattle.std.proofs.Common.{◌≡◌, ℕ, suc, ◌+◌, ◌*◌, ◌<◌, ◌≤◌, Bool, true, false, pos, List, [], ◌∷◌, ◌++◌, length, map, take, get_or, slice_index, Result, Ok, Err, OnOk, refl, sym, ap, ap₂, ◌∙◌, subst, arith, append-nil, append_assoc}
 use Rattle.std.proofs.lemmas.List.{take_more}
-use Rattle.x86_ins.specs.declared.ins.AluOp.TheVariants.{Add}
+use Rattle.x86_ins.specs.declared.ins.AluOp.TheVariants.{Add, Sub}
 use Rattle.x86_ins.specs.declared.ins.Ins.{Ins}
 use Rattle.x86_ins.specs.declared.ins.Ins.TheVariants.{AluImm}
 use Rattle.x86_ins.specs.Renaming.{renamed, renaming}
@@ -15,7 +15,7 @@ use Rattle.sse_acc.specs.Sums.{AddsUp}
 use Rattle.orc_plan.specs.declared.steps.Item.{Item}
 use Rattle.orc_plan.specs.declared.steps.Step.{Step}
 use Rattle.orc_region.specs.declared.span.Span.{Span}
-use Rattle.orc_region.specs.Code.{Action, Target, AreActions, AddsRule, AddsAction, AddsActions, pointer, far_by, aligned_first, source_of, target_of, first_register, second_register, exchange, rule_register, rule_code, sources_far_code, sum_code, results_far_code, action_far_code, actions_far_code, advance_code}
+use Rattle.orc_region.specs.Code.{Action, Target, AreActions, AreBlocks, AreTurns, used_from, AddsRule, AddsAction, AddsActions, pointer, far_by, aligned_first, source_of, target_of, first_register, second_register, exchange, rule_register, rule_code, sources_far_code, sum_code, results_far_code, action_far_code, actions_far_code, advance_code}
 
 -- what follows from a fact of a success
 pub on_ok : {A E : Type 0} (r : Result A E) (P Q : Type 0) → (P → Q) → OnOk r P → OnOk r Q
@@ -37,6 +37,19 @@ pub advances_more : (base c d : List Ins) (size : ℕ → ℕ) (count first n : 
 advances_more base c d size count first n i p q e =
     grown base c d (advance_code size count first n) (AluImm Add (pointer (first + n)) (pos (count * size (first + n)))) p (q ∙ ap (λ x. c ++ x ∷ []) e)
     ∙ ap (λ k. base ++ advance_code size count first k) (next n)
+
+-- blocks, and what moves the pointers and the counter on, make a turn; `inner` are the sizes as they are read
+pub turn_built : (Are : List Action → Type 0) (count : ℕ) (aligned : ℕ → Bool) (b : ℕ) (sizes inner : List ℕ) → inner ≡ sizes → (blocks l1 l2 l3 : List Ins) (dests sources : ℕ) → AreBlocks Are count (slice_index sizes) aligned b blocks
+    → l1 ≡ blocks ++ advance_code (slice_index inner) (b * count) 0 dests → dests ≡ used_from (slice_index inner) 0 4 → l2 ≡ l1 ++ advance_code (slice_index inner) (b * count) 4 sources → sources ≡ used_from (slice_index inner) 4 8 → l3 ≡ l2 ++ AluImm Sub 1 (pos (b * count)) ∷ []
+    → AreTurns Are count (slice_index sizes) aligned (used_from (slice_index sizes) 0 4) (used_from (slice_index sizes) 4 8) b l3
+turn_built Are count aligned b sizes inner same blocks l1 l2 l3 dests sources are e1 d e2 s e3 =
+    let by = b * count in
+    let first = advance_code (slice_index sizes) by 0 (used_from (slice_index sizes) 0 4) in
+    let second = advance_code (slice_index sizes) by 4 (used_from (slice_index sizes) 4 8) in
+    let last = AluImm Sub 1 (pos by) ∷ [] in
+    let one : l1 ≡ blocks ++ first = e1 ∙ ap₂ (λ xs n. blocks ++ advance_code (slice_index xs) by 0 n) same (d ∙ ap (λ xs. used_from (slice_index xs) 0 4) same) in
+    let two : advance_code (slice_index inner) by 4 sources ≡ second = ap₂ (λ xs n. advance_code (slice_index xs) by 4 n) same (s ∙ ap (λ xs. used_from (slice_index xs) 4 8) same) in
+    (blocks, are, e3 ∙ ap (λ l. l ++ last) (e2 ∙ ap₂ (λ (x y : List Ins). x ++ y) one two) ∙ append_assoc (blocks ++ first) second last ∙ append_assoc blocks first (second ++ last))
 
 -- ---- rules and actions
 

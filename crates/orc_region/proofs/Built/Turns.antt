@@ -1,12 +1,13 @@
 -- The turns over the elements of a row, and the loops around them, as they are built.
-use Rattle.std.proofs.Common.{◌≡◌, ◌≢◌, ℕ, zero, suc, ◌*◌, ◌<◌, ◌≤◌, ◌==◌, ◌&&◌, ◌⊎◌, if◌then◌else◌, Bool, true, false, true≢false, All, IsTrue, List, [], slice_index, sym, ap, ap₂, ◌∙◌, subst, arith, inl, inr, refl, ⊎_elim}
-use Rattle.std.proofs.lemmas.Bool.{ne_eqb, lt-ltb, eqb-true}
+use Rattle.std.proofs.Common.{◌≡◌, ◌≢◌, ℕ, zero, suc, ◌+◌, ◌*◌, ◌<◌, ◌≤◌, ◌==◌, ◌&&◌, ◌⊎◌, if◌then◌else◌, Bool, true, false, true≢false, All, IsTrue, List, [], length, nat_lt, slice_index, sym, ap, ap₂, ◌∙◌, subst, arith, inl, inr, refl, ⊎_elim}
+use Rattle.std.proofs.Math.Nat.{mul-le-mul_right}
+use Rattle.std.proofs.lemmas.Bool.{ne_eqb, lt-ltb, ltb-true, eqb-true}
 use Rattle.orc_program.proofs.Sizes.{both}
 use Rattle.x86_ins.specs.declared.ins.Cond.TheVariants.{Ns}
 use Rattle.x86_ins.specs.declared.ins.Ins.{Ins}
 use Rattle.x86_ins.specs.Spelling.{has_spelling}
 use Rattle.x86_flow.specs.declared.tree.Flow.{Flow as Tree}
-use Rattle.x86_flow.specs.Flow.{Plain, Repeat, flat, size, loop_code}
+use Rattle.x86_flow.specs.Flow.{Plain, flat, size, loop_code}
 use Rattle.x86_flow.specs.Tree.{flat_of}
 use Rattle.x86_flow.proofs.Shapes.{loop_size, loop_fine}
 use Rattle.x86_flow.proofs.Spelled.{all_allowed}
@@ -21,16 +22,16 @@ use Rattle.orc_plan.specs.Places.{GoodPlaces, PlacedValue}
 use Rattle.orc_frame.specs.declared.frame.Layout.{Layout}
 use Rattle.orc_frame.specs.Frame.{IsLayout}
 use Rattle.orc_frame.specs.Layout.{layout_of}
-use Rattle.orc_region.specs.Code.{IsReady, IsBlock, IsBlockBy, IsTurn, IsAlignedTurn, IsTurnBy, IsTurnOf, used_from, Turns, IsElements, span_of, shift_of, is_filled, elements_flow, elements_of}
+use Rattle.orc_region.specs.Code.{IsReady, IsBlock, IsBlockBy, IsTurnBy, IsTurnOf, AreWholeTurns, used_from, Turns, IsElements, span_of, shift_of, is_filled, fills, blocks_of, turns_flow, elements_flow, elements_of}
 use Rattle.orc_region.specs.Elements.{AreOf, DoesElements}
-use Rattle.orc_region.specs.Regions.{aligned_row, plain_row}
+use Rattle.orc_region.specs.Regions.{aligned_row, plain_row, wide_loop, wide_loops}
 use Rattle.orc_region.proofs.Built.Slots.{first_there, used_dests, used_sources}
 use Rattle.orc_region.proofs.Calls.Blocks.{does_elements}
 use Rattle.orc_region.proofs.Turn.Blocks.{block_is, block_spelled}
 use Rattle.orc_region.proofs.Checked.Fits.{slot_sized}
-use Rattle.orc_region.proofs.Sizes.Loops.{Fits, fits_plain, fits_aligned}
+use Rattle.orc_region.proofs.Sizes.Loops.{Fits, fits_plain, fits_aligned, fits_larges}
 use Rattle.orc_region.proofs.Checked.Several.{IsCount, one_count, lanes_count}
-use Rattle.orc_region.proofs.Turn.Lists.{ready_is, turn_is, aligned_is, turn_fine, turn_spelled, turn_size, aligned_fine, aligned_spelled, aligned_size}
+use Rattle.orc_region.proofs.Turn.Lists.{few_blocks, blocks_near, ready_is, turn_is, turn_fine, turn_spelled, turn_size}
 
 -- ---- how many elements a turn does
 
@@ -86,19 +87,15 @@ module _ (f : FunctionValue) (at sizes : List ℕ) (steps : List Step) (x : Lowe
         subst (λ y. All (IsReady y at (slice_index sizes) count) steps) (sym e)
         (ready_slices (layout_of f) count at (sizes_of f) sizes (steps_of f) steps x.sizes_are x.steps_are (ready_is f x.kept at good count several))
 
-    turn_kind : (aligned : Bool) (list : List Ins) → IsTurnBy at (sizes_of f) (steps_of f) (count_of kind.Dest f.vars) (count_of kind.Source f.vars) (span_of count aligned) list → IsTurnOf f at count aligned list
-    turn_kind false list t = turn_is f x.kept at good count several list t
-    turn_kind true list t = aligned_is f x.kept at good count several list t
-
-    pub turn_of : (aligned : Bool) (list : List Ins) → IsTurnBy at sizes steps (used_from (slice_index sizes) 0 4) (used_from (slice_index sizes) 4 8) (span_of count aligned) list → IsTurnOf f at count aligned list
-    turn_of aligned list t =
+    pub turn_of : (aligned : Bool) (b : ℕ) (list : List Ins) → IsTurnBy at sizes steps (used_from (slice_index sizes) 0 4) (used_from (slice_index sizes) 4 8) (span_of count aligned) b list → IsTurnOf f at count aligned b list
+    turn_of aligned b list t =
         let dests = used_from (slice_index sizes) 0 4 in
         let sources = used_from (slice_index sizes) 4 8 in
-        turn_kind aligned list
-        (subst (λ n. IsTurnBy at (sizes_of f) (steps_of f) (count_of kind.Dest f.vars) n (span_of count aligned) list) (used_sources f x.kept sizes x.sizes_are)
-        (subst (λ n. IsTurnBy at (sizes_of f) (steps_of f) n sources (span_of count aligned) list) (used_dests f x.kept sizes x.sizes_are)
-        (subst (λ xs. IsTurnBy at (sizes_of f) xs dests sources (span_of count aligned) list) x.steps_are
-        (subst (λ xs. IsTurnBy at xs steps dests sources (span_of count aligned) list) x.sizes_are t))))
+        turn_is f x.kept at good count several aligned b list
+        (subst (λ n. IsTurnBy at (sizes_of f) (steps_of f) (count_of kind.Dest f.vars) n (span_of count aligned) b list) (used_sources f x.kept sizes x.sizes_are)
+        (subst (λ n. IsTurnBy at (sizes_of f) (steps_of f) n sources (span_of count aligned) b list) (used_dests f x.kept sizes x.sizes_are)
+        (subst (λ xs. IsTurnBy at (sizes_of f) xs dests sources (span_of count aligned) b list) x.steps_are
+        (subst (λ xs. IsTurnBy at xs steps dests sources (span_of count aligned) b list) x.sizes_are t))))
 
     pub block_of : (aligned : Bool) (list : List Ins) → IsBlockBy at sizes steps (span_of count aligned) list → IsBlock f at count aligned list
     block_of aligned list t =
@@ -125,9 +122,32 @@ module _ (f : FunctionValue) (at sizes : List ℕ) (steps : List Step) (x : Lowe
             let first : slice_index sizes 0 ≡ size_of_slot f.vars 0 = ap (λ xs. slice_index xs 0) x.sizes_are ∙ slot_sized f x.kept 0 (inl some) in
             e ∙ ap₂ (λ a k. a && k == 16) t (ap (λ s. count * s) first ∙ whole)
 
-    pub spelled_of : (aligned : Bool) (list : List Ins) → IsTurnOf f at count aligned list → All (λ i. IsTrue (has_spelling i)) list
-    spelled_of false list t = turn_spelled f x.kept at good count several list t
-    spelled_of true list t = aligned_spelled f x.kept at good count several list t
+    pub spelled_of : (aligned : Bool) (b : ℕ) → b ≤ 4 → (list : List Ins) → IsTurnOf f at count aligned b list → All (λ i. IsTrue (has_spelling i)) list
+    spelled_of aligned b few list t = turn_spelled f x.kept at good count several aligned b (blocks_near count b several.most few) list t
+
+-- ---- whole turns
+
+one_or_more : (lanes b : ℕ) (large turn : List Ins) (t : Bool) → nat_lt 1 b ≡ t → turns_flow lanes b large turn ≡ (if t then wide_loops lanes (b * lanes) (Plain large) (Plain turn) else wide_loop (Plain turn))
+one_or_more lanes b large turn t e = ap (λ t. if t then wide_loops lanes (b * lanes) (Plain large) (Plain turn) else wide_loop (Plain turn)) e
+
+-- without large ones
+pub whole_of_one : (f : FunctionValue) (at : List ℕ) (aligned : Bool) (b : ℕ) → b ≡ 1 → (turn : List Ins) (turns loop : Tree) → flat_of turns ≡ turn → flat_of loop ≡ loop_code Ns (flat_of turns) → AreWholeTurns f at aligned b turn (flat_of loop)
+whole_of_one f at aligned b one turn turns loop t e =
+    let none : nat_lt 1 b ≡ false = ap (nat_lt 1) one in
+    ([], λ l. absurd (omega (arith, l, one)), e ∙ ap (loop_code Ns) t ∙ sym (ap flat (one_or_more (lanes f) b [] turn false none)))
+
+-- after large ones
+pub whole_of_many : (f : FunctionValue) (at : List ℕ) (aligned : Bool) (b : ℕ) → 1 ≤ b → b ≢ 1 → (n : ℕ) → n ≡ lanes f → (large turn : List Ins) → IsTurnOf f at n aligned b large → (larges turns loop : Tree) → flat_of larges ≡ large → flat_of turns ≡ turn
+    → flat_of loop ≡ flat (wide_loops n (b * n) (Plain (flat_of larges)) (Plain (flat_of turns))) → AreWholeTurns f at aligned b turn (flat_of loop)
+whole_of_many f at aligned b some more n n_is large turn is larges turns loop l t e =
+    let several : nat_lt 1 b ≡ true = lt-ltb 1 b (omega (arith, some, more)) in (
+      large,
+      λ z. subst (λ k. IsTurnOf f at k aligned b large) n_is is,
+      e ∙ ap₂ (λ x y. flat (wide_loops n (b * n) (Plain x) (Plain y))) l t ∙ ap (λ k. flat (wide_loops k (b * k) (Plain large) (Plain turn))) n_is ∙ sym (ap flat (one_or_more (lanes f) b large turn true several)),
+    )
+
+pub large_under : (lanes b : ℕ) → 1 ≤ b → lanes ≤ b * lanes
+large_under lanes b some = (let m : 1 * lanes ≤ b * lanes = mul-le-mul_right lanes some in omega (arith, m))
 
 -- ---- loops
 
@@ -139,7 +159,7 @@ filled_no zero n bytes h = refl
 filled_no (suc dests) n bytes h = ap₂ (λ a b. a && b) (lt-ltb 0 (suc dests) (omega arith)) (ne_eqb (n * bytes) 16 (h (omega arith)))
 
 module _ (f : FunctionValue) (at sizes : List ℕ) (steps : List Step) (x : Lowered f at sizes steps) (n : ℕ) (n_is : n ≡ lanes f) (first : ℕ) (first_is : first ≡ slice_index sizes 0)
-    (tail turn : List Ins) (one : IsTurn f at 1 tail) (more : IsTurn f at n turn) (turns wide : Tree) (turns_are : flat_of turns ≡ turn) (wide_is : flat_of wide ≡ loop_code Ns (flat_of turns)) where
+    (tail turn : List Ins) (one : IsTurnOf f at 1 false 1 tail) (more : IsTurnOf f at n false 1 turn) (b : ℕ) (b_is : b ≡ blocks_of (length turn)) where
   abbrev size_first : ℕ
   size_first = size_of_slot f.vars 0
 
@@ -147,46 +167,47 @@ module _ (f : FunctionValue) (at sizes : List ℕ) (steps : List Step) (x : Lowe
   first_size : 0 < count_of kind.Dest f.vars → first ≡ size_first
   first_size some = first_is ∙ ap (λ xs. slice_index xs 0) x.sizes_are ∙ slot_sized f x.kept 0 (inl some)
 
-  wide_flat : flat_of wide ≡ loop_code Ns turn
-  wide_flat = wide_is ∙ ap (loop_code Ns) turns_are
+  more_is : IsTurnOf f at (lanes f) false 1 turn
+  more_is = subst (λ k. IsTurnOf f at k false 1 turn) n_is more
 
-  more_is : IsTurn f at (lanes f) turn
-  more_is = subst (λ k. IsTurn f at k turn) n_is more
-
-  pub plain_elements : n * first ≢ 16 → (t : Tree) → flat_of t ≡ flat (plain_row n (Plain tail) (Plain (flat_of wide))) → IsElements f t
-  plain_elements test t e = (
-    tail,
-    turn,
-    [],
-    record { at = at; good = good f at sizes steps x; one = one; more = more_is; stored = λ y. absurd (true≢false (sym y ∙ empty)) },
-    e ∙ ap₂ (λ k w. flat (plain_row k (Plain tail) (Plain w))) n_is wide_flat ∙ sym (ap (λ b. flat (elements_flow b (shift_of size_first) (lanes f) tail turn [])) empty),
-  )
+  pub plain_elements : n * first ≢ 16 → (wide : Tree) → AreWholeTurns f at false b turn (flat_of wide) → (t : Tree) → flat_of t ≡ flat (plain_row n (Plain tail) (Plain (flat_of wide))) → IsElements f t
+  plain_elements test wide whole t e =
+      let w = subst (λ k. AreWholeTurns f at false k turn (flat_of wide)) b_is whole in (
+        tail,
+        turn,
+        [],
+        w.0,
+        record { at = at; good = good f at sizes steps x; one = one; more = more_is; stored = λ y. absurd (true≢false (sym y ∙ empty)); many = λ l. subst (λ k. IsTurnOf f at (lanes f) k (blocks_of (length turn)) w.0) (sym empty) (w.1 l) },
+        e ∙ ap₂ (λ k w. flat (plain_row k (Plain tail) (Plain w))) n_is w.2 ∙ sym (ap (λ k. flat (elements_flow k (shift_of size_first) (lanes f) (blocks_of (length turn)) tail turn [] w.0)) empty),
+      )
     where
       empty : is_filled (count_of kind.Dest f.vars) (lanes f) size_first ≡ false
       empty = filled_no (count_of kind.Dest f.vars) (lanes f) size_first (λ some e. test (ap₂ (λ a b. a * b) n_is (first_size some) ∙ e))
 
-  module _ (fills : n * first ≡ 16) (list : List Ins) (stored : IsAlignedTurn f at n list) (stores aligned : Tree) (stores_are : flat_of stores ≡ list) (aligned_is : flat_of aligned ≡ loop_code Ns (flat_of stores)) where
+  module _ (fills : n * first ≡ 16) (list : List Ins) (stored : IsTurnOf f at n true 1 list) (turns wide aligned : Tree) (turns_are : flat_of turns ≡ turn) (wide_is : flat_of wide ≡ loop_code Ns (flat_of turns)) (whole : AreWholeTurns f at true b list (flat_of aligned)) where
     some_dest : 0 < count_of kind.Dest f.vars
     some_dest = (first_there f x.kept sizes x.sizes_are (subst (λ s. 0 < s) first_is (some_factor n first fills))).0
 
     yes_filled : is_filled (count_of kind.Dest f.vars) (lanes f) size_first ≡ true
     yes_filled = filled_yes (count_of kind.Dest f.vars) (lanes f) size_first some_dest (sym (ap₂ (λ a b. a * b) n_is (first_size some_dest)) ∙ fills)
 
-    aligned_flat : flat_of aligned ≡ loop_code Ns list
-    aligned_flat = aligned_is ∙ ap (loop_code Ns) stores_are
+    wide_flat : flat_of wide ≡ loop_code Ns turn
+    wide_flat = wide_is ∙ ap (loop_code Ns) turns_are
 
     pub aligned_elements : (head : List Ins) (shift : ℕ) → head ≡ tail → shift ≡ shift_of first → (t : Tree) → flat_of t ≡ flat (aligned_row shift n (Plain head) (Plain (flat_of wide)) (Plain (flat_of aligned))) → IsElements f t
-    aligned_elements head shift same s t e = (
-      tail,
-      turn,
-      list,
-      record { at = at; good = good f at sizes steps x; one = one; more = more_is; stored = λ y. subst (λ k. IsAlignedTurn f at k list) n_is stored },
-      e
-          ∙ ap₂ (λ k h. flat (aligned_row k n (Plain h) (Plain (flat_of wide)) (Plain (flat_of aligned)))) (s ∙ ap shift_of (first_size some_dest)) same
-          ∙ ap₂ (λ k w. flat (aligned_row (shift_of size_first) k (Plain tail) (Plain w) (Plain (flat_of aligned)))) n_is wide_flat
-          ∙ ap (λ a. flat (aligned_row (shift_of size_first) (lanes f) (Plain tail) (Plain (loop_code Ns turn)) (Plain a))) aligned_flat
-          ∙ sym (ap (λ b. flat (elements_flow b (shift_of size_first) (lanes f) tail turn list)) yes_filled),
-    )
+    aligned_elements head shift same s t e =
+        let w = subst (λ k. AreWholeTurns f at true k list (flat_of aligned)) b_is whole in (
+          tail,
+          turn,
+          list,
+          w.0,
+          record { at = at; good = good f at sizes steps x; one = one; more = more_is; stored = λ y. subst (λ k. IsTurnOf f at k true 1 list) n_is stored; many = λ l. subst (λ k. IsTurnOf f at (lanes f) k (blocks_of (length turn)) w.0) (sym yes_filled) (w.1 l) },
+          e
+              ∙ ap₂ (λ k h. flat (aligned_row k n (Plain h) (Plain (flat_of wide)) (Plain (flat_of aligned)))) (s ∙ ap shift_of (first_size some_dest)) same
+              ∙ ap₂ (λ k w. flat (aligned_row (shift_of size_first) k (Plain tail) (Plain w) (Plain (flat_of aligned)))) n_is wide_flat
+              ∙ ap (λ a. flat (aligned_row (shift_of size_first) (lanes f) (Plain tail) (Plain (loop_code Ns turn)) (Plain a))) w.2
+              ∙ sym (ap (λ k. flat (elements_flow k (shift_of size_first) (lanes f) (blocks_of (length turn)) tail turn list w.0)) yes_filled),
+        )
 
 -- ---- their bytes
 
@@ -199,32 +220,53 @@ few_shifts false false false = omega arith
 shift_few : (bytes : ℕ) → shift_of bytes ≤ 3
 shift_few bytes = few_shifts (bytes == 8) (bytes == 4) (bytes == 2)
 
-fits_loop : (list : List Ins) → Fits 200000 list → Fits 200012 (loop_code Ns list)
-fits_loop list h = (let b = h.bytes in record { allowed = loop_fine Ns list (omega (arith, b)) h.allowed; bytes = omega (arith, loop_size Ns list, b) })
+fits_wide : (n : ℕ) → n ≤ 1000000 → (list : List Ins) → Fits n list → Fits (n + 12) (flat (wide_loop (Plain list)))
+fits_wide n few list h = (let b = h.bytes in record { allowed = loop_fine Ns list (omega (arith, b, few)) h.allowed; bytes = omega (arith, loop_size Ns list, b) })
+
+fits_turns : (lanes b : ℕ) → lanes ≤ 16 → b ≤ 4 → (large turn : List Ins) → Fits 118943 turn → (1 < b → Fits 475343 large) → Fits 594400 (flat (turns_flow lanes b large turn))
+fits_turns lanes b most few large turn h g = go (nat_lt 1 b) refl
+  where
+    go : (t : Bool) → nat_lt 1 b ≡ t → Fits 594400 (flat (if t then wide_loops lanes (b * lanes) (Plain large) (Plain turn) else wide_loop (Plain turn)))
+    go false e = (let x = fits_wide 118943 (omega arith) turn h in record { allowed = x.allowed; bytes = (let b = x.bytes in omega (arith, b)) })
+    go true e = (let near = blocks_near lanes b most few in let x = fits_larges lanes (b * lanes) 475343 118943 near (omega arith) (omega arith) large turn (g (ltb-true 1 b e)) h in record { allowed = x.allowed; bytes = (let b = x.bytes in omega (arith, b)) })
 
 -- they are allowed, and are few
-pub fits_elements : (f : FunctionValue) → is_function f ≡ true → (single wide aligned : List Ins) → Turns f single wide aligned → Fits 900000 (flat (elements_of f single wide aligned))
-fits_elements f h single wide aligned t = go (is_filled (count_of kind.Dest f.vars) (lanes f) (size_of_slot f.vars 0)) refl
+pub fits_elements : (f : FunctionValue) → is_function f ≡ true → (single wide aligned large : List Ins) → Turns f single wide aligned large → Fits 960000 (flat (elements_of f single wide aligned large))
+fits_elements f h single wide aligned large t = go (fills f) refl
   where
+    count : IsCount f (lanes f)
+    count = lanes_count f h
+
     most : lanes f ≤ 64
     most = lanes_few f h (lanes f) refl
 
-    fits_one : Fits 200000 single
-    fits_one = record { allowed = all_allowed single (turn_fine f h t.at t.good 1 (one_count f h) single t.one); bytes = turn_size f h t.at t.good 1 (one_count f h) single t.one }
+    fits_turn : (count : ℕ) → IsCount f count → (aligned : Bool) (b n : ℕ) → b ≤ 4 → 143 + b * 118800 ≤ n → (list : List Ins) → IsTurnOf f t.at count aligned b list → Fits n list
+    fits_turn count is_count aligned b n few room list x =
+        let near = blocks_near count b is_count.most few in
+        let bytes = turn_size f h t.at t.good count is_count aligned b near list x in
+        record { allowed = all_allowed list (turn_fine f h t.at t.good count is_count aligned b near list x); bytes = omega (arith, bytes, room) }
 
-    fits_more : Fits 200000 wide
-    fits_more = record { allowed = all_allowed wide (turn_fine f h t.at t.good (lanes f) (lanes_count f h) wide t.more); bytes = turn_size f h t.at t.good (lanes f) (lanes_count f h) wide t.more }
+    fits_one : Fits 118943 single
+    fits_one = fits_turn 1 (one_count f h) false 1 118943 (omega arith) (omega arith) single t.one
 
-    fits_stored : IsAlignedTurn f t.at (lanes f) aligned → Fits 200000 aligned
-    fits_stored s = record { allowed = all_allowed aligned (aligned_fine f h t.at t.good (lanes f) (lanes_count f h) aligned s); bytes = aligned_size f h t.at t.good (lanes f) (lanes_count f h) aligned s }
+    fits_more : Fits 118943 wide
+    fits_more = fits_turn (lanes f) count false 1 118943 (omega arith) (omega arith) wide t.more
 
-    go : (b : Bool) → is_filled (count_of kind.Dest f.vars) (lanes f) (size_of_slot f.vars 0) ≡ b → Fits 900000 (flat (elements_of f single wide aligned))
+    fits_stored : fills f ≡ true → Fits 118943 aligned
+    fits_stored e = fits_turn (lanes f) count true 1 118943 (omega arith) (omega arith) aligned (t.stored e)
+
+    fits_many : 1 < blocks_of (length wide) → Fits 475343 large
+    fits_many l = (let few = few_blocks (length wide) in fits_turn (lanes f) count (fills f) (blocks_of (length wide)) 475343 few (omega (arith, few)) large (t.many l))
+
+    go : (k : Bool) → fills f ≡ k → Fits 960000 (flat (elements_flow (fills f) (shift_of (size_of_slot f.vars 0)) (lanes f) (blocks_of (length wide)) single wide aligned large))
     go true e =
-        let fits = fits_aligned (Plain single) (Repeat Ns (Plain wide)) (Repeat Ns (Plain aligned)) (lanes f) 200000 200012 200012 most (omega arith) (omega arith) (omega arith) fits_one (fits_loop wide fits_more) (fits_loop aligned (fits_stored (t.stored e))) (shift_of (size_of_slot f.vars 0)) (shift_few (size_of_slot f.vars 0)) in
-        subst (λ b. Fits 900000 (flat (elements_flow b (shift_of (size_of_slot f.vars 0)) (lanes f) single wide aligned))) (sym e) (record { allowed = fits.allowed; bytes = (let b = fits.bytes in omega (arith, b)) })
+        let body = fits_turns (lanes f) (blocks_of (length wide)) count.most (few_blocks (length wide)) large aligned (fits_stored e) fits_many in
+        let fits = fits_aligned (Plain single) (wide_loop (Plain wide)) (turns_flow (lanes f) (blocks_of (length wide)) large aligned) (lanes f) 118943 118955 594400 most (omega arith) (omega arith) (omega arith) fits_one (fits_wide 118943 (omega arith) wide fits_more) body (shift_of (size_of_slot f.vars 0)) (shift_few (size_of_slot f.vars 0)) in
+        subst (λ k. Fits 960000 (flat (elements_flow k (shift_of (size_of_slot f.vars 0)) (lanes f) (blocks_of (length wide)) single wide aligned large))) (sym e) (record { allowed = fits.allowed; bytes = (let b = fits.bytes in omega (arith, b)) })
     go false e =
-        let fits = fits_plain (Plain single) (Repeat Ns (Plain wide)) (Repeat Ns (Plain wide)) (lanes f) 200000 200012 200012 most (omega arith) (omega arith) (omega arith) fits_one (fits_loop wide fits_more) (fits_loop wide fits_more) in
-        subst (λ b. Fits 900000 (flat (elements_flow b (shift_of (size_of_slot f.vars 0)) (lanes f) single wide aligned))) (sym e) (record { allowed = fits.allowed; bytes = (let b = fits.bytes in omega (arith, b)) })
+        let body = fits_turns (lanes f) (blocks_of (length wide)) count.most (few_blocks (length wide)) large wide fits_more fits_many in
+        let fits = fits_plain (Plain single) (turns_flow (lanes f) (blocks_of (length wide)) large wide) (wide_loop (Plain wide)) (lanes f) 118943 594400 118955 most (omega arith) (omega arith) (omega arith) fits_one body (fits_wide 118943 (omega arith) wide fits_more) in
+        subst (λ k. Fits 960000 (flat (elements_flow k (shift_of (size_of_slot f.vars 0)) (lanes f) (blocks_of (length wide)) single wide aligned large))) (sym e) (record { allowed = fits.allowed; bytes = (let b = fits.bytes in omega (arith, b)) })
 
-pub elements_few : (f : FunctionValue) → is_function f ≡ true → (t : Tree) → IsElements f t → size (flat_of t) ≤ 900000
-elements_few f h t (single, wide, aligned, turns, e) = (let b = (fits_elements f h single wide aligned turns).bytes in omega (arith, ap size e, b))
+pub elements_few : (f : FunctionValue) → is_function f ≡ true → (t : Tree) → IsElements f t → size (flat_of t) ≤ 960000
+elements_few f h t (single, wide, aligned, large, turns, e) = (let b = (fits_elements f h single wide aligned large turns).bytes in omega (arith, ap size e, b))

@@ -1,5 +1,6 @@
 -- The loops of a row do the elements of a row of a good call.
 use Rattle.std.proofs.Common.{◌≡◌, ℕ, ◌+◌, ◌*◌, ◌%◌, ◌^◌, ◌<◌, ◌≤◌, ◌==◌, nat_lt, Bool, true, false, true≢false, List, length, Ok, is_some, refl, sym, ap, ◌∙◌, subst, arith, mul-le-mul_left, ◌⊎◌, inl, inr}
+use Rattle.std.proofs.Math.Nat.{mul-add, mul-le-mul_right}
 use Rattle.std.proofs.lemmas.Bool.{ltb-true}
 use Rattle.orc_bits.specs.Memory.{Memory}
 use Rattle.orc_program.specs.declared.program.VarKind.TheVariants as kind
@@ -10,12 +11,11 @@ use Rattle.orc_program.specs.Need.{cost, lanes, turns}
 use Rattle.orc_program.specs.Slots.{size_of_slot}
 use Rattle.orc_program.proofs.Sizes.{both}
 use Rattle.orc_plan.specs.Lowered.{steps_of}
-use Rattle.x86_ins.specs.declared.ins.Cond.TheVariants.{Ns}
 use Rattle.x86_ins.specs.declared.ins.Ins.{Ins}
 use Rattle.x86_ins.specs.Machine.{Core, Point, Touches}
 use Rattle.x86_ins.specs.Way.{Placed}
 use Rattle.x86_flow.specs.declared.tree.Flow.{Flow as Tree}
-use Rattle.x86_flow.specs.Flow.{Flow, Plain, Repeat, flat}
+use Rattle.x86_flow.specs.Flow.{Flow, flat}
 use Rattle.x86_flow.specs.Tree.{flat_of}
 use Rattle.x86_flow.specs.Does.{Does}
 use Rattle.x86_flow.proofs.Kept.{does_keeps}
@@ -25,43 +25,59 @@ use Rattle.orc_frame.specs.Parts.{InFrame, InChanged}
 use Rattle.orc_frame.specs.Subject.{Call as Arguments, IsArray, rows, cell}
 use Rattle.orc_frame.specs.GoodCall.{GoodCall, lowered}
 use Rattle.orc_frame.specs.Function.{IsCellByte, subject_of}
-use Rattle.orc_region.specs.Code.{Action, Plan, AreActions, Turns, IsElements, plan_with, turn_code, blocks_turn_code, aligned_first, shift_of, is_filled, elements_flow, elements_of}
+use Rattle.orc_region.specs.Code.{Action, Plan, AreActions, IsTurnOf, Turns, IsElements, plan_with, aligned_first, shift_of, is_filled, blocks_of, fills, elements_flow, elements_of}
 use Rattle.orc_region.specs.Elements.{meant_call, HasCome, Holds, PointsAt, InElements, IsDest, IsQuiet, IsAlone, DoesRow, arrays_of}
-use Rattle.orc_region.specs.Regions.{plain_row, aligned_row}
 use Rattle.orc_region.proofs.Block.Cells.{OfDests}
 use Rattle.orc_region.proofs.Block.Emulated.{state}
 use Rattle.orc_region.proofs.Block.Touched.{TouchesPart}
 use Rattle.orc_region.proofs.Built.Turns.{fits_elements}
-use Rattle.orc_region.proofs.Checked.Several.{one_count, lanes_count}
+use Rattle.orc_region.proofs.Checked.Several.{IsCount, one_count, lanes_count}
 use Rattle.orc_region.proofs.Row.Gaps.{AtSixteen}
 use Rattle.orc_region.proofs.Sizes.Steps.{regions_of}
-use Rattle.orc_region.proofs.Turn.Advancing.{Setting, IsCell, IsDestCell, Inside}
-use Rattle.orc_region.proofs.Turn.Lists.{stand_is, turn_few, aligned_few}
-use Rattle.orc_region.proofs.Turn.Operands.{turn_light, aligned_light}
-use Rattle.orc_region.proofs.Turn.Rounds.{Outside, At, plain_done, aligned_done}
+use Rattle.orc_region.proofs.Turn.Advancing.{Setting, Able, IsCell, IsDestCell, Inside}
+use Rattle.orc_region.proofs.Turn.Lists.{turns_map, few_blocks, blocks_near, stand_is, fit_actions, ins_blocks, turn_ins, turn_few}
+use Rattle.orc_region.proofs.Turn.Operands.{turn_light}
+use Rattle.orc_region.proofs.Turn.Rounds.{Outside, At, Round, plain_done, aligned_done}
 use Rattle.orc_region.proofs.Calls.Cells.{Arrays, mapped, cell_cells, cell_at, cell_frame}
 use Rattle.orc_region.proofs.Calls.Setting.{meant, base, numbers, Emul, Slot, setting, apart, changed_frame, stack_room}
 use Rattle.orc_region.proofs.Calls.Holding.{totals_in, framed_in, agrees_in, holds_again}
 use Rattle.orc_region.proofs.Calls.Wide.{by_pointer, cell_weight, part_wide}
 use Rattle.orc_region.proofs.Calls.Doing.{OnWay, Leaves, doing}
 use Rattle.orc_region.proofs.Calls.Blocks.{arrays_known, from_row, cell_begins, words_kept, words_frame}
-use Rattle.orc_region.proofs.Calls.Turns.{fills, Able, Stored, able, stored, filled_is}
+use Rattle.orc_region.proofs.Calls.Turns.{filled_first, filled_is}
 
 -- the instructions of a row's elements besides their turns
 abbrev besides_of : Bool → ℕ
 besides_of true = 19
-besides_of false = 4
+besides_of false = 7
 
 abbrev pub most_besides : FunctionValue → ℕ
 most_besides f = 17 + 3 * arrays_of f
 
+-- a turn's instructions
+abbrev own_turn : FunctionValue → ℕ
+own_turn f = cost f + arrays_of f + 1
+
+-- with room for what large turns take besides
 abbrev pub most_turn : FunctionValue → ℕ
-most_turn f = cost f + arrays_of f + 1
+most_turn f = 3 + own_turn f
 
 besides_fit : (dests lanes size sources : ℕ) → is_filled dests lanes size ≡ true → 19 ≤ 17 + 3 * (dests + sources)
 besides_fit dests lanes size sources e = (let some = ltb-true 0 dests (both (nat_lt 0 dests) (lanes * size == 16) e).0 in omega (arith, some))
 
-module _ (f : FunctionValue) (is : is_function f ≡ true) (single wide aligned : List Ins) (x : Turns f single wide aligned) where
+-- what several blocks take is at most what as many turns of one block do
+many_short : (b c a : ℕ) → 0 < b → 2 + (b * c + a + 1) ≤ b * (2 + (c + a + 1))
+many_short b c a some =
+    let e : b * (c + (a + 3)) ≡ b * c + b * (a + 3) = mul-add b c (a + 3) in
+    let m : 1 * (a + 3) ≤ b * (a + 3) = mul-le-mul_right (a + 3) (omega (arith, some)) in
+    let same : b * (2 + (c + a + 1)) ≡ b * (c + (a + 3)) = ap (λ k. b * k) (let z : 2 + (c + a + 1) ≡ c + (a + 3) = omega arith in z) in
+    omega (arith, e, m, same)
+
+-- a turn may take more
+roomy : (list : List Ins) (besides t turn more : ℕ) → turn ≤ more → length list ≤ besides + t * turn → length list ≤ besides + t * more
+roomy list besides t turn more l h = (let m : t * turn ≤ t * more = mul-le-mul_left t l in omega (arith, h, m))
+
+module _ (f : FunctionValue) (is : is_function f ≡ true) (single wide aligned large : List Ins) (x : Turns f single wide aligned large) where
   abbrev known : Arrays f
   known = arrays_known f is
 
@@ -72,7 +88,10 @@ module _ (f : FunctionValue) (is : is_function f ≡ true) (single wide aligned 
   size = size_of_slot f.vars
 
   abbrev each : ℕ
-  each = most_turn f
+  each = own_turn f
+
+  abbrev b : ℕ
+  b = blocks_of (length wide)
 
   abbrev some : ℕ
   some = (subject_of f).operands
@@ -99,16 +118,13 @@ module _ (f : FunctionValue) (is : is_function f ≡ true) (single wide aligned 
       set count actions are = setting f is known code s args back good r row at (stand_is f is at x.good) come.0 count actions are
 
       abbrev one : List Action
-      one = x.one.0
-
-      abbrev more : List Action
-      more = x.more.0
+      one = x.one.1.1
 
       abbrev plan : Plan
       plan = plan_with f one
 
       first : Setting args.n Base Slots (numbers f is known code s args back good) low plan Emulates (InFrame low)
-      first = set 1 one x.one.1
+      first = set 1 one x.one.1.3
 
       abbrev Within : ℕ → Memory → (ℕ → ℕ) → Core → Type 0
       Within = Inside args.n Base Slots (numbers f is known code s args back good) low plan Emulates (InFrame low) first (s.core.gpr 7) c.memory
@@ -200,41 +216,45 @@ module _ (f : FunctionValue) (is : is_function f ≡ true) (single wide aligned 
       }
 
       abbrev Goes : Flow → ℕ → Type 0
-      Goes flow besides = (list : List Ins) × (d : Core) × Does Q flow c list d × Place args.n d × (length list ≤ besides + turns (lanes f) args.n * (2 + each)) × (weigh cell_weight list ≤ turns (lanes f) args.n * some)
+      Goes flow besides = (list : List Ins) × (d : Core) × Does Q flow c list d × Place args.n d × (length list ≤ besides + turns (lanes f) args.n * (2 + most_turn f)) × (weigh cell_weight list ≤ turns (lanes f) args.n * some)
 
       -- ---- turns
 
-      able_one : Able f at 1 one
-      able_one = able f is at x.good 1 (one_count f is) one x.one.1
+      abbrev Turned : ℕ → Bool → ℕ → List Ins → Type 0
+      Turned count aligned = Round args.n Base Slots (numbers f is known code s args back good) low plan Emulates (InFrame low) first (s.core.gpr 7) c.memory Q (stack_room f is known code s args back good) in_frame Free calmly by_pointer refl each some count (aligned_first aligned)
 
-      able_more : Able f at (lanes f) more
-      able_more = able f is at x.good (lanes f) (lanes_count f is) more x.more.1
+      turned : (count : ℕ) → IsCount f count → (aligned : Bool) (blocks : ℕ) → 0 < blocks → blocks ≤ 4 → (list : List Ins) → IsTurnOf f at count aligned blocks list → Turned count aligned blocks list
+      turned count is_count aligned blocks some_blocks few list t =
+          let near = blocks_near count blocks is_count.most few in
+          let short = turn_few f is at x.good count is_count aligned blocks near list t in
+          let spread = many_short blocks (cost f) (arrays_of f) some_blocks in
+          record {
+            turn = turns_map (AreActions at count (steps_of f)) (Able args.n Base Slots (numbers f is known code s args back good) low plan Emulates (InFrame low) count (aligned_first aligned)) count size (aligned_first aligned)
+                (λ actions are. record { set = set count actions are; fit = fit_actions f is at x.good count is_count actions are; known = ins_blocks f is at x.good count is_count actions are aligned })
+                (count_of kind.Dest f.vars) (count_of kind.Source f.vars) blocks list t;
+            known = turn_ins f is at x.good count is_count aligned blocks near list t;
+            short = omega (arith, short, spread);
+            light = turn_light by_pointer refl f is at (stand_is f is at x.good) count is_count aligned blocks list t;
+          }
 
-      few_one : length (turn_code plan 1) ≤ each
-      few_one = subst (λ l. length l ≤ each) x.one.2 (turn_few f is at x.good 1 (one_count f is) single x.one)
+      one_is : Turned 1 false 1 single
+      one_is = turned 1 (one_count f is) false 1 (omega arith) (omega arith) single x.one
 
-      few_more : length (turn_code (plan_with f more) (lanes f)) ≤ each
-      few_more = subst (λ l. length l ≤ each) x.more.2 (turn_few f is at x.good (lanes f) (lanes_count f is) wide x.more)
+      more_is : Turned (lanes f) false 1 wide
+      more_is = turned (lanes f) (lanes_count f is) false 1 (omega arith) (omega arith) wide x.more
 
-      light_one : weigh cell_weight (turn_code plan 1) ≤ some
-      light_one = subst (λ l. weigh cell_weight l ≤ some) x.one.2 (turn_light by_pointer refl f is at (stand_is f is at x.good) 1 (one_count f is) single x.one)
-
-      light_more : weigh cell_weight (turn_code (plan_with f more) (lanes f)) ≤ some
-      light_more = subst (λ l. weigh cell_weight l ≤ some) x.more.2 (turn_light by_pointer refl f is at (stand_is f is at x.good) (lanes f) (lanes_count f is) wide x.more)
-
-      abbrev by_one : Flow
-      by_one = Plain (turn_code plan 1)
-
-      abbrev by_more : Flow
-      by_more = Repeat Ns (Plain (turn_code (plan_with f more) (lanes f)))
+      many_is : (filled : Bool) → fills f ≡ filled → 1 < b → Turned (lanes f) filled b large
+      many_is filled e several = turned (lanes f) (lanes_count f is) filled b (omega (arith, several)) (few_blocks (length wide)) large (subst (λ t. IsTurnOf f at (lanes f) t b large) e (x.many several))
 
       -- where no register of the first dest is filled nothing is asked of stores
       none_filled : fills f ≡ false → Free
       none_filled empty w = true≢false (sym (filled_is (count_of kind.Dest f.vars) (lanes f) (size 0) w.2.0 w.0) ∙ empty)
 
-      plain : fills f ≡ false → Goes (plain_row (lanes f) by_one by_more) 4
-      plain empty = plain_done args.n Base Slots (numbers f is known code s args back good) low plan Emulates (InFrame low) first (s.core.gpr 7) c.memory Q (stack_room f is known code s args back good) in_frame Free calmly by_pointer refl more (set (lanes f) more x.more.1) (lanes f) (lanes_count f is).some (lanes_count f is).most
-          able_one.fit able_one.turn able_more.fit able_more.turn each some few_one few_more light_one light_more (none_filled empty) c place_first counter
+      plain : fills f ≡ false → Goes (elements_flow false (shift_of (size 0)) (lanes f) b single wide aligned large) 7
+      plain empty =
+          let y = plain_done args.n Base Slots (numbers f is known code s args back good) low plan Emulates (InFrame low) first (s.core.gpr 7) c.memory Q (stack_room f is known code s args back good) in_frame Free calmly by_pointer refl each some (lanes f) (lanes_count f is).some (lanes_count f is).most b (few_blocks (length wide))
+          single one_is wide more_is large (none_filled empty) (many_is false empty) c place_first counter in
+          (y.0, y.1, y.2, y.3, roomy y.0 7 (turns (lanes f) args.n) (2 + each) (2 + most_turn f) (omega arith) y.4, y.5)
 
       -- where some element of the first dest begins at a multiple of 16, it does so by the row's base
       some_reached : (k : ℕ) → size 0 ≡ 2 ^ k → ((j : ℕ) → j + lanes f ≤ args.n → AtSixteen k (Base 0) j → ⊥) → Free
@@ -242,24 +262,16 @@ module _ (f : FunctionValue) (is : is_function f ≡ true) (single wide aligned 
           let y = w.1 in
           none y.0 y.1 (ap (λ z. (Base 0 + y.0 * z) % 16) (sym is_size) ∙ cell_begins (args.base 0 + r * args.stride 0) (y.0 * size 0) y.2)
 
-      filled : (acts : List Action) → Stored f at (lanes f) acts → length (blocks_turn_code (plan_with f acts) (aligned_first true) (lanes f) 1) ≤ each → weigh cell_weight (blocks_turn_code (plan_with f acts) (aligned_first true) (lanes f) 1) ≤ some
-          → Goes (aligned_row (shift_of (size 0)) (lanes f) by_one by_more (Repeat Ns (Plain (blocks_turn_code (plan_with f acts) (aligned_first true) (lanes f) 1)))) 19
-      filled acts y short light = aligned_done args.n Base Slots (numbers f is known code s args back good) low plan Emulates (InFrame low) first (s.core.gpr 7) c.memory Q (stack_room f is known code s args back good) in_frame Free calmly by_pointer refl more (set (lanes f) more x.more.1) (lanes f) (lanes_count f is).some (lanes_count f is).most
-          able_one.fit able_one.turn able_more.fit able_more.turn each some few_one few_more light_one light_more
-          acts (set (lanes f) acts y.able.are) y.able.fit y.able.turn (shift_of (size 0)) y.shift y.full y.some y.size y.block y.turn short light (some_reached (shift_of (size 0)) y.size) c place_first counter
+      filled : fills f ≡ true → Goes (elements_flow true (shift_of (size 0)) (lanes f) b single wide aligned large) 19
+      filled full =
+          let y = filled_first f is full in
+          let z = aligned_done args.n Base Slots (numbers f is known code s args back good) low plan Emulates (InFrame low) first (s.core.gpr 7) c.memory Q (stack_room f is known code s args back good) in_frame Free calmly by_pointer refl each some (lanes f) (lanes_count f is).some (lanes_count f is).most b (few_blocks (length wide))
+          single one_is wide more_is large aligned (turned (lanes f) (lanes_count f is) true 1 (omega arith) (omega arith) aligned (x.stored full)) (shift_of (size 0)) y.shift y.full y.some y.size_is (many_is true full) (some_reached (shift_of (size 0)) y.size_is) c place_first counter in
+          (z.0, z.1, z.2, z.3, roomy z.0 19 (turns (lanes f) args.n) (3 + (2 + each)) (2 + most_turn f) (omega arith) z.4, z.5)
 
-      by_turns : (b : Bool) → fills f ≡ b → Goes (elements_flow b (shift_of (size 0)) (lanes f) single wide aligned) (besides_of b)
-      by_turns false empty =
-          subst (λ l. Goes (elements_flow false (shift_of (size 0)) (lanes f) l wide aligned) 4) (sym x.one.2)
-          (subst (λ l. Goes (elements_flow false (shift_of (size 0)) (lanes f) (turn_code plan 1) l aligned) 4) (sym x.more.2) (plain empty))
-      by_turns true full =
-          let y = x.stored full in
-          let short = subst (λ l. length l ≤ each) y.2 (aligned_few f is at x.good (lanes f) (lanes_count f is) aligned y) in
-          let light = subst (λ l. weigh cell_weight l ≤ some) y.2 (aligned_light by_pointer refl f is at (stand_is f is at x.good) (lanes f) (lanes_count f is) aligned y) in
-          subst (λ l. Goes (elements_flow true (shift_of (size 0)) (lanes f) l wide aligned) 19) (sym x.one.2)
-          (subst (λ l. Goes (elements_flow true (shift_of (size 0)) (lanes f) (turn_code plan 1) l aligned) 19) (sym x.more.2)
-          (subst (λ l. Goes (elements_flow true (shift_of (size 0)) (lanes f) (turn_code plan 1) (turn_code (plan_with f more) (lanes f)) l) 19) (sym y.2)
-          (filled y.0 (stored f is at x.good y.0 y.1 full) short light)))
+      by_turns : (filled_one : Bool) → fills f ≡ filled_one → Goes (elements_flow filled_one (shift_of (size 0)) (lanes f) b single wide aligned large) (besides_of filled_one)
+      by_turns false empty = plain empty
+      by_turns true full = filled full
 
       few_besides : (b : Bool) → fills f ≡ b → besides_of b ≤ most_besides f
       few_besides true e = besides_fit (count_of kind.Dest f.vars) (lanes f) (size 0) (count_of kind.Source f.vars) e
@@ -270,7 +282,7 @@ module _ (f : FunctionValue) (is : is_function f ≡ true) (single wide aligned 
       abbrev Left : ℕ → List Ins → Core → Type 0
       Left steps = Leaves f code s args back good r 0 args.n Wanted c steps (turns (lanes f) args.n * some)
 
-      pub row_does : (done : List Ins) × (d : Core) × Does Q (elements_of f single wide aligned) c done d × Left (regions_of (most_besides f) (lanes f) each args.n) done d
+      pub row_does : (done : List Ins) × (d : Core) × Does Q (elements_of f single wide aligned large) c done d × Left (regions_of (most_besides f) (lanes f) (most_turn f) args.n) done d
       row_does =
           let y = by_turns (fills f) refl in
           let d = y.1 in
@@ -287,25 +299,22 @@ module _ (f : FunctionValue) (is : is_function f ≡ true) (single wide aligned 
               short = (let b = few_besides (fills f) refl in omega (arith, y.4, b));
               light = y.5;
               quiet = quietly d only;
-              holds = holds_again f is known code s args back good t d p.totals w.framed p.emulated.agrees w.calm.stack w.block w.agree (λ a m. does_keeps Q a (elements_of f single wide aligned) c y.0 d y.2 (h.mapped a m)) w.bounded;
+              holds = holds_again f is known code s args back good t d p.totals w.framed p.emulated.agrees w.calm.stack w.block w.agree (λ a m. does_keeps Q a (elements_of f single wide aligned large) c y.0 d y.2 (h.mapped a m)) w.bounded;
               words = λ a q. only a (λ t. dest_frame a t (words_frame low a q)) (words_kept low (count_of kind.Accumulator f.vars) a known.few.accs q) (λ z. omega (arith, q.1, z.0));
             },
           )
 
   -- ---- wherever they stand
 
-  more_steps : (besides t turn : ℕ) → besides + t * (2 + (turn + 1)) ≤ besides + t * (turn + 6)
-  more_steps besides t turn = (let m : t * (2 + (turn + 1)) ≤ t * (turn + 6) = mul-le-mul_left t (omega arith) in omega (arith, m))
-
-  pub does_flow : DoesRow f (flat (elements_of f single wide aligned))
+  pub does_flow : DoesRow f (flat (elements_of f single wide aligned large))
   does_flow code s args back good from stands r row e come c h points counter =
       let y = row_does code s args back good r row e come c h points counter in
       let l = y.3 in
-      let steps = more_steps (most_besides f) (turns (lanes f) args.n) (cost f + arrays_of f) in
-      let z = doing f code s args back good r 0 args.n (Wanted code s args back good r row) c (elements_of f single wide aligned) (fits_elements f is single wide aligned x).allowed from stands
-      (most_besides f + turns (lanes f) args.n * (cost f + arrays_of f + 6)) (turns (lanes f) args.n * some) y.0 y.1 y.2 (record { e = l.e; come = l.come; short = omega (arith, l.short, steps); light = l.light; quiet = l.quiet; holds = l.holds; words = l.words }) in
+      let steps : 2 + most_turn f ≡ cost f + arrays_of f + 6 = omega arith in
+      let z = doing f code s args back good r 0 args.n (Wanted code s args back good r row) c (elements_of f single wide aligned large) (fits_elements f is single wide aligned large x).allowed from stands
+      (most_besides f + turns (lanes f) args.n * (cost f + arrays_of f + 6)) (turns (lanes f) args.n * some) y.0 y.1 y.2 (record { e = l.e; come = l.come; short = subst (λ k. length y.0 ≤ most_besides f + turns (lanes f) args.n * k) steps l.short; light = l.light; quiet = l.quiet; holds = l.holds; words = l.words }) in
       (z.0, λ full reached alone. z.2 (full, reached, alone))
 
 -- as the tree is built
 pub does_tree : (f : FunctionValue) → is_function f ≡ true → (tree : Tree) → IsElements f tree → DoesRow f (flat_of tree)
-does_tree f is tree (single, wide, aligned, turns, e) = subst (DoesRow f) (sym e) (does_flow f is single wide aligned turns)
+does_tree f is tree (single, wide, aligned, large, turns, e) = subst (DoesRow f) (sym e) (does_flow f is single wide aligned large turns)

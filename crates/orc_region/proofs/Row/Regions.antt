@@ -2,7 +2,7 @@
 use Rattle.std.proofs.Common.{◌≡◌, ◌≢◌, ℕ, zero, suc, ◌+◌, ◌-◌, ◌*◌, ◌/◌, ◌%◌, ◌^◌, ◌<◌, ◌≤◌, ◌==◌, nat_le, nat_lt, cond, not, Bool, true, false, if◌then◌else◌, pos, List, [], ◌∷◌, ◌++◌, length, bit_and, Option, Some, None, Ok, refl, sym, ap, ◌∙◌, subst, arith, length-append, suc-mul, ◌⊎◌, inl, inr, ⊎_elim}
 use Rattle.std.proofs.lemmas.Bool.{cases_lt, cases_eq}
 use Rattle.std.proofs.lemmas.Nat.{and_mask, div-add-mod'}
-use Rattle.std.proofs.Math.Nat.{add-mul, mul_assoc, mod-lt, mul-le-mul_left, mul-le-mul_right, mod-eq_of_lt}
+use Rattle.std.proofs.Math.Nat.{add-mul, mul-add, mul_assoc, mod-lt, mul-le-mul_left, mul-le-mul_right, mod-eq_of_lt}
 use Rattle.std.specs.Int.Bits.{and_self}
 use Rattle.orc_bits.specs.Lanes.{byte_of, change}
 use Rattle.orc_bits.specs.Memory.{word, fill, IsMapped}
@@ -58,12 +58,13 @@ reached_steps a xs b ys g m each fixed la lb x y = omega (arith, length-append a
 reached_touches : (v : Ins → ℕ) (a xs b ys : List Ins) (g m some : ℕ) → weigh v a ≡ 0 → weigh v b ≡ 0 → weigh v xs ≤ g * some → weigh v ys ≤ m * some → weigh v (a ++ (xs ++ (b ++ ys))) ≤ (g + m) * some
 reached_touches v a xs b ys g m some la lb x y = omega (arith, weigh_append v a (xs ++ (b ++ ys)), weigh_append v xs (b ++ ys), weigh_append v b ys, la, lb, x, y, add-mul g m some)
 
--- a choice, on either way
-one_way : (a : Ins) (xs : List Ins) (fixed p : ℕ) → length xs ≤ 6 + fixed + p → length (a ∷ xs) ≤ 7 + fixed + p
-one_way a xs fixed p x = omega (arith, x)
+-- a choice, on either way: the first has three instructions more besides its turns, and at least one turn to pay for them
+one_way : (a : Ins) (xs : List Ins) (fixed turned each : ℕ) → 0 < turned → length xs ≤ 6 + (3 + fixed) + turned * each → length (a ∷ xs) ≤ 7 + fixed + turned * (3 + each)
+one_way a xs fixed zero each some x = absurd (omega (arith, some))
+one_way a xs fixed (suc m) each some x = (let y : suc m * 3 + suc m * each ≡ suc m * (3 + each) = sym (mul-add (suc m) 3 each) in omega (arith, x, y))
 
-other_way : (a b : Ins) (xs : List Ins) (fixed p : ℕ) → length xs ≤ 1 + fixed + p → length (a ∷ (xs ++ b ∷ [])) ≤ 7 + fixed + p
-other_way a b xs fixed p x = omega (arith, length-append xs (b ∷ []), x)
+other_way : (a b : Ins) (xs : List Ins) (fixed turned each : ℕ) → length xs ≤ 1 + fixed + turned * each → length (a ∷ (xs ++ b ∷ [])) ≤ 7 + fixed + turned * (3 + each)
+other_way a b xs fixed turned each x = omega (arith, length-append xs (b ∷ []), x, mul-add turned 3 each)
 
 other_weight : (v : Ins → ℕ) (a b : Ins) (xs : List Ins) (p : ℕ) → v a ≡ 0 → v b ≡ 0 → weigh v xs ≤ p → weigh v (a ∷ (xs ++ b ∷ [])) ≤ p
 other_weight v a b xs p va vb x = omega (arith, weigh_append v xs (b ∷ []), va, vb, x)
@@ -73,6 +74,9 @@ row_steps : (a b xs ys : List Ins) (fixed m rest each t : ℕ) → length a ≤ 
 row_steps a b xs ys fixed m rest each t la lb x y l =
     let few : (m + rest) * each ≤ t * each = mul-le-mul_right each l in
     omega (arith, few, add-mul m rest each, length-append a (b ++ (xs ++ ys)), length-append b (xs ++ ys), length-append xs ys, la, lb, x, y)
+
+tail_steps : (ys : List Ins) (rest each : ℕ) → length ys ≤ 2 + rest * each → length ys ≤ 2 + rest * (3 + each)
+tail_steps ys rest each y = omega (arith, y, mul-add rest 3 each)
 
 row_touches : (v : Ins → ℕ) (a b xs ys : List Ins) (m rest some t : ℕ) → weigh v a ≤ 0 → weigh v b ≡ 0 → weigh v xs ≤ m * some → weigh v ys ≤ rest * some → m + rest ≤ t → weigh v (a ++ (b ++ (xs ++ ys))) ≤ t * some
 row_touches v a b xs ys m rest some t la lb x y l =
@@ -226,16 +230,17 @@ module _ (Q : Core → Ins → Type 0) (rsp : ℕ) (stack_low : rsp + (frame_siz
             t.6,
           )
 
-      loop : (m : ℕ) (c : Core) → Going m c → (done : List Ins) × (d : Core) × Does Q (Repeat Ns turn) c done d × Rest count rest start d × (length done ≤ 1 + m * (2 + steps)) × (weigh v done ≤ m * touches)
+      loop : (m : ℕ) (c : Core) → Going m c → (done : List Ins) × (d : Core) × Does Q (Repeat Ns turn) c done d × (end : Rest count rest start d) × (length done ≤ 1 + m * (2 + steps)) × (weigh v done ≤ m * touches) × Pre end.i
       loop m c h =
           let x = counted_loop Q Ns turn Going (λ i. 1) v steps touches (λ q rel. refl, λ rel. refl) (λ q rel. refl, λ rel. refl) (λ m c h. jumps h.i c h.at) going_tests going_turn m c h in
           let last = x.3 in
-          (x.0, x.1, x.2, record { i = last.i; all = omega (arith, last.all); at = last.at; counter = last.counter; tested = last.tested; word = last.word }, omega (arith, x.4, weigh_one x.0), x.5)
+          (x.0, x.1, x.2, record { i = last.i; all = omega (arith, last.all); at = last.at; counter = last.counter; tested = last.tested; word = last.word }, omega (arith, x.4, weigh_one x.0), x.5, last.pre)
 
     -- turns of so many elements are a region
     pub wide_region : (turn : Flow) (lanes : ℕ) (Pre : ℕ → Type 0) → 0 < lanes → lanes ≤ 64 → ((i : ℕ) → Pre i → Pre (lanes + i)) → IsTurn turn lanes Pre each some → IsRegion (Repeat Ns turn) lanes Pre 1
     wide_region turn lanes Pre positive most next does i c m rest all short at pre counter tested =
-        loop turn lanes Pre each some positive most next does rest short c m c (record { i = i; all = all; at = at; pre = pre; counter = counter; tested = tested; word = λ x w. refl })
+        let x = loop turn lanes Pre each some positive most next does rest short c m c (record { i = i; all = all; at = at; pre = pre; counter = counter; tested = tested; word = λ x w. refl }) in
+        (x.0, x.1, x.2, x.3, x.4, x.5)
 
     -- ---- single elements
 
@@ -302,25 +307,25 @@ module _ (Q : Core → Ins → Type 0) (rsp : ℕ) (stack_low : rsp + (frame_siz
     -- RCX becomes less by the difference, and then turns of `more` elements
     large_part : (large : Flow) (lanes more : ℕ) (Pre : ℕ → Type 0) (steps touches : ℕ) → 0 < more → lanes ≤ more → more ≤ 64 → ((i : ℕ) → Pre i → Pre (more + i)) → IsTurn large more Pre steps touches
         → (i : ℕ) (c : Core) (q rest : ℕ) → i + (q * more + rest) ≡ n → rest < more → At i c → Pre i → c.gpr 1 ≡ less lanes i
-        → (done : List Ins) × (d : Core) × Does Q (Chain (Plain (AluImm Sub 1 (pos (more - lanes)) ∷ [])) (Repeat Ns large)) c done d × Rest more rest c d × (length done ≤ 2 + q * (2 + steps)) × (weigh v done ≤ q * touches)
+        → (done : List Ins) × (d : Core) × Does Q (Chain (Plain (AluImm Sub 1 (pos (more - lanes)) ∷ [])) (Repeat Ns large)) c done d × (end : Rest more rest c d) × (length done ≤ 2 + q * (2 + steps)) × (weigh v done ≤ q * touches) × Pre end.i
     large_part large lanes more Pre steps touches positive under most next does i c q rest all short at pre counter = go (lower_line (more - lanes) (omega (arith, most)) i c at)
       where
         down : (x : ℕ) → x ≡ (c.gpr 1 + (2 ^ 64 - (more - lanes))) % 2 ^ 64 → x ≡ less more i
         down x e = e ∙ ap (λ t. (t + (2 ^ 64 - (more - lanes))) % 2 ^ 64) counter ∙ (let f = ground.few in omega (arith, f, most, under, all))
 
         go : (d : Core) × Line Q (AluImm Sub 1 (pos (more - lanes)) ∷ []) c d × Recounted i ((c.gpr 1 + (2 ^ 64 - (more - lanes))) % 2 ^ 64) c d
-            → (done : List Ins) × (d : Core) × Does Q (Chain (Plain (AluImm Sub 1 (pos (more - lanes)) ∷ [])) (Repeat Ns large)) c done d × Rest more rest c d × (length done ≤ 2 + q * (2 + steps)) × (weigh v done ≤ q * touches)
+            → (done : List Ins) × (d : Core) × Does Q (Chain (Plain (AluImm Sub 1 (pos (more - lanes)) ∷ [])) (Repeat Ns large)) c done d × (end : Rest more rest c d) × (length done ≤ 2 + q * (2 + steps)) × (weigh v done ≤ q * touches) × Pre end.i
         go (u, line, h) =
             let y = loop large more Pre steps touches positive most next does rest short c q u
             (record { i = i; all = all; at = h.at; pre = pre; counter = down (u.gpr 1) h.counter_is; tested = h.tested; word = λ t w. ap (λ g. g t) h.memory }) in
             let first = AluImm Sub 1 (pos (more - lanes)) in
-            (first ∷ y.0, y.1, (first ∷ [], y.0, u, (line, refl), y.2, refl), y.3, one_more first y.0 (q * (2 + steps)) y.4, one_weight v first y.0 (q * touches) refl y.5)
+            (first ∷ y.0, y.1, (first ∷ [], y.0, u, (line, refl), y.2, refl), y.3, one_more first y.0 (q * (2 + steps)) y.4, one_weight v first y.0 (q * touches) refl y.5, y.6)
 
     -- and then turns of `lanes` elements
-    small_part : (turn : Flow) (lanes more : ℕ) (Pre : ℕ → Type 0) → 0 < lanes → lanes ≤ more → more ≤ 64 → ((i : ℕ) → Pre i → Pre (lanes + i)) → ((i rest : ℕ) → i + rest ≡ n → Pre i) → IsTurn turn lanes Pre each some
-        → (c u : Core) (r rest : ℕ) → rest < lanes → Rest more (r * lanes + rest) c u
+    small_part : (turn : Flow) (lanes more : ℕ) (Pre : ℕ → Type 0) → 0 < lanes → lanes ≤ more → more ≤ 64 → ((i : ℕ) → Pre i → Pre (lanes + i)) → IsTurn turn lanes Pre each some
+        → (c u : Core) (r rest : ℕ) → rest < lanes → (g : Rest more (r * lanes + rest) c u) → Pre g.i
         → (done : List Ins) × (d : Core) × Does Q (Chain (Plain (AluImm Add 1 (pos (more - lanes)) ∷ [])) (Repeat Ns turn)) u done d × Rest lanes rest c d × (length done ≤ 2 + r * (2 + each)) × (weigh v done ≤ r * some)
-    small_part turn lanes more Pre positive under most next always does c u r rest short g = go (raise_line (more - lanes) (omega (arith, most)) g.i u g.at)
+    small_part turn lanes more Pre positive under most next does c u r rest short g pre = go (raise_line (more - lanes) (omega (arith, most)) g.i u g.at)
       where
         up : (x : ℕ) → x ≡ (u.gpr 1 + (more - lanes)) % 2 ^ 64 → x ≡ less lanes g.i
         up x e = e ∙ ap (λ t. (t + (more - lanes)) % 2 ^ 64) g.counter ∙ (let f = ground.few in let a = g.all in omega (arith, f, most, under, a))
@@ -329,15 +334,15 @@ module _ (Q : Core → Ins → Type 0) (rsp : ℕ) (stack_low : rsp + (frame_siz
             → (done : List Ins) × (d : Core) × Does Q (Chain (Plain (AluImm Add 1 (pos (more - lanes)) ∷ [])) (Repeat Ns turn)) u done d × Rest lanes rest c d × (length done ≤ 2 + r * (2 + each)) × (weigh v done ≤ r * some)
         go (z, line, h) =
             let y = loop turn lanes Pre each some positive (omega (arith, under, most)) next does rest short c r z
-            (record { i = g.i; all = g.all; at = h.at; pre = always g.i (r * lanes + rest) g.all; counter = up (z.gpr 1) h.counter_is; tested = h.tested; word = λ t w. ap (λ f. f t) h.memory ∙ g.word t w }) in
+            (record { i = g.i; all = g.all; at = h.at; pre = pre; counter = up (z.gpr 1) h.counter_is; tested = h.tested; word = λ t w. ap (λ f. f t) h.memory ∙ g.word t w }) in
             let first = AluImm Add 1 (pos (more - lanes)) in
             (first ∷ y.0, y.1, (first ∷ [], y.0, z, (line, refl), y.2, refl), y.3, one_more first y.0 (r * (2 + each)) y.4, one_weight v first y.0 (r * some) refl y.5)
 
     -- b · lanes at a turn; its steps and touches are at most those of b turns
     pub wide_regions : (turn large : Flow) (lanes b : ℕ) (Pre : ℕ → Type 0) (steps touches : ℕ) → 0 < lanes → 0 < b → b * lanes ≤ 64 → lanes ≤ b * lanes
-        → ((i : ℕ) → Pre i → Pre (lanes + i)) → ((i : ℕ) → Pre i → Pre (b * lanes + i)) → ((i rest : ℕ) → i + rest ≡ n → Pre i) → IsTurn turn lanes Pre each some → IsTurn large (b * lanes) Pre steps touches → 2 + steps ≤ b * (2 + each) → touches ≤ b * some
+        → ((i : ℕ) → Pre i → Pre (lanes + i)) → ((i : ℕ) → Pre i → Pre (b * lanes + i)) → IsTurn turn lanes Pre each some → IsTurn large (b * lanes) Pre steps touches → 2 + steps ≤ b * (2 + each) → touches ≤ b * some
         → IsRegion (wide_loops lanes (b * lanes) large turn) lanes Pre 4
-    wide_regions turn large lanes b Pre steps touches positive many most under next next_large always does does_large few_steps few_touches i c m rest all short at pre counter tested =
+    wide_regions turn large lanes b Pre steps touches positive many most under next next_large does does_large few_steps few_touches i c m rest all short at pre counter tested =
         go (large_part large lanes (b * lanes) Pre steps touches (omega (arith, under, positive)) under most next_large does_large i c (m / b) (m % b * lanes + rest) (omega (arith, all, parts)) inside at pre counter)
       where
         split : m / b * b + m % b ≡ m
@@ -356,10 +361,10 @@ module _ (Q : Core → Ins → Type 0) (rsp : ℕ) (stack_low : rsp + (frame_siz
         whole : (y : ℕ) → m / b * b * y + m % b * y ≡ m * y
         whole y = sym (add-mul (m / b * b) (m % b) y) ∙ ap (λ k. k * y) split
 
-        go : (done : List Ins) × (d : Core) × Does Q (Chain (Plain (AluImm Sub 1 (pos (b * lanes - lanes)) ∷ [])) (Repeat Ns large)) c done d × Rest (b * lanes) (m % b * lanes + rest) c d × (length done ≤ 2 + m / b * (2 + steps)) × (weigh v done ≤ m / b * touches)
+        go : (done : List Ins) × (d : Core) × Does Q (Chain (Plain (AluImm Sub 1 (pos (b * lanes - lanes)) ∷ [])) (Repeat Ns large)) c done d × (end : Rest (b * lanes) (m % b * lanes + rest) c d) × (length done ≤ 2 + m / b * (2 + steps)) × (weigh v done ≤ m / b * touches) × Pre end.i
             → (done : List Ins) × (d : Core) × Does Q (wide_loops lanes (b * lanes) large turn) c done d × Rest lanes rest c d × (length done ≤ 4 + m * (2 + each)) × (weigh v done ≤ m * some)
-        go (xs, u, line, g, few, light) =
-            let y = small_part turn lanes (b * lanes) Pre positive under most next always does c u (m % b) rest short g in (
+        go (xs, u, line, g, few, light, pre_there) =
+            let y = small_part turn lanes (b * lanes) Pre positive under most next does c u (m % b) rest short g pre_there in (
               xs ++ y.0,
               y.1,
               (xs, y.0, u, line, y.2, refl),
@@ -650,23 +655,23 @@ module _ (Q : Core → Ins → Type 0) (rsp : ℕ) (stack_low : rsp + (frame_siz
 
     -- ---- to the end of whole turns, on either way
 
-    -- where a way to the tail comes to, with so many turns done
-    record ToTail (lanes rest turned fixed : ℕ) (flow : Flow) (c : Core) : Type 0 where
+    -- where a way to the tail comes to, with so many turns done, each in so many steps
+    record ToTail (lanes rest turned fixed steps : ℕ) (flow : Flow) (c : Core) : Type 0 where
       done : List Ins
       middle : Core
       d : Core
       does : Does Q flow c done d
       ends : Rest lanes rest middle d
-      few : length done ≤ fixed + turned * (2 + each)
+      few : length done ≤ fixed + turned * steps
       light : weigh v done ≤ turned * some
 
     module _ (single wide aligned : Flow) (k lanes fixed base : ℕ) (positive : 0 < lanes) (most : lanes ≤ 64) (does_single : IsTurn single 1 (λ i. Unit {0}) each some)
-        (does_aligned : IsRegion aligned lanes (AtSixteen k base) fixed)
+        (does_aligned : IsRegion aligned lanes (AtSixteen k base) (3 + fixed))
         (does_wide : IsRegion wide lanes (λ i. (j : ℕ) → j + lanes ≤ n → AtSixteen k base j → ⊥) fixed) where
-      reached_line : (g : ℕ) (c : Core) → At 0 c → c.gpr 0 ≡ g → c.gpr 1 ≡ less lanes g → AtSixteen k base g → (m rest : ℕ) → g + (m * lanes + rest) ≡ n → rest < lanes → ToTail lanes rest (g + m) (6 + fixed) (reached_flow single aligned) c
+      reached_line : (g : ℕ) (c : Core) → At 0 c → c.gpr 0 ≡ g → c.gpr 1 ≡ less lanes g → AtSixteen k base g → (m rest : ℕ) → g + (m * lanes + rest) ≡ n → rest < lanes → ToTail lanes rest (g + m) (6 + (3 + fixed)) (2 + each) (reached_flow single aligned) c
       reached_line g c h gap_is count at_16 m rest all short = first (enter_line c h)
         where
-          last : (u : Core) → Line Q enter_head_code c u → (xs : List Ins) (w : Core) → Does Q (Repeat Ne single) u xs w → (length xs ≤ 1 + g * (2 + each)) → (weigh v xs ≤ g * some) → (d : Core) × Line Q leave_head_code w d × Left g (less lanes g) d → ToTail lanes rest (g + m) (6 + fixed) (reached_flow single aligned) c
+          last : (u : Core) → Line Q enter_head_code c u → (xs : List Ins) (w : Core) → Does Q (Repeat Ne single) u xs w → (length xs ≤ 1 + g * (2 + each)) → (weigh v xs ≤ g * some) → (d : Core) × Line Q leave_head_code w d × Left g (less lanes g) d → ToTail lanes rest (g + m) (6 + (3 + fixed)) (2 + each) (reached_flow single aligned) c
           last u enters xs w turns few light (d, leaves, x) =
               let y = does_aligned g d m rest all short x.at at_16 x.counter x.tested in
               record {
@@ -675,11 +680,11 @@ module _ (Q : Core → Ins → Type 0) (rsp : ℕ) (stack_low : rsp + (frame_siz
                 d = y.1;
                 does = (enter_head_code, xs ++ (leave_head_code ++ y.0), u, (enters, refl), (xs, leave_head_code ++ y.0, w, turns, (leave_head_code, y.0, d, (leaves, refl), y.2, refl), refl), refl);
                 ends = y.3;
-                few = reached_steps enter_head_code xs leave_head_code y.0 g m (2 + each) fixed refl refl few y.4;
+                few = reached_steps enter_head_code xs leave_head_code y.0 g m (2 + each) (3 + fixed) refl refl few y.4;
                 light = reached_touches v enter_head_code xs leave_head_code y.0 g m some free_enter free_leave light y.5;
               }
 
-          first : (u : Core) × Line Q enter_head_code c u × Entered c u → ToTail lanes rest (g + m) (6 + fixed) (reached_flow single aligned) c
+          first : (u : Core) × Line Q enter_head_code c u × Entered c u → ToTail lanes rest (g + m) (6 + (3 + fixed)) (2 + each) (reached_flow single aligned) c
           first (u, enters, x) =
               let y = singles single does_single g (omega (arith, all)) u g u (record { i = 0; all = omega arith; at = x.at; counter = x.counter ∙ gap_is; tested = x.tested; word = λ t w. refl }) in
               let ended = y.3 in
@@ -688,7 +693,7 @@ module _ (Q : Core → Ins → Type 0) (rsp : ℕ) (stack_low : rsp + (frame_siz
               let holds : word y.1.memory (rsp + left_slot) ≡ Some (less lanes g) = word_same y.1.memory u.memory (rsp + left_slot) (omega (arith, stack_low)) (λ t l r. ended.word t (l, r)) ∙ x.holds ∙ ap Some count in
               last u enters y.0 y.1 y.2 y.4 y.5 (leave_line g (less lanes g) y.1 at holds)
 
-      unreached_line : (g : ℕ) (c : Core) → At 0 c → c.gpr 0 ≡ g → g ≤ never → c.gpr 1 ≡ less lanes g → ((j : ℕ) → j + lanes ≤ n → AtSixteen k base j → ⊥) → (m rest : ℕ) → 0 + (m * lanes + rest) ≡ n → rest < lanes → ToTail lanes rest m (1 + fixed) (unreached_flow wide) c
+      unreached_line : (g : ℕ) (c : Core) → At 0 c → c.gpr 0 ≡ g → g ≤ never → c.gpr 1 ≡ less lanes g → ((j : ℕ) → j + lanes ≤ n → AtSixteen k base j → ⊥) → (m rest : ℕ) → 0 + (m * lanes + rest) ≡ n → rest < lanes → ToTail lanes rest m (1 + fixed) (2 + each) (unreached_flow wide) c
       unreached_line g c h gap_is small count none m rest all short =
           let d : Core = alu_core Add c 1 (c.gpr 0) in
           let b : Beside c d = set_1 c c _ _ (beside_same c) in
@@ -714,13 +719,18 @@ module _ (Q : Core → Ins → Type 0) (rsp : ℕ) (stack_low : rsp + (frame_siz
         rest : ℕ
         short : rest < lanes
         fit : turned + rest ≤ turns lanes n
-        to : ToTail lanes rest turned (7 + fixed) (Choice Ns (reached_flow single aligned) (unreached_flow wide)) c
+        to : ToTail lanes rest turned (7 + fixed) (3 + (2 + each)) (Choice Ns (reached_flow single aligned) (unreached_flow wide)) c
 
       none_left : (g : ℕ) → g ≤ never → n < g + lanes → not (nat_le (2 ^ 63) (less lanes g)) ≡ false
       none_left g small l = ap not (le_yes (2 ^ 63) (less lanes g) (let f = ground.few in omega (arith, f, most, small, l)))
 
       some_left : (g : ℕ) → g + lanes ≤ n → not (nat_le (2 ^ 63) (less lanes g)) ≡ true
       some_left g l = ap not (le_no (2 ^ 63) (less lanes g) (let f = ground.few in omega (arith, f, most, l)))
+
+      -- at least one turn is done where a boundary is reached
+      a_turn : (g m rest : ℕ) → rest < lanes → g + (m * lanes + rest) ≡ n → g + lanes ≤ n → 0 < g + m
+      a_turn g zero rest short all enough = absurd (omega (arith, short, all, enough))
+      a_turn g (suc m) rest short all enough = omega arith
 
       module _ (g : ℕ) (c : Core) (h : At 0 c) (gap_is_g : c.gpr 0 ≡ g) (counts : c.gpr 1 ≡ less lanes g) (tested : Tested c) where
         choose_reached : AtSixteen k base g → g < lanes → g + lanes ≤ n → Chosen c
@@ -729,6 +739,7 @@ module _ (Q : Core → Ins → Type 0) (rsp : ℕ) (stack_low : rsp + (frame_siz
             let rest = (n - g) % lanes in
             let short : rest < lanes = mod-lt (n - g) positive in
             let all : g + (m * lanes + rest) ≡ n = (let z = div-add-mod' (n - g) lanes in omega (arith, z, enough)) in
+            let some_turn : 0 < g + m = a_turn g m rest short all enough in
             let x = reached_line g c h gap_is_g counts at_16 m rest all short in
             let jump = JumpIf Ns (pos (size (flat (unreached_flow wide)) + 5)) in
             let goes : test Ns c.flags ≡ Some true = tested.sign ∙ ap (λ t. Some (not (nat_le (2 ^ 63) t))) counts ∙ ap Some (some_left g enough) in
@@ -743,7 +754,7 @@ module _ (Q : Core → Ins → Type 0) (rsp : ℕ) (stack_low : rsp + (frame_siz
                 d = x.d;
                 does = inl (jumps 0 c h, goes, (x.done, x.does, refl));
                 ends = x.ends;
-                few = one_way jump x.done fixed ((g + m) * (2 + each)) x.few;
+                few = one_way jump x.done fixed (g + m) (2 + each) some_turn x.few;
                 light = one_weight v jump x.done ((g + m) * some) refl x.light;
               };
             }
@@ -769,7 +780,7 @@ module _ (Q : Core → Ins → Type 0) (rsp : ℕ) (stack_low : rsp + (frame_siz
                 d = x.d;
                 does = inr (jumps 0 c h, goes, (x.done, x.does, jumps x.ends.i x.d x.ends.at, refl));
                 ends = x.ends;
-                few = other_way jump past x.done fixed (m * (2 + each)) x.few;
+                few = other_way jump past x.done fixed m (2 + each) x.few;
                 light = other_weight v jump past x.done (m * some) refl refl x.light;
               };
             }
@@ -786,11 +797,11 @@ module _ (Q : Core → Ins → Type 0) (rsp : ℕ) (stack_low : rsp + (frame_siz
 
       -- a row whose first dest has elements of 2 ^ k bytes, of which `lanes` fill a register
       pub aligned_line : k ≤ 3 → 16 / 2 ^ k ≡ lanes → (c : Core) → At 0 c → c.gpr 1 ≡ n → base % 2 ^ 64 ≡ c.gpr 2
-          → (done : List Ins) × (d : Core) × Does Q (aligned_row k lanes single wide aligned) c done d × At n d × (length done ≤ 18 + fixed + turns lanes n * (2 + each)) × (weigh v done ≤ turns lanes n * some)
+          → (done : List Ins) × (d : Core) × Does Q (aligned_row k lanes single wide aligned) c done d × At n d × (length done ≤ 18 + fixed + turns lanes n * (3 + (2 + each))) × (weigh v done ≤ turns lanes n * some)
       aligned_line few same c h counts address_is = first (gap_done k base few c h address_is)
         where
           Ends : Type 0
-          Ends = (done : List Ins) × (d : Core) × Does Q (aligned_row k lanes single wide aligned) c done d × At n d × (length done ≤ 18 + fixed + turns lanes n * (2 + each)) × (weigh v done ≤ turns lanes n * some)
+          Ends = (done : List Ins) × (d : Core) × Does Q (aligned_row k lanes single wide aligned) c done d × At n d × (length done ≤ 18 + fixed + turns lanes n * (3 + (2 + each))) × (weigh v done ≤ turns lanes n * some)
 
           under : (g : ℕ) → Kind k base g → g ≤ never
           under g (inl gap) = (let l : g < lanes = subst (λ l. g < l) same gap.near in omega (arith, l, most))
@@ -803,7 +814,7 @@ module _ (Q : Core → Ins → Type 0) (rsp : ℕ) (stack_low : rsp + (frame_siz
                 z.1,
                 (xs, behind_code lanes ++ (x.to.done ++ z.0), b, gaps, (behind_code lanes, x.to.done ++ z.0, u, (behinds, refl), (x.to.done, z.0, x.to.d, x.to.does, z.2, refl), refl), refl),
                 z.3,
-                row_steps xs (behind_code lanes) x.to.done z.0 fixed x.turned x.rest (2 + each) (turns lanes n) few_as refl x.to.few z.4 x.fit,
+                row_steps xs (behind_code lanes) x.to.done z.0 fixed x.turned x.rest (3 + (2 + each)) (turns lanes n) few_as refl x.to.few (tail_steps z.0 x.rest (2 + each) z.4) x.fit,
                 row_touches v xs (behind_code lanes) x.to.done z.0 x.turned x.rest some (turns lanes n) light_as refl x.to.light z.5 x.fit,
               )
 

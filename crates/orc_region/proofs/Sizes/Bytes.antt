@@ -1,5 +1,5 @@
 -- The code's instructions are allowed; its steps and bytes are few.
-use Rattle.std.proofs.Common.{◌≡◌, ℕ, zero, suc, ◌+◌, ◌*◌, ◌^◌, ◌<◌, ◌≤◌, Bool, true, false, pos, List, [], ◌∷◌, ◌++◌, length, map, refl, ◌∙◌, arith}
+use Rattle.std.proofs.Common.{◌≡◌, ℕ, zero, suc, ◌+◌, ◌*◌, ◌^◌, ◌<◌, ◌≤◌, Bool, true, false, pos, List, [], ◌∷◌, ◌++◌, length, map, suc-mul, refl, sym, subst, ◌∙◌, arith}
 use Rattle.std.proofs.Math.Nat.{mul-le-mul_right}
 use Rattle.x86_ins.specs.declared.ins.AluOp.TheVariants.{Add, Sub}
 use Rattle.x86_ins.specs.declared.ins.Ins.{Ins}
@@ -14,17 +14,16 @@ use Rattle.orc_ops.specs.declared.opcode.Op.{Op}
 use Rattle.orc_ops.specs.Table.{row}
 use Rattle.sse_laws.specs.Meets.{is_sum}
 use Rattle.x86_ins.specs.Way.{Each}
-use Rattle.x86_flow.specs.Flow.{size}
 use Rattle.x86_flow.specs.Moves.{IsWidth, away, store_either_code}
-use Rattle.x86_flow.proofs.Spelled.{IsFine, fine_alu_imm, fits_up, each_both, size_within, fine_load_far, fine_store_far, fine_aligned_store, fine_vec_load, fine_vec_store}
+use Rattle.x86_flow.proofs.Spelled.{IsFine, fine_alu_imm, fits_up, each_both, fine_load_far, fine_store_far, fine_aligned_store, fine_vec_load, fine_vec_store}
 use Rattle.orc_frame.specs.Layout.{pattern_slot, sum_slot, spill_slot}
-use Rattle.orc_region.specs.Code.{Action, IsRule, Source, FromArray, FromPattern, FromPlace, FromSlot, Target, ToArray, ToSum, ToPlace, ToSlot, Plan, pointer, place_register, made_in, first_register, second_register, rule_register, rule_code, at_pointer, unaligned, aligned_first, source_far_code, sources_far_code, sum_code, result_far_code, results_far_code, action_far_code, actions_far_code, actions_code, advance_code, block_far, blocks_code, turn_code, blocks_turn_code}
+use Rattle.orc_region.specs.Code.{Action, IsRule, Source, FromArray, FromPattern, FromPlace, FromSlot, Target, ToArray, ToSum, ToPlace, ToSlot, Plan, pointer, place_register, made_in, first_register, second_register, rule_register, rule_code, AreBlocks, AreTurns, far_by, source_far_code, sources_far_code, sum_code, result_far_code, results_far_code, action_far_code, actions_far_code, advance_code}
 use Rattle.orc_region.proofs.Block.Keeping.{ins_of}
 use Rattle.orc_region.proofs.Block.RuleRegisters.{register_small}
 use Rattle.orc_region.proofs.Sizes.Cost.{from_weights, to_weights, weights}
 use Rattle.orc_region.proofs.Block.Registers.{pointer_small}
 use Rattle.orc_region.proofs.Sizes.Vectored.{fine_rule}
-use Rattle.orc_region.proofs.Sizes.Counts.{IsFromSlot, IsToSlot, IsMovable, turn_count, block_turn_count}
+use Rattle.orc_region.proofs.Sizes.Counts.{IsFromSlot, IsToSlot, IsMovable}
 
 -- what is asked of a plan by which so many elements are done at once
 pub record Small (count : ℕ) (p : Plan) : Type 0 where
@@ -140,48 +139,41 @@ weight_few : (count : ℕ) (size : ℕ → ℕ) (actions : List Action) → Each
 weight_few count size [] h = omega arith
 weight_few count size (a ∷ rest) h = omega (arith, h.0.few, h.0.few_to, h.0.rule.short, from_few a.sources, to_few a.to, weight_few count size rest h.1)
 
--- ---- pointers and counter
+pub weights_most : (count : ℕ) (p : Plan) → Small count p → weights p.actions ≤ 10800
+weights_most count p h = omega (arith, weight_few count p.size p.actions h.actions, h.few)
 
-step_small : (by size : ℕ) → by ≤ 16 → size ≤ 8 → by * size ≤ 128
-step_small by size most small = let m : by * size ≤ 16 * size = mul-le-mul_right size most in omega (arith, m, small)
+-- ---- turns of blocks of actions of which Are holds
 
-fine_advance : (size : ℕ → ℕ) → ((k : ℕ) → size k ≤ 8) → (by : ℕ) → by ≤ 16 → (first n : ℕ) → first + n ≤ 12 → Each IsFine (advance_code size by first n)
-fine_advance size small by most first zero h = tt
-fine_advance size small by most first (suc n) h =
-    let step = step_small by (size (first + n)) most (small (first + n)) in
-    each_both IsFine (advance_code size by first n) (AluImm Add (pointer (first + n)) (pos (by * size (first + n))) ∷ []) (fine_advance size small by most first n (omega (arith, h)))
-    (fine_alu_imm Add (pointer (first + n)) (pos (by * size (first + n))) (pointer_small (first + n) (omega (arith, h))) (fits_up (by * size (first + n)) (omega (arith, step))), tt)
+step_small : (by size : ℕ) → by ≤ 64 → size ≤ 8 → by * size ≤ 512
+step_small by size most small = let m : by * size ≤ 64 * size = mul-le-mul_right size most in omega (arith, m, small)
 
-module _ (count : ℕ) (p : Plan) (h : Small count p) where
-  -- code, and what moves the pointers and the counter on
-  fine_move : (by : ℕ) → by ≤ 16 → (code : List Ins) → Each IsFine code → Each IsFine (code ++ (advance_code p.size by 0 p.dests ++ (advance_code p.size by 4 p.sources ++ AluImm Sub 1 (pos by) ∷ [])))
-  fine_move by most code fine =
-      let last = AluImm Sub 1 (pos by) ∷ [] in
-      each_both IsFine code (advance_code p.size by 0 p.dests ++ (advance_code p.size by 4 p.sources ++ last)) fine
-      (each_both IsFine (advance_code p.size by 0 p.dests) (advance_code p.size by 4 p.sources ++ last) (fine_advance p.size h.size by most 0 p.dests (omega (arith, h.dests)))
-      (each_both IsFine (advance_code p.size by 4 p.sources) last (fine_advance p.size h.size by most 4 p.sources (omega (arith, h.sources))) (fine_alu_imm Sub 1 (pos by) (omega arith) (fits_up by (omega (arith, most))), tt)))
+module _ (count : ℕ) (size : ℕ → ℕ) (small : (k : ℕ) → size k ≤ 8) (aligned : ℕ → Bool) where
+  near : (first : ℕ) → first ≤ 64 → (k : ℕ) → far_by first size k < 2 ^ 31
+  near first l k = (let m = step_small first (size k) l (small k) in omega (arith, m))
 
-  -- the cells of the first block are at the pointers
-  block_near : (k : ℕ) → block_far p (0 * count) k < 2 ^ 31
-  block_near k = omega arith
+  fine_advance : (by : ℕ) → by ≤ 64 → (first n : ℕ) → first + n ≤ 12 → Each IsFine (advance_code size by first n)
+  fine_advance by most first zero h = tt
+  fine_advance by most first (suc n) h =
+      let step = step_small by (size (first + n)) most (small (first + n)) in
+      each_both IsFine (advance_code size by first n) (AluImm Add (pointer (first + n)) (pos (by * size (first + n))) ∷ []) (fine_advance by most first n (omega (arith, h)))
+      (fine_alu_imm Add (pointer (first + n)) (pos (by * size (first + n))) (pointer_small (first + n) (omega (arith, h))) (fits_up (by * size (first + n)) (omega (arith, step))), tt)
 
-  pub fine_turn : Each IsFine (turn_code p count)
-  fine_turn = fine_move count h.most (actions_code count p.size p.actions) (fine_actions count p.size at_pointer unaligned (λ k. omega arith) p.actions h.actions)
+  -- the instructions of a block that is so many elements behind the pointers
+  pub ins_block : (actions : List Action) → Each (IsMovable count size) actions → (first : ℕ) → first ≤ 64 → Each (λ a. Each IsIns (action_far_code count size (far_by first size) aligned a)) actions
+  ins_block actions h first l = ins_actions count size (far_by first size) aligned (near first l) actions h
 
-  -- a turn of one block with aligned stores for the first dest
-  pub fine_aligned : Each IsFine (blocks_turn_code p (aligned_first true) count 1)
-  fine_aligned =
-      fine_move (1 * count) (let l = h.most in omega (arith, l)) (blocks_code p (aligned_first true) count 1)
-      (fine_actions count p.size (block_far p (0 * count)) (aligned_first true) block_near p.actions h.actions)
+  module _ (Are : List Action → Type 0) (movable : (actions : List Action) → Are actions → Each (IsMovable count size) actions) where
+    fine_blocks : (b : ℕ) (list : List Ins) → b * count ≤ 64 → AreBlocks Are count size aligned b list → Each IsFine list
+    fine_blocks zero list l x = subst (Each IsFine) (sym x) tt
+    fine_blocks (suc b) list l x =
+        let code = actions_far_code count size (far_by (b * count) size) aligned x.1 in
+        subst (Each IsFine) (sym x.4) (each_both IsFine x.0 code (fine_blocks b x.0 (omega (arith, l, suc-mul b count)) x.2) (fine_actions count size (far_by (b * count) size) aligned (near (b * count) (omega (arith, l, suc-mul b count))) x.1 (movable x.1 x.3)))
 
-  pub ins_block : Each (λ a. Each IsIns (action_far_code count p.size (block_far p (0 * count)) (aligned_first true) a)) p.actions
-  ins_block = ins_actions count p.size (block_far p (0 * count)) (aligned_first true) block_near p.actions h.actions
-
-  -- ---- bytes
-
-  pub turn_bytes : size (turn_code p count) ≤ 200000
-  turn_bytes = omega (arith, size_within (turn_code p count) fine_turn, turn_count p count h.actions, weight_few count p.size p.actions h.actions, h.few, h.dests, h.sources)
-
-  pub aligned_bytes : size (blocks_turn_code p (aligned_first true) count 1) ≤ 200000
-  aligned_bytes =
-      omega (arith, size_within (blocks_turn_code p (aligned_first true) count 1) fine_aligned, block_turn_count p (aligned_first true) count h.actions, weight_few count p.size p.actions h.actions, h.few, h.dests, h.sources)
+    pub fine_turn : (dests sources : ℕ) → dests ≤ 4 → sources ≤ 8 → (b : ℕ) (list : List Ins) → b * count ≤ 64 → AreTurns Are count size aligned dests sources b list → Each IsFine list
+    fine_turn dests sources few_dests few_sources b list l x =
+        let by = b * count in
+        let last = AluImm Sub 1 (pos by) ∷ [] in
+        subst (Each IsFine) (sym x.2)
+        (each_both IsFine x.0 (advance_code size by 0 dests ++ (advance_code size by 4 sources ++ last)) (fine_blocks b x.0 l x.1)
+        (each_both IsFine (advance_code size by 0 dests) (advance_code size by 4 sources ++ last) (fine_advance by l 0 dests (omega (arith, few_dests)))
+        (each_both IsFine (advance_code size by 4 sources) last (fine_advance by l 4 sources (omega (arith, few_sources))) (fine_alu_imm Sub 1 (pos by) (omega arith) (fits_up by (omega (arith, l))), tt))))

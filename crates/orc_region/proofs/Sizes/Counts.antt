@@ -1,5 +1,5 @@
 -- The instructions of the code's parts.
-use Rattle.std.proofs.Common.{◌≡◌, ℕ, zero, suc, ◌+◌, ◌*◌, ◌<◌, ◌≤◌, Bool, true, false, pos, List, [], ◌∷◌, ◌++◌, length, refl, arith, length-append}
+use Rattle.std.proofs.Common.{◌≡◌, ℕ, zero, suc, ◌+◌, ◌*◌, ◌<◌, ◌≤◌, Bool, true, false, pos, List, [], ◌∷◌, ◌++◌, length, ap, suc-mul, refl, arith, length-append}
 use Rattle.std.proofs.lemmas.List.{length-map}
 use Rattle.x86_ins.specs.declared.ins.AluOp.TheVariants.{Add, Sub}
 use Rattle.x86_ins.specs.declared.ins.Ins.{Ins}
@@ -10,7 +10,7 @@ use Rattle.x86_flow.specs.Moves.{IsWidth, load_far_code, store_either_code}
 use Rattle.x86_flow.proofs.Moves.{each_width}
 use Rattle.orc_program.specs.Need.{registers}
 use Rattle.orc_frame.specs.Layout.{spill_slots}
-use Rattle.orc_region.specs.Code.{Action, IsRule, Source, FromArray, FromPattern, FromPlace, FromSlot, Target, ToArray, ToSum, ToPlace, ToSlot, Plan, pointer, at_pointer, unaligned, first_register, second_register, rule_register, rule_code, source_far_code, sources_far_code, sum_code, result_far_code, results_far_code, action_far_code, actions_code, actions_far_code, advance_code, block_far, blocks_code, turn_code, blocks_turn_code}
+use Rattle.orc_region.specs.Code.{Action, IsRule, Source, FromArray, FromPattern, FromPlace, FromSlot, Target, ToArray, ToSum, ToPlace, ToSlot, AreBlocks, AreTurns, pointer, far_by, first_register, second_register, rule_register, rule_code, source_far_code, sources_far_code, sum_code, result_far_code, results_far_code, action_far_code, actions_far_code, advance_code}
 use Rattle.orc_region.proofs.Sizes.Cost.{from_weight, from_weights, to_weight, to_weights, weight, weights}
 
 -- a slot of an array whose elements can be moved so many at once, one of the frame, or a place's register
@@ -96,17 +96,18 @@ advance_count : (size : ℕ → ℕ) (count first n : ℕ) → length (advance_c
 advance_count size count first zero = refl
 advance_count size count first (suc n) = omega (arith, length-append (advance_code size count first n) (AluImm Add (pointer (first + n)) (pos (count * size (first + n))) ∷ []), advance_count size count first n)
 
--- code, and what moves the pointers and the counter on
-move_count : (p : Plan) (by : ℕ) (code : List Ins) → length (code ++ (advance_code p.size by 0 p.dests ++ (advance_code p.size by 4 p.sources ++ AluImm Sub 1 (pos by) ∷ []))) ≡ length code + (p.dests + p.sources) + 1
-move_count p by code =
-    let last = AluImm Sub 1 (pos by) ∷ [] in
-    let a = advance_code p.size by 0 p.dests in
-    let b = advance_code p.size by 4 p.sources in
-    omega (arith, length-append code (a ++ (b ++ last)), length-append a (b ++ last), length-append b last, advance_count p.size by 0 p.dests, advance_count p.size by 4 p.sources)
+-- turns of blocks of actions of which Are holds
+module _ (count : ℕ) (size : ℕ → ℕ) (aligned : ℕ → Bool) (Are : List Action → Type 0) (movable : (actions : List Action) → Are actions → Each (IsMovable count size) actions) (most : ℕ) (few : (actions : List Action) → Are actions → weights actions ≤ most) where
+  blocks_count : (b : ℕ) (list : List Ins) → AreBlocks Are count size aligned b list → length list ≤ b * most
+  blocks_count zero list x = omega (arith, ap length x)
+  blocks_count (suc b) list x =
+      let code = actions_far_code count size (far_by (b * count) size) aligned x.1 in
+      omega (arith, ap length x.4, length-append x.0 code, blocks_count b x.0 x.2, actions_count count size (far_by (b * count) size) aligned x.1 (movable x.1 x.3), few x.1 x.3, suc-mul b most)
 
-pub turn_count : (p : Plan) (count : ℕ) → Each (IsMovable count p.size) p.actions → length (turn_code p count) ≤ weights p.actions + (p.dests + p.sources) + 1
-turn_count p count h = omega (arith, move_count p count (actions_code count p.size p.actions), actions_count count p.size at_pointer unaligned p.actions h)
-
--- a turn of one block with aligned stores
-pub block_turn_count : (p : Plan) (aligned : ℕ → Bool) (count : ℕ) → Each (IsMovable count p.size) p.actions → length (blocks_turn_code p aligned count 1) ≤ weights p.actions + (p.dests + p.sources) + 1
-block_turn_count p aligned count h = omega (arith, move_count p (1 * count) (blocks_code p aligned count 1), actions_count count p.size (block_far p (0 * count)) aligned p.actions h)
+  pub turn_count : (dests sources b : ℕ) (list : List Ins) → AreTurns Are count size aligned dests sources b list → length list ≤ b * most + (dests + sources) + 1
+  turn_count dests sources b list x =
+      let by = b * count in
+      let last = AluImm Sub 1 (pos by) ∷ [] in
+      let first = advance_code size by 0 dests in
+      let second = advance_code size by 4 sources in
+      omega (arith, ap length x.2, blocks_count b x.0 x.1, length-append x.0 (first ++ (second ++ last)), length-append first (second ++ last), length-append second last, advance_count size by 0 dests, advance_count size by 4 sources)

@@ -8,12 +8,12 @@ use Rattle.x86_ins.specs.declared.ins.Ins.{Ins}
 use Rattle.x86_ins.specs.declared.ins.Ins.TheVariants.{MovImm, Alu, AluImm}
 use Rattle.x86_ins.specs.Spelling.{IsAllowed, spelling, plus_form}
 use Rattle.x86_ins.specs.Way.{Each}
-use Rattle.x86_flow.specs.Flow.{Flow, flat, size, loop_code, choice_code}
+use Rattle.x86_flow.specs.Flow.{Flow, Plain, flat, size, loop_code, choice_code}
 use Rattle.x86_flow.specs.Moves.{away}
 use Rattle.x86_flow.proofs.Spelled.{IsFine, fits_up, fine_zero, fine_alu, fine_alu_imm, fine_move, fine_shift, fine_load, fine_store, fine_test, each_both, all_allowed, size_within}
 use Rattle.x86_flow.proofs.Shapes.{size_both, loop_size, choice_size, loop_fine, choice_fine}
 use Rattle.orc_frame.specs.Layout.{left_slot}
-use Rattle.orc_region.specs.Regions.{never, gap_code, low_bits_code, never_code, gap_flow, behind_code, enter_head_code, leave_head_code, reached_flow, unreached_flow, tail_flow, aligned_row, plain_row}
+use Rattle.orc_region.specs.Regions.{never, gap_code, low_bits_code, never_code, gap_flow, behind_code, enter_head_code, leave_head_code, reached_flow, unreached_flow, tail_flow, aligned_row, plain_row, wide_loops}
 use Rattle.orc_region.proofs.Row.Gaps.{each_size}
 
 -- instructions that are allowed, of at most so many bytes
@@ -108,3 +108,17 @@ module _ (single wide aligned : Flow) (lanes s w a : ℕ) (most : lanes ≤ 64) 
       let counted = fits_both 22 (s + a + w + 89 + (s + 23)) (behind_code lanes) (ways ++ flat (tail_flow lanes single)) behind turns in
       let x = fits_both 88 (22 + (s + a + w + 89 + (s + 23))) (flat (gap_flow k)) (behind_code lanes ++ (ways ++ flat (tail_flow lanes single))) (fits_gap k l) counted in
       record { allowed = x.allowed; bytes = (let b = x.bytes in omega (arith, b)) }
+
+-- large turns, and then turns of `lanes` elements
+pub fits_larges : (lanes more l t : ℕ) → more ≤ 64 → l ≤ 1000000 → t ≤ 1000000 → (large turn : List Ins) → Fits l large → Fits t turn → Fits (l + t + 46) (flat (wide_loops lanes more (Plain large) (Plain turn)))
+fits_larges lanes more l t most few_large few_turn large turn h g =
+    let one = AluImm Sub 1 (pos (more - lanes)) ∷ [] in
+    let two = AluImm Add 1 (pos (more - lanes)) ∷ [] in
+    let a = h.bytes in
+    let b = g.bytes in
+    let larges : Fits (l + 12) (loop_code Ns large) = record { allowed = loop_fine Ns large (omega (arith, a, few_large)) h.allowed; bytes = omega (arith, loop_size Ns large, a) } in
+    let turns : Fits (t + 12) (loop_code Ns turn) = record { allowed = loop_fine Ns turn (omega (arith, b, few_turn)) g.allowed; bytes = omega (arith, loop_size Ns turn, b) } in
+    let first = fits_both 11 (l + 12) one (loop_code Ns large) (fits_list one 1 (omega arith) (fine_count Sub (more - lanes) (omega (arith, most)), tt)) larges in
+    let last = fits_both 11 (t + 12) two (loop_code Ns turn) (fits_list two 1 (omega arith) (fine_count Add (more - lanes) (omega (arith, most)), tt)) turns in
+    let x = fits_both (11 + (l + 12)) (11 + (t + 12)) (one ++ loop_code Ns large) (two ++ loop_code Ns turn) first last in
+    record { allowed = x.allowed; bytes = (let c = x.bytes in omega (arith, c)) }

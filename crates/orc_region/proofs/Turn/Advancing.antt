@@ -17,7 +17,7 @@ use Rattle.x86_flow.proofs.Moves.{line_append}
 use Rattle.x86_flow.proofs.Touching.{touches_none}
 use Rattle.x86_flow.proofs.Plans.{line_map}
 use Rattle.orc_frame.specs.Parts.{InChanged}
-use Rattle.orc_region.specs.Code.{Plan, Action, pointer, at_pointer, unaligned, action_far_code, actions_far_code, actions_code, block_far, blocks_code, blocks_turn_code, advance_code, turn_code}
+use Rattle.orc_region.specs.Code.{Plan, Action, AreBlocks, AreTurns, pointer, far_by, action_far_code, actions_far_code, advance_code}
 use Rattle.orc_region.proofs.Block.Registers.{not_0, not_1, not_4, not_7, pointer_one}
 use Rattle.sse_acc.specs.Sums.{sum_below}
 use Rattle.orc_region.proofs.Block.Cells.{Numbers, OfDests, Local, no_values, Lanes, Others, AtElements, AllKnown, Decided, Low, local, adds, elements_or_not, same_end}
@@ -117,9 +117,6 @@ module _ (n : ℕ) (base : ℕ → ℕ) (P : ℕ → Type 0) (numbers : Numbers)
       -- slots with aligned stores have a register's bytes of `count` elements, at a multiple of 16 at element i
       abbrev pub Aligns : (ℕ → Bool) → ℕ → Type 0
       Aligns aligned i = (k : ℕ) → P k → aligned k ≡ true → (count * p.size k ≡ 16) × ((base k + i * p.size k) % 16 ≡ 0)
-
-      none_aligned : (i : ℕ) → Aligns unaligned i
-      none_aligned i k h e = absurd (true≢false (sym e))
 
       -- and so so many blocks further on
       aligns_on : (aligned : ℕ → Bool) (i b : ℕ) → Aligns aligned i → Aligns aligned (b * count + i)
@@ -231,53 +228,24 @@ module _ (n : ℕ) (base : ℕ → ℕ) (P : ℕ → Type 0) (numbers : Numbers)
 
     -- ---- with what holds at each step of a row
 
-    module _ (Q : Core → Ins → Type 0) (Free : Type 0) (calmly : (u : Core) (i : Ins) → Calm u → TouchesPart n base p.size P rsp Free u i → Q u i) (count : ℕ) (some : 0 < count) (most : count ≤ 16) (fit : Each (IsFit count p.size) p.actions) (ins : Each IsIns (turn_code p count)) where
+    module _ (Q : Core → Ins → Type 0) (Free : Type 0) (calmly : (u : Core) (i : Ins) → Calm u → TouchesPart n base p.size P rsp Free u i → Q u i) where
       -- an instruction that touches nothing
       calm_none : (u : Core) (i : Ins) → Calm u → (span i u).1 ≡ 0 → Q u i
       calm_none u i h e = calmly u i h (inl (λ a t. absurd (touches_none i u e a t)))
 
       -- a block for the elements so far behind the pointers, which it leaves
-      block_far_line : (far : ℕ → ℕ) (aligned : ℕ → Bool) → (aligned 0 ≡ false → count * p.size 0 ≡ 16 → Free) → (lag : ℕ) → ((k : ℕ) → far k ≡ lag * p.size k) → Each (λ a. Each IsIns (action_far_code count p.size far aligned a)) p.actions → (i : ℕ) → Aligns count aligned (lag + i) → (e : Memory) (totals : ℕ → ℕ) (c : Core) → lag + i + count ≤ n → Inside i e totals c → Emul (lag + i) e totals
+      pub block_far_line : (count : ℕ) (some : 0 < count) (fit : Each (IsFit count p.size) p.actions) (far : ℕ → ℕ) (aligned : ℕ → Bool) → (aligned 0 ≡ false → count * p.size 0 ≡ 16 → Free) → (lag : ℕ) → ((k : ℕ) → far k ≡ lag * p.size k) → Each (λ a. Each IsIns (action_far_code count p.size far aligned a)) p.actions → (i : ℕ) → Aligns count aligned (lag + i) → (e : Memory) (totals : ℕ → ℕ) (c : Core) → lag + i + count ≤ n → Inside i e totals c → Emul (lag + i) e totals
           → (end : Memory) × (new : ℕ → ℕ) × (d : Core) × Emul (count + (lag + i)) end new × Line Q (actions_far_code count p.size far aligned p.actions) c d × Inside i end new d × (d.gpr 1 ≡ c.gpr 1)
-      block_far_line far aligned free lag far_is ins_all i aligns e totals c w h em =
+      block_far_line count some fit far aligned free lag far_is ins_all i aligns e totals c w h em =
           let x = block_steps count Free some fit far aligned free lag far_is ins_all i (lag + i) refl aligns e totals c w h em in
           let line = line_map (InBlock count Free (lag + i) c) Q (λ u ins q. calmly u ins q.calm (touches_wide count Free (lag + i) u ins w q.touches)) (actions_far_code count p.size far aligned p.actions) c x.2 x.4 in
           (x.0, x.1, x.2, x.3, line, x.5, x.6 1 (λ z. omega (arith, z)))
-
-      at_pointers : (actions : List Action) → Each (IsFit count p.size) actions → Each (λ a. Each IsIns (action_far_code count p.size at_pointer unaligned a)) actions
-      at_pointers [] h = tt
-      at_pointers (a ∷ rest) h = (h.0.known, at_pointers rest h.1)
-
-      -- the block does these elements, and leaves the pointers
-      pub block_line : (count * p.size 0 ≡ 16 → Free) → (i : ℕ) (e : Memory) (totals : ℕ → ℕ) (c : Core) → i + count ≤ n → Inside i e totals c → Emul i e totals
-          → (end : Memory) × (new : ℕ → ℕ) × (d : Core) × Emul (count + i) end new × Line Q (actions_code count p.size p.actions) c d × Inside i end new d × (d.gpr 1 ≡ c.gpr 1)
-      block_line free i e totals c w h em =
-          let same : i ≡ 0 + i = omega arith in
-          let x = block_far_line at_pointer unaligned (λ u. free) 0 (λ k. omega arith) (at_pointers p.actions fit) i (none_aligned count (0 + i)) e totals c (omega (arith, w)) h (subst (λ k. Emul k e totals) same em) in
-          (x.0, x.1, x.2, subst (λ k. Emul (count + k) x.0 x.1) (sym same) x.3, x.4, x.5, x.6)
-
-      -- so many blocks, one behind another
-      pub blocks_line : (aligned : ℕ → Bool) → (aligned 0 ≡ false → count * p.size 0 ≡ 16 → Free) → (b : ℕ) → ((k : ℕ) → k < b → Each (λ a. Each IsIns (action_far_code count p.size (block_far p (k * count)) aligned a)) p.actions) → (i : ℕ) → Aligns count aligned i → (e : Memory) (totals : ℕ → ℕ) (c : Core) → i + b * count ≤ n → Inside i e totals c → Emul i e totals
-          → (end : Memory) × (new : ℕ → ℕ) × (d : Core) × Emul (b * count + i) end new × Line Q (blocks_code p aligned count b) c d × Inside i end new d × (d.gpr 1 ≡ c.gpr 1)
-      blocks_line aligned free zero ins_all i aligns e totals c w h em = (let same : i ≡ 0 * count + i = omega arith in (e, totals, c, subst (λ k. Emul k e totals) same em, refl, h, refl))
-      blocks_line aligned free (suc b) ins_all i aligns e totals c w h em =
-          let x = blocks_line aligned free b (λ k l. ins_all k (omega (arith, l))) i aligns e totals c (omega (arith, w, suc-mul b count)) h em in
-          let y = block_far_line (block_far p (b * count)) aligned free (b * count) (λ k. refl) (ins_all b (omega arith)) i (aligns_on count aligned i b aligns) x.0 x.1 x.2 (omega (arith, w, suc-mul b count)) x.5 x.3 in
-          let here : count + (b * count + i) ≡ suc b * count + i = omega (arith, suc-mul b count) in (
-            y.0,
-            y.1,
-            y.2,
-            subst (λ k. Emul k y.0 y.1) here y.3,
-            line_append Q (blocks_code p aligned count b) (actions_far_code count p.size (block_far p (b * count)) aligned p.actions) c x.2 y.2 x.4 y.4,
-            y.5,
-            y.6 ∙ x.6,
-          )
 
       further : (by b i s : ℕ) → ((b + i * s) % 2 ^ 64 + by * s) % 2 ^ 64 ≡ (b + (by + i) * s) % 2 ^ 64
       further by b i s = omega (arith, add-mul by i s)
 
       -- the pointers and the counter go on by so many elements, after code that left them
-      move_line : (by : ℕ) → by ≤ 64 → (code : List Ins) (i : ℕ) (end : Memory) (new : ℕ → ℕ) (c b : Core) → Line Q code c b → Inside i end new b → b.gpr 1 ≡ c.gpr 1 → Bounded c
+      pub move_line : (by : ℕ) → by ≤ 64 → (code : List Ins) (i : ℕ) (end : Memory) (new : ℕ → ℕ) (c b : Core) → Line Q code c b → Inside i end new b → b.gpr 1 ≡ c.gpr 1 → Bounded c
           → Each IsIns (code ++ (advance_code p.size by 0 p.dests ++ (advance_code p.size by 4 p.sources ++ AluImm Sub 1 (pos by) ∷ [])))
           → (d : Core) × Line Q (code ++ (advance_code p.size by 0 p.dests ++ (advance_code p.size by 4 p.sources ++ AluImm Sub 1 (pos by) ∷ []))) c d × Inside (by + i) end new d × (d.gpr 1 ≡ (c.gpr 1 + (2 ^ 64 - by)) % 2 ^ 64) × Tested d
       move_line by few code i end new c b does g kept bounded known =
@@ -319,18 +287,61 @@ module _ (n : ℕ) (base : ℕ → ℕ) (P : ℕ → Type 0) (numbers : Numbers)
             record { zero = refl; sign = refl },
           )
 
-      -- a whole turn
-      pub turn_line : (count * p.size 0 ≡ 16 → Free) → (i : ℕ) (e : Memory) (totals : ℕ → ℕ) (c : Core) → i + count ≤ n → Inside i e totals c → Emul i e totals
-          → (end : Memory) × (new : ℕ → ℕ) × (d : Core) × Emul (count + i) end new × Line Q (turn_code p count) c d × Inside (count + i) end new d × (d.gpr 1 ≡ (c.gpr 1 + (2 ^ 64 - count)) % 2 ^ 64) × Tested d
-      turn_line free i e totals c w h em =
-          let a = block_line free i e totals c w h em in
-          let m = move_line count (omega (arith, most)) (actions_code count p.size p.actions) i a.0 a.1 c a.2 a.4 a.5 a.6 h.bounded ins in
-          (a.0, a.1, m.0, a.3, m.1, m.2, m.3, m.4)
+-- ---- turns of blocks, each of actions of its own
 
-      -- a turn of several blocks
-      pub blocks_turn_line : (aligned : ℕ → Bool) → (aligned 0 ≡ false → count * p.size 0 ≡ 16 → Free) → (b : ℕ) → b * count ≤ 64 → ((k : ℕ) → k < b → Each (λ a. Each IsIns (action_far_code count p.size (block_far p (k * count)) aligned a)) p.actions) → Each IsIns (blocks_turn_code p aligned count b) → (i : ℕ) → Aligns count aligned i → (e : Memory) (totals : ℕ → ℕ) (c : Core) → i + b * count ≤ n → Inside i e totals c → Emul i e totals
-          → (end : Memory) × (new : ℕ → ℕ) × (d : Core) × Emul (b * count + i) end new × Line Q (blocks_turn_code p aligned count b) c d × Inside (b * count + i) end new d × (d.gpr 1 ≡ (c.gpr 1 + (2 ^ 64 - b * count)) % 2 ^ 64) × Tested d
-      blocks_turn_line aligned free b few ins_all known i aligns e totals c w h em =
-          let a = blocks_line aligned free b ins_all i aligns e totals c w h em in
-          let m = move_line (b * count) few (blocks_code p aligned count b) i a.0 a.1 c a.2 a.4 a.5 a.6 h.bounded known in
-          (a.0, a.1, m.0, a.3, m.1, m.2, m.3, m.4)
+-- what is asked of the actions of a block of so many elements
+pub record Able (n : ℕ) (base : ℕ → ℕ) (P : ℕ → Type 0) (numbers : Numbers) (rsp : ℕ) (p : Plan) (Emul : ℕ → Memory → (ℕ → ℕ) → Type 0) (F : ℕ → Type 0) (count : ℕ) (aligned : ℕ → Bool) (actions : List Action) : Type 0 where
+  pub set : Setting n base P numbers rsp (record p { actions = actions }) Emul F
+  pub fit : Each (IsFit count p.size) actions
+  pub known : (first : ℕ) → first ≤ 64 → Each (λ a. Each IsIns (action_far_code count p.size (far_by first p.size) aligned a)) actions
+
+module _ (n : ℕ) (base : ℕ → ℕ) (P : ℕ → Type 0) (numbers : Numbers) (rsp : ℕ) (p : Plan) (Emul : ℕ → Memory → (ℕ → ℕ) → Type 0) (F : ℕ → Type 0) (set : Setting n base P numbers rsp p Emul F) (rdi : ℕ) (mem : Memory)
+    (Q : Core → Ins → Type 0) (Free : Type 0) (calmly : (u : Core) (i : Ins) → Calm n base P numbers rsp p Emul F set rdi mem u → TouchesPart n base p.size P rsp Free u i → Q u i) where
+  abbrev Here : ℕ → Memory → (ℕ → ℕ) → Core → Type 0
+  Here = Inside n base P numbers rsp p Emul F set rdi mem
+
+  module _ (actions : List Action) (other : Setting n base P numbers rsp (record p { actions = actions }) Emul F) where
+    abbrev There : ℕ → Memory → (ℕ → ℕ) → Core → Type 0
+    There = Inside n base P numbers rsp (record p { actions = actions }) Emul F other rdi mem
+
+    to_there : (i : ℕ) (e : Memory) (totals : ℕ → ℕ) (c : Core) → Here i e totals c → There i e totals c
+    to_there i e totals c h = record { pointers = h.pointers; block = h.block; calm = record { stack = h.calm.stack; quiet = h.calm.quiet }; agree = h.agree; mapped = h.mapped; framed = h.framed; bounded = h.bounded }
+
+    to_here : (i : ℕ) (e : Memory) (totals : ℕ → ℕ) (c : Core) → There i e totals c → Here i e totals c
+    to_here i e totals c h = record { pointers = h.pointers; block = h.block; calm = record { stack = h.calm.stack; quiet = h.calm.quiet }; agree = h.agree; mapped = h.mapped; framed = h.framed; bounded = h.bounded }
+
+    there_calmly : (u : Core) (i : Ins) → Calm n base P numbers rsp (record p { actions = actions }) Emul F other rdi mem u → TouchesPart n base p.size P rsp Free u i → Q u i
+    there_calmly u i w = calmly u i (record { stack = w.stack; quiet = w.quiet })
+
+  module _ (count : ℕ) (some : 0 < count) (aligned : ℕ → Bool) (free : aligned 0 ≡ false → count * p.size 0 ≡ 16 → Free) where
+    abbrev AbleTo : List Action → Type 0
+    AbleTo = Able n base P numbers rsp p Emul F count aligned
+
+    -- so many blocks, one behind another
+    blocks_line : (b : ℕ) (list : List Ins) → AreBlocks AbleTo count p.size aligned b list → b * count ≤ 64 → (i : ℕ) → Aligns n base P numbers rsp p Emul F set rdi mem count aligned i → (e : Memory) (totals : ℕ → ℕ) (c : Core) → i + b * count ≤ n → Here i e totals c → Emul i e totals
+        → (end : Memory) × (new : ℕ → ℕ) × (d : Core) × Emul (b * count + i) end new × Line Q list c d × Here i end new d × (d.gpr 1 ≡ c.gpr 1)
+    blocks_line zero list x near i aligns e totals c w h em = (let same : i ≡ 0 * count + i = omega arith in (e, totals, c, subst (λ k. Emul k e totals) same em, subst (λ l. Line Q l c c) (sym x) refl, h, refl))
+    blocks_line (suc b) list x near i aligns e totals c w h em =
+        let acts = x.1 in
+        let able = x.3 in
+        let code = actions_far_code count p.size (far_by (b * count) p.size) aligned acts in
+        let y = blocks_line b x.0 x.2 (omega (arith, near, suc-mul b count)) i aligns e totals c (omega (arith, w, suc-mul b count)) h em in
+        let z = block_far_line n base P numbers rsp (record p { actions = acts }) Emul F able.set rdi mem Q Free (there_calmly acts able.set) count some able.fit (far_by (b * count) p.size) aligned free (b * count) (λ k. refl) (able.known (b * count) (omega (arith, near, suc-mul b count))) i
+        (aligns_on n base P numbers rsp p Emul F set rdi mem count aligned i b aligns) y.0 y.1 y.2 (omega (arith, w, suc-mul b count)) (to_there acts able.set i y.0 y.1 y.2 y.5) y.3 in
+        let here : count + (b * count + i) ≡ suc b * count + i = omega (arith, suc-mul b count) in (
+          z.0,
+          z.1,
+          z.2,
+          subst (λ k. Emul k z.0 z.1) here z.3,
+          subst (λ l. Line Q l c z.2) (sym x.4) (line_append Q x.0 code c y.2 z.2 y.4 z.4),
+          to_here acts able.set i z.0 z.1 z.2 z.5,
+          z.6 ∙ y.6,
+        )
+
+    -- a whole turn
+    pub turn_line : (b : ℕ) (list : List Ins) → AreTurns AbleTo count p.size aligned p.dests p.sources b list → b * count ≤ 64 → Each IsIns list → (i : ℕ) → Aligns n base P numbers rsp p Emul F set rdi mem count aligned i → (e : Memory) (totals : ℕ → ℕ) (c : Core) → i + b * count ≤ n → Here i e totals c → Emul i e totals
+        → (end : Memory) × (new : ℕ → ℕ) × (d : Core) × Emul (b * count + i) end new × Line Q list c d × Here (b * count + i) end new d × (d.gpr 1 ≡ (c.gpr 1 + (2 ^ 64 - b * count)) % 2 ^ 64) × Tested d
+    turn_line b list x near known i aligns e totals c w h em =
+        let a = blocks_line b x.0 x.1 near i aligns e totals c w h em in
+        let m = move_line n base P numbers rsp p Emul F set rdi mem Q Free calmly (b * count) near x.0 i a.0 a.1 c a.2 a.4 a.5 a.6 h.bounded (subst (Each IsIns) x.2 known) in
+        (a.0, a.1, m.0, a.3, subst (λ l. Line Q l c m.0) (sym x.2) m.1, m.2, m.3, m.4)

@@ -1,5 +1,6 @@
 -- Turns of so many elements of a function's code: their lists are what the plan says, they are allowed, and their instructions and bytes are few.
-use Rattle.std.proofs.Common.{◌≡◌, ℕ, ◌+◌, ◌*◌, ◌≤◌, true, false, pos, List, [], ◌∷◌, ◌++◌, length, slice_index, sym, ap, ap₂, ◌∙◌, subst, arith, All, IsTrue, inl, inr}
+use Rattle.std.proofs.Common.{◌≡◌, ℕ, zero, suc, ◌+◌, ◌*◌, ◌≤◌, Bool, true, false, if◌then◌else◌, nat_lt, pos, List, [], ◌∷◌, ◌++◌, length, slice_index, ap, ap₂, ◌∙◌, arith, All, IsTrue, inl, inr}
+use Rattle.std.proofs.Math.Nat.{mul-le-mul_right}
 use Rattle.orc_program.specs.declared.program.VarKind.TheVariants as kind
 use Rattle.orc_program.specs.Program.{FunctionValue, count_of}
 use Rattle.orc_program.specs.Kept.{is_function}
@@ -15,19 +16,41 @@ use Rattle.x86_ins.specs.declared.ins.Ins.TheVariants.{AluImm}
 use Rattle.x86_ins.specs.Spelling.{IsIns, has_spelling}
 use Rattle.x86_ins.specs.Way.{Each}
 use Rattle.x86_flow.specs.Flow.{size}
-use Rattle.x86_flow.proofs.Spelled.{IsFine, all_spelled}
+use Rattle.x86_flow.proofs.Spelled.{IsFine, all_spelled, size_within}
 use Rattle.orc_frame.specs.Layout.{layout_of}
-use Rattle.orc_region.specs.Code.{Action, AreActions, IsReady, IsTurn, IsAlignedTurn, IsTurnBy, span_of, plan_with, at_pointer, unaligned, far_by, aligned_first, block_far, actions_far_code, advance_code, action_far_code, turn_code, blocks_turn_code}
+use Rattle.orc_region.specs.Code.{Action, AreActions, AreBlocks, AreTurns, blocks_of, IsReady, IsTurnBy, IsTurnOf, span_of, plan_with, far_by, aligned_first, advance_code, action_far_code}
 use Rattle.orc_region.proofs.Sizes.Cost.{weights}
-use Rattle.orc_region.proofs.Sizes.Counts.{turn_count, block_turn_count}
+use Rattle.orc_region.proofs.Sizes.Counts.{IsMovable, turn_count}
 use Rattle.orc_region.proofs.Checked.Acts.{AllPlaced}
 use Rattle.orc_region.proofs.Checked.Several.{IsCount}
-use Rattle.orc_region.proofs.Sizes.Bytes.{Small, fine_turn, fine_aligned, ins_block, turn_bytes, aligned_bytes}
+use Rattle.orc_region.proofs.Sizes.Bytes.{Small, weights_most, ins_block, fine_turn}
 use Rattle.orc_region.proofs.Block.Keeping.{ins_of}
 use Rattle.orc_region.proofs.Block.Actions.{IsFit}
-use Rattle.orc_region.proofs.Checked.Fits.{small_with, slot_sized}
+use Rattle.orc_region.proofs.Checked.Fits.{small_with, slot_size, slot_sized}
+use Rattle.orc_region.proofs.Checked.Slots.{Limits, limits}
 use Rattle.orc_region.proofs.Turn.SameSizes.{same_actions, same_advance}
 use Rattle.orc_region.proofs.Checked.Knows.{all_movable, all_fit, all_ready, all_same, weights_within}
+
+-- turns of actions of which more is known
+module _ (A B : List Action → Type 0) (count : ℕ) (size : ℕ → ℕ) (aligned : ℕ → Bool) (more : (actions : List Action) → A actions → B actions) where
+  blocks_map : (b : ℕ) (list : List Ins) → AreBlocks A count size aligned b list → AreBlocks B count size aligned b list
+  blocks_map zero list x = x
+  blocks_map (suc b) list x = (x.0, x.1, blocks_map b x.0 x.2, more x.1 x.3, x.4)
+
+  pub turns_map : (dests sources b : ℕ) (list : List Ins) → AreTurns A count size aligned dests sources b list → AreTurns B count size aligned dests sources b list
+  turns_map dests sources b list x = (x.0, blocks_map b x.0 x.1, x.2)
+
+-- a large turn has at most four blocks
+pub few_blocks : (n : ℕ) → blocks_of n ≤ 4
+few_blocks n = go (nat_lt n 15) (nat_lt n 31)
+  where
+    go : (short middle : Bool) → (if short then 4 else (if middle then 2 else 1)) ≤ 4
+    go true middle = omega arith
+    go false true = omega arith
+    go false false = omega arith
+
+pub blocks_near : (count b : ℕ) → count ≤ 16 → b ≤ 4 → b * count ≤ 64
+blocks_near count b most few = (let m : b * count ≤ 4 * count = mul-le-mul_right count few in omega (arith, m, most))
 
 module _ (f : FunctionValue) (h : is_function f ≡ true) (at : List ℕ) (good : GoodPlaces (steps_of f) at) where
   abbrev dests : ℕ
@@ -62,22 +85,19 @@ module _ (f : FunctionValue) (h : is_function f ≡ true) (at : List ℕ) (good 
     pub ready_is : All (IsReady (layout_of f) at (slice_index (sizes_of f)) count) (steps_of f)
     ready_is = all_ready f h at stand_is count is_count
 
+    abbrev Acts : List Action → Type 0
+    Acts = AreActions at count (steps_of f)
+
     -- ---- the lists are what the plan says
 
-    pub turn_is : (list : List Ins) → IsTurnBy at (sizes_of f) (steps_of f) (count_of kind.Dest f.vars) (count_of kind.Source f.vars) (span_of count false) list → IsTurn f at count list
-    turn_is list x =
-        let at_once : (k : ℕ) → steps k ≡ slots k → far_by 0 steps k ≡ at_pointer k = λ k e. omega arith in
-        let block = same_actions steps slots count (far_by 0 steps) at_pointer unaligned at_once x.0 (all_same f h at stand_is count is_count x.0 x.1) in
-        (x.0, x.1, x.2 ∙ ap₂ (λ (a b : List Ins). a ++ b) block (same_moves count))
+    same_blocks : (aligned : Bool) (b : ℕ) (list : List Ins) → AreBlocks Acts count steps (aligned_first aligned) b list → AreBlocks Acts count slots (aligned_first aligned) b list
+    same_blocks aligned zero list x = x
+    same_blocks aligned (suc b) list x =
+        let block = same_actions steps slots count (far_by (b * count) steps) (far_by (b * count) slots) (aligned_first aligned) (λ k e. ap (λ n. b * count * n) e) x.1 (all_same f h at stand_is count is_count x.1 x.3) in
+        (x.0, x.1, same_blocks aligned b x.0 x.2, x.3, x.4 ∙ ap (λ (l : List Ins). x.0 ++ l) block)
 
-    pub aligned_is : (list : List Ins) → IsTurnBy at (sizes_of f) (steps_of f) (count_of kind.Dest f.vars) (count_of kind.Source f.vars) (span_of count true) list → IsAlignedTurn f at count list
-    aligned_is list x =
-        let plan = plan_with f x.0 in
-        let code = actions_far_code count slots (block_far plan (0 * count)) (aligned_first true) x.0 in
-        let at_once : (k : ℕ) → steps k ≡ slots k → far_by 0 steps k ≡ block_far plan (0 * count) k = λ k e. omega arith in
-        let block = same_actions steps slots count (far_by 0 steps) (block_far plan (0 * count)) (aligned_first true) at_once x.0 (all_same f h at stand_is count is_count x.0 x.1) in
-        let once : count ≡ 1 * count = omega arith in
-        (x.0, x.1, x.2 ∙ ap₂ (λ (a b : List Ins). a ++ b) block (same_moves count ∙ ap (moves slots) once))
+    pub turn_is : (aligned : Bool) (b : ℕ) (list : List Ins) → IsTurnBy at (sizes_of f) (steps_of f) (count_of kind.Dest f.vars) (count_of kind.Source f.vars) (span_of count aligned) b list → IsTurnOf f at count aligned b list
+    turn_is aligned b list x = (x.0, same_blocks aligned b x.0 x.1, x.2 ∙ ap (λ (l : List Ins). x.0 ++ l) (same_moves (b * count)))
 
     -- ---- the plan by actions of the steps
 
@@ -91,27 +111,21 @@ module _ (f : FunctionValue) (h : is_function f ≡ true) (at : List ℕ) (good 
       pub fit_actions : Each (IsFit count (size_of_slot f.vars)) actions
       fit_actions = all_fit f h at stand_is count is_count actions is
 
-      -- the instructions of a block with aligned stores for the first dest
-      pub ins_blocks : Each (λ a. Each IsIns (action_far_code count (size_of_slot f.vars) (block_far (plan_with f actions) (0 * count)) (aligned_first true) a)) actions
-      ins_blocks = ins_block count (plan_with f actions) small_plan
+      -- the instructions of a block that is so many elements behind the pointers
+      pub ins_blocks : (aligned : Bool) (first : ℕ) → first ≤ 64 → Each (λ a. Each IsIns (action_far_code count (size_of_slot f.vars) (far_by first (size_of_slot f.vars)) (aligned_first aligned) a)) actions
+      ins_blocks aligned = ins_block count (size_of_slot f.vars) small_plan.size (aligned_first aligned) actions small_plan.actions
 
-      pub ins_turn : Each IsIns (turn_code (plan_with f actions) count)
-      ins_turn = ins_of (turn_code (plan_with f actions) count) (fine_turn count (plan_with f actions) small_plan)
+    -- ---- turns of so many blocks
 
-      pub ins_aligned : Each IsIns (blocks_turn_code (plan_with f actions) (aligned_first true) count 1)
-      ins_aligned = ins_of (blocks_turn_code (plan_with f actions) (aligned_first true) count 1) (fine_aligned count (plan_with f actions) small_plan)
+    movable : (actions : List Action) → Acts actions → Each (IsMovable count (size_of_slot f.vars)) actions
+    movable actions is = (small_plan actions is).actions
 
-      pub turn_length : length (turn_code (plan_with f actions) count) ≤ cost f + (count_of kind.Dest f.vars + count_of kind.Source f.vars) + 1
-      turn_length = omega (arith, turn_count (plan_with f actions) count small_plan.actions, weights_few)
+    module _ (aligned : Bool) (b : ℕ) (near : b * count ≤ 64) (list : List Ins) (x : IsTurnOf f at count aligned b list) where
+      few_slots : Limits f
+      few_slots = limits f h
 
-      pub aligned_length : length (blocks_turn_code (plan_with f actions) (aligned_first true) count 1) ≤ cost f + (count_of kind.Dest f.vars + count_of kind.Source f.vars) + 1
-      aligned_length = omega (arith, block_turn_count (plan_with f actions) (aligned_first true) count small_plan.actions, weights_few)
-
-    -- ---- turns
-
-    module _ (list : List Ins) (x : IsTurn f at count list) where
       pub turn_fine : Each IsFine list
-      turn_fine = subst (Each IsFine) (sym x.2) (fine_turn count (plan_with f x.0) (small_plan x.0 x.1))
+      turn_fine = fine_turn count (size_of_slot f.vars) (slot_size f h) (aligned_first aligned) Acts movable dests sources few_slots.dests few_slots.sources b list near x
 
       pub turn_ins : Each IsIns list
       turn_ins = ins_of list turn_fine
@@ -119,26 +133,10 @@ module _ (f : FunctionValue) (h : is_function f ≡ true) (at : List ℕ) (good 
       pub turn_spelled : All (λ i. IsTrue (has_spelling i)) list
       turn_spelled = all_spelled list turn_fine
 
-      pub turn_size : size list ≤ 200000
-      turn_size = omega (arith, ap size x.2, turn_bytes count (plan_with f x.0) (small_plan x.0 x.1))
+      pub turn_few : length list ≤ b * cost f + (count_of kind.Dest f.vars + count_of kind.Source f.vars) + 1
+      turn_few = turn_count count (size_of_slot f.vars) (aligned_first aligned) Acts movable (cost f) weights_few dests sources b list x
 
-      pub turn_few : length list ≤ cost f + (count_of kind.Dest f.vars + count_of kind.Source f.vars) + 1
-      turn_few = omega (arith, ap length x.2, turn_length x.0 x.1)
-
-    -- ---- turns with aligned stores for the first dest
-
-    module _ (list : List Ins) (x : IsAlignedTurn f at count list) where
-      pub aligned_fine : Each IsFine list
-      aligned_fine = subst (Each IsFine) (sym x.2) (fine_aligned count (plan_with f x.0) (small_plan x.0 x.1))
-
-      pub aligned_ins : Each IsIns list
-      aligned_ins = ins_of list aligned_fine
-
-      pub aligned_spelled : All (λ i. IsTrue (has_spelling i)) list
-      aligned_spelled = all_spelled list aligned_fine
-
-      pub aligned_size : size list ≤ 200000
-      aligned_size = omega (arith, ap size x.2, aligned_bytes count (plan_with f x.0) (small_plan x.0 x.1))
-
-      pub aligned_few : length list ≤ cost f + (count_of kind.Dest f.vars + count_of kind.Source f.vars) + 1
-      aligned_few = omega (arith, ap length x.2, aligned_length x.0 x.1)
+      pub turn_size : size list ≤ 143 + b * 118800
+      turn_size =
+          let n = turn_count count (size_of_slot f.vars) (aligned_first aligned) Acts movable 10800 (λ actions is. weights_most count (plan_with f actions) (small_plan actions is)) dests sources b list x in
+          omega (arith, size_within list turn_fine, n, few_slots.dests, few_slots.sources)

@@ -1,5 +1,5 @@
 -- The arrays among the operands of a function's actions are those of its instructions.
-use Rattle.std.proofs.Common.{◌≡◌, ℕ, ◌+◌, ◌≤◌, Bool, true, false, true≢false, ◌||◌, cond, List, [], ◌∷◌, ◌++◌, length, map, refl, sym, ap, ◌∙◌, arith}
+use Rattle.std.proofs.Common.{◌≡◌, ℕ, ◌+◌, ◌*◌, ◌≤◌, Bool, true, false, true≢false, ◌||◌, cond, List, [], ◌∷◌, ◌++◌, length, map, refl, sym, ap, ◌∙◌, arith}
 use Rattle.std.specs.List.{count_by, sum_by}
 use Rattle.std.proofs.lemmas.List.Sums.{sum_by-cons}
 use Rattle.orc_ops.specs.declared.opcode.Op.{Op}
@@ -7,7 +7,8 @@ use Rattle.orc_program.specs.declared.program.Operand.{Operand}
 use Rattle.orc_program.specs.declared.program.VarKind.{VarKind}
 use Rattle.orc_program.specs.declared.program.VarKind.TheVariants as kind
 use Rattle.orc_program.specs.declared.program.Insn.{Insn}
-use Rattle.orc_program.specs.Program.{FunctionValue, var_at, same_kind, is_array_kind}
+use Rattle.orc_program.specs.Program.{FunctionValue, var_at, count_of, same_kind, is_array_kind}
+use Rattle.orc_program.specs.Slots.{size_of_slot}
 use Rattle.orc_program.specs.Kept.{is_function}
 use Rattle.orc_program.specs.Need.{made_by, is_array_operand}
 use Rattle.orc_plan.specs.declared.steps.Step.{Step}
@@ -16,12 +17,12 @@ use Rattle.orc_frame.specs.Function.{array_operands, subject_of}
 use Rattle.x86_ins.specs.declared.ins.Ins.{Ins}
 use Rattle.x86_flow.specs.Touching.{touch_weight}
 use Rattle.x86_flow.proofs.Plans.{weigh}
-use Rattle.orc_region.specs.Code.{Action, Source, FromArray, FromPattern, FromPlace, FromSlot, Target, ToArray, ToSum, ToPlace, ToSlot, source_of, target_of, IsAction, AreActions, patterns_in, plan_with, aligned_first, IsTurn, IsAlignedTurn}
+use Rattle.orc_region.specs.Code.{Action, Source, FromArray, FromPattern, FromPlace, FromSlot, Target, ToArray, ToSum, ToPlace, ToSlot, source_of, target_of, IsAction, AreActions, patterns_in, aligned_first, IsTurnOf}
 use Rattle.orc_region.proofs.Checked.Direct.{IsSourced, IsTargeted}
 use Rattle.orc_region.proofs.Checked.Acts.{AllPlaced, AreSourced, AreTargeted, IsPlanned, ArePlanned, are_planned}
 use Rattle.orc_region.proofs.Checked.Several.{IsCount}
 use Rattle.orc_region.proofs.Checked.Knows.{all_fit}
-use Rattle.orc_region.proofs.Turn.Touches.{from_arrays, to_arrays, arrays_of, from_front, to_front, turn_few, blocks_turn_few}
+use Rattle.orc_region.proofs.Turn.Touches.{from_arrays, to_arrays, arrays_of, from_front, to_front, turn_few}
 
 module _ (f : FunctionValue) (at : List ℕ) where
   -- 1 for an operand that is an array
@@ -95,11 +96,7 @@ arrays_few f h at stand count actions is = arrays_from f at count [] f.insns act
 
 -- ---- turns
 
--- a turn's instructions that go by some registers, of which RSP is none, are at most as many as the function's operands that are arrays
+-- a turn's instructions that go by some registers, of which RSP is none, are in each block at most as many as the function's operands that are arrays
 module _ (by : ℕ → Bool) (by_stack : by 4 ≡ false) (f : FunctionValue) (h : is_function f ≡ true) (at : List ℕ) (stand : AllPlaced f at) (count : ℕ) (is_count : IsCount f count) where
-  pub turn_light : (list : List Ins) → IsTurn f at count list → weigh (touch_weight by) list ≤ (subject_of f).operands
-  turn_light list x = omega (arith, ap (weigh (touch_weight by)) x.2, turn_few by by_stack (plan_with f x.0) count (all_fit f h at stand count is_count x.0 x.1), arrays_few f h at stand count x.0 x.1)
-
-  pub aligned_light : (list : List Ins) → IsAlignedTurn f at count list → weigh (touch_weight by) list ≤ (subject_of f).operands
-  aligned_light list x =
-      omega (arith, ap (weigh (touch_weight by)) x.2, blocks_turn_few by by_stack (plan_with f x.0) (aligned_first true) count 1 (all_fit f h at stand count is_count x.0 x.1), arrays_few f h at stand count x.0 x.1)
+  pub turn_light : (aligned : Bool) (b : ℕ) (list : List Ins) → IsTurnOf f at count aligned b list → weigh (touch_weight by) list ≤ b * (subject_of f).operands
+  turn_light aligned b list = turn_few by by_stack count (size_of_slot f.vars) (aligned_first aligned) (AreActions at count (steps_of f)) (all_fit f h at stand count is_count) (subject_of f).operands (arrays_few f h at stand count) (count_of kind.Dest f.vars) (count_of kind.Source f.vars) b list

@@ -1,27 +1,27 @@
 -- Turns of so many elements are what the loops of a row ask for.
-use Rattle.std.proofs.Common.{◌≡◌, ℕ, zero, suc, ◌+◌, ◌/◌, true≢false, inl, ⊎_elim, ◌-◌, ◌*◌, ◌%◌, ◌^◌, ◌<◌, ◌≤◌, Bool, true, false, is_some, le_refl, sym, ap, ◌∙◌, subst, arith, refl, List, length}
+use Rattle.std.proofs.Common.{◌≡◌, ℕ, zero, suc, ◌+◌, ◌/◌, true≢false, inl, ⊎_elim, ◌-◌, ◌*◌, ◌%◌, ◌^◌, ◌<◌, ◌≤◌, Bool, true, false, is_some, if◌then◌else◌, nat_lt, suc-mul, le_refl, sym, ap, ◌∙◌, subst, arith, refl, List, length}
+use Rattle.std.proofs.Math.Nat.{mul-le-mul_right}
+use Rattle.std.proofs.lemmas.Bool.{ltb-true}
 use Rattle.orc_bits.specs.Memory.{Memory, IsMapped}
 use Rattle.x86_ins.specs.declared.ins.Ins.{Ins}
 use Rattle.x86_ins.specs.Machine.{Core, Bounded}
 use Rattle.x86_ins.specs.Spelling.{IsIns}
 use Rattle.x86_ins.specs.Way.{Each}
-use Rattle.x86_ins.specs.declared.ins.Cond.TheVariants.{Ns}
-use Rattle.x86_flow.specs.Flow.{Flow, Plain, Repeat}
+use Rattle.x86_flow.specs.Flow.{Plain}
 use Rattle.x86_flow.specs.Touching.{touch_weight}
 use Rattle.x86_flow.specs.Does.{Does}
 use Rattle.x86_flow.proofs.Plans.{weigh}
 use Rattle.orc_program.specs.Need.{turns}
-use Rattle.orc_region.specs.Code.{Action, Plan, pointer, aligned_first, action_far_code, block_far, turn_code, blocks_turn_code}
-use Rattle.orc_region.specs.Regions.{plain_row, aligned_row}
+use Rattle.orc_region.specs.Code.{Plan, AreTurns, pointer, aligned_first, turns_flow}
+use Rattle.orc_region.specs.Regions.{plain_row, aligned_row, wide_loop, wide_loops}
 use Rattle.orc_region.proofs.Block.Registers.{not_0, not_1}
 use Rattle.orc_region.proofs.Block.Cells.{Numbers}
 use Rattle.orc_frame.specs.Layout.{frame_size}
 use Rattle.orc_frame.specs.Parts.{InChanged}
 use Rattle.orc_region.proofs.Block.Frames.{framed_below}
-use Rattle.orc_region.proofs.Block.Actions.{IsFit}
 use Rattle.orc_region.proofs.Block.Touched.{TouchesPart}
-use Rattle.orc_region.proofs.Turn.Advancing.{Setting, IsDestCell, Calm, Inside, turn_line, blocks_turn_line}
-use Rattle.orc_region.proofs.Row.Regions.{InWord, Beside, Ground, IsTurn, wide_region, plain_line, aligned_line}
+use Rattle.orc_region.proofs.Turn.Advancing.{Setting, Able, IsDestCell, Calm, Inside, turn_line}
+use Rattle.orc_region.proofs.Row.Regions.{InWord, Beside, Ground, IsTurn, IsRegion, wide_region, wide_regions, plain_line, aligned_line}
 use Rattle.orc_region.proofs.Row.Gaps.{AtSixteen, each_size, sixteen_on}
 
 -- F are the addresses of the frame; `first` is the memory before the row's elements
@@ -56,6 +56,10 @@ module _ (n : ℕ) (base : ℕ → ℕ) (P : ℕ → Type 0) (numbers : Numbers)
 
   free_changed : (a : ℕ) → InFree a → InChanged rsp numbers.sums a → ⊥
   free_changed a w s = ⊎_elim (λ i. let few = set.ground.frame.few_sums in omega (arith, w.0, i.1, few)) (λ i. omega (arith, w.1, i.0)) s
+
+  -- slots with aligned stores have a register's bytes of so many elements, at a multiple of 16 at element i
+  abbrev Aligned : ℕ → (ℕ → Bool) → ℕ → Type 0
+  Aligned count aligned i = (k : ℕ) → P k → aligned k ≡ true → (count * p.size k ≡ 16) × ((base k + i * p.size k) % 16 ≡ 0)
 
   -- Free is what holds where the first dest is stored a whole register at once by stores that aren't aligned
   module _ (Free : Type 0) (calmly : (u : Core) (i : Ins) → Outside u → TouchesPart n base p.size P rsp Free u i → Q u i) where
@@ -99,151 +103,128 @@ module _ (n : ℕ) (base : ℕ → ℕ) (P : ℕ → Type 0) (numbers : Numbers)
     }
 
     module _ (by : ℕ → Bool) (by_stack : by 4 ≡ false) (each some : ℕ) where
-      -- a turn of so many elements
-      pub turn_is : (count : ℕ) → 0 < count → count ≤ 16 → Each (IsFit count p.size) p.actions → Each IsIns (turn_code p count) → (Pre : ℕ → Type 0) → ((i : ℕ) → Pre i → count * p.size 0 ≡ 16 → Free)
-          → IsTurn Q rsp stack_low n At ground by by_stack each some (Plain (turn_code p count)) count Pre (length (turn_code p count)) (weigh (touch_weight by) (turn_code p count))
-      turn_is count positive most fit ins Pre free i c within h pre =
-          let calm : (u : Core) (i : Ins) → Calm n base P numbers rsp p Emul F set rdi h.mem u → TouchesPart n base p.size P rsp Free u i → Q u i = λ u i w. calmly u i (record { stack = w.stack; quiet = λ a k s f. w.quiet a k s ∙ h.near a k s f }) in
-          let t = turn_line n base P numbers rsp p Emul F set rdi h.mem Q Free calm count positive most fit ins (free i pre) i h.e h.totals c within h.inside h.emulated in
-          let same : (a : ℕ) → InFree a → t.2.memory a ≡ c.memory a = λ a w. t.5.calm.quiet a (free_dest a w) (free_changed a w) ∙ sym (h.inside.calm.quiet a (free_dest a w) (free_changed a w)) in (
-            turn_code p count,
-            t.2,
-            (t.4, refl),
-            record { e = t.0; totals = t.1; mem = h.mem; near = h.near; inside = t.5; emulated = t.3; there = λ a w. subst (λ o. is_some o ≡ true) (sym (same a w)) (h.there a w) },
-            record { counter = t.6; tested = t.7; word = same },
-            le_refl (length (turn_code p count)),
-            le_refl (weigh (touch_weight by) (turn_code p count)),
-          )
+      -- what is known of a turn of so many blocks; it takes no more instructions than as many turns of one block
+      pub record Round (count : ℕ) (aligned : ℕ → Bool) (b : ℕ) (list : List Ins) : Type 0 where
+        pub turn : AreTurns (Able n base P numbers rsp p Emul F count aligned) count p.size aligned p.dests p.sources b list
+        pub known : Each IsIns list
+        pub short : 2 + length list ≤ b * (2 + each)
+        pub light : weigh (touch_weight by) list ≤ b * some
 
-      -- ---- turns by other actions, as those of several elements are where a rule depends on how many there are
+      -- it is what a loop asks for
+      pub turn_is : (count : ℕ) (aligned : ℕ → Bool) (b : ℕ) (list : List Ins) → Round count aligned b list → 0 < count → (all : ℕ) → b * count ≡ all → all ≤ 64 → (steps : ℕ) → length list ≤ steps → (Pre : ℕ → Type 0) → ((i : ℕ) → Pre i → Aligned count aligned i) → ((i : ℕ) → Pre i → aligned 0 ≡ false → count * p.size 0 ≡ 16 → Free)
+          → IsTurn Q rsp stack_low n At ground by by_stack each some (Plain list) all Pre steps (b * some)
+      turn_is count aligned b list x positive all all_is most steps short Pre aligns free = subst (λ k. IsTurn Q rsp stack_low n At ground by by_stack each some (Plain list) k Pre steps (b * some)) all_is turn
+        where
+          turn : IsTurn Q rsp stack_low n At ground by by_stack each some (Plain list) (b * count) Pre steps (b * some)
+          turn i c within h pre =
+              let calm : (u : Core) (i : Ins) → Calm n base P numbers rsp p Emul F set rdi h.mem u → TouchesPart n base p.size P rsp Free u i → Q u i = λ u i w. calmly u i (record { stack = w.stack; quiet = λ a k s f. w.quiet a k s ∙ h.near a k s f }) in
+              let t = turn_line n base P numbers rsp p Emul F set rdi h.mem Q Free calm count positive aligned (free i pre) b list x.turn (omega (arith, most, all_is)) x.known i (aligns i pre) h.e h.totals c within h.inside h.emulated in
+              let same : (a : ℕ) → InFree a → t.2.memory a ≡ c.memory a = λ a w. t.5.calm.quiet a (free_dest a w) (free_changed a w) ∙ sym (h.inside.calm.quiet a (free_dest a w) (free_changed a w)) in (
+                list,
+                t.2,
+                (t.4, refl),
+                record { e = t.0; totals = t.1; mem = h.mem; near = h.near; inside = t.5; emulated = t.3; there = λ a w. subst (λ o. is_some o ≡ true) (sym (same a w)) (h.there a w) },
+                record { counter = t.6; tested = t.7; word = same },
+                short,
+                x.light,
+              )
 
-      module _ (actions : List Action) (other : Setting n base P numbers rsp (record p { actions = actions }) Emul F) where
-        abbrev q : Plan
-        q = record p { actions = actions }
+      -- ---- several at once
 
-        abbrev There : Memory → ℕ → Memory → (ℕ → ℕ) → Core → Type 0
-        There mem = Inside n base P numbers rsp q Emul F other rdi mem
+      module _ (lanes : ℕ) (positive : 0 < lanes) (most : lanes ≤ 16) (Pre : ℕ → Type 0) (next : (i : ℕ) → Pre i → Pre (lanes + i)) where
+        next_many : (b i : ℕ) → Pre i → Pre (b * lanes + i)
+        next_many zero i pre = (let e : i ≡ 0 * lanes + i = omega arith in subst Pre e pre)
+        next_many (suc b) i pre = (let e : lanes + (b * lanes + i) ≡ suc b * lanes + i = omega (arith, suc-mul b lanes) in subst Pre e (next (b * lanes + i) (next_many b i pre)))
 
-        abbrev Here : Memory → ℕ → Memory → (ℕ → ℕ) → Core → Type 0
-        Here mem = Inside n base P numbers rsp p Emul F set rdi mem
+        module _ (aligned : ℕ → Bool) (aligns : (i : ℕ) → Pre i → Aligned lanes aligned i) (free : (i : ℕ) → Pre i → aligned 0 ≡ false → lanes * p.size 0 ≡ 16 → Free) (list : List Ins) (x : Round lanes aligned 1 list) where
+          one_turn : IsTurn Q rsp stack_low n At ground by by_stack each some (Plain list) lanes Pre each some
+          one_turn i c within h pre =
+              let short = x.short in
+              let t = turn_is lanes aligned 1 list x positive lanes (omega arith) (omega (arith, most)) each (omega (arith, short)) Pre aligns free i c within h pre in
+              (t.0, t.1, t.2, t.3, t.4, t.5, omega (arith, t.6))
 
-        to_there : (mem : Memory) (i : ℕ) (e : Memory) (totals : ℕ → ℕ) (c : Core) → Here mem i e totals c → There mem i e totals c
-        to_there mem i e totals c h = record { pointers = h.pointers; block = h.block; calm = record { stack = h.calm.stack; quiet = h.calm.quiet }; agree = h.agree; mapped = h.mapped; framed = h.framed; bounded = h.bounded }
+          -- turns of one block
+          pub wide_is : IsRegion Q rsp stack_low n At ground by by_stack each some (wide_loop (Plain list)) lanes Pre 1
+          wide_is = wide_region Q rsp stack_low n At ground by by_stack each some (Plain list) lanes Pre positive (omega (arith, most)) next one_turn
 
-        to_here : (mem : Memory) (i : ℕ) (e : Memory) (totals : ℕ → ℕ) (c : Core) → There mem i e totals c → Here mem i e totals c
-        to_here mem i e totals c h = record { pointers = h.pointers; block = h.block; calm = record { stack = h.calm.stack; quiet = h.calm.quiet }; agree = h.agree; mapped = h.mapped; framed = h.framed; bounded = h.bounded }
+          -- whole turns, by large ones where these have several blocks
+          pub turns_are : (b : ℕ) → b ≤ 4 → (large : List Ins) → (1 < b → Round lanes aligned b large) → IsRegion Q rsp stack_low n At ground by by_stack each some (turns_flow lanes b large list) lanes Pre 4
+          turns_are b few large y = go (nat_lt 1 b) refl
+            where
+              width : b * lanes ≤ 64
+              width = (let m : b * lanes ≤ 4 * lanes = mul-le-mul_right lanes few in omega (arith, m, most))
 
-        pub turn_with : (count : ℕ) → 0 < count → count ≤ 16 → Each (IsFit count p.size) actions → Each IsIns (turn_code q count) → (Pre : ℕ → Type 0) → ((i : ℕ) → Pre i → count * p.size 0 ≡ 16 → Free)
-            → IsTurn Q rsp stack_low n At ground by by_stack each some (Plain (turn_code q count)) count Pre (length (turn_code q count)) (weigh (touch_weight by) (turn_code q count))
-        turn_with count positive most fit ins Pre free i c within h pre =
-            let calm : (u : Core) (i : Ins) → Calm n base P numbers rsp q Emul F other rdi h.mem u → TouchesPart n base p.size P rsp Free u i → Q u i = λ u i w. calmly u i (record { stack = w.stack; quiet = λ a k s f. w.quiet a k s ∙ h.near a k s f }) in
-            let t = turn_line n base P numbers rsp q Emul F other rdi h.mem Q Free calm count positive most fit ins (free i pre) i h.e h.totals c within (to_there h.mem i h.e h.totals c h.inside) h.emulated in
-            let same : (a : ℕ) → InFree a → t.2.memory a ≡ c.memory a = λ a w. t.5.calm.quiet a (free_dest a w) (free_changed a w) ∙ sym (h.inside.calm.quiet a (free_dest a w) (free_changed a w)) in (
-              turn_code q count,
-              t.2,
-              (t.4, refl),
-              record { e = t.0; totals = t.1; mem = h.mem; near = h.near; inside = to_here h.mem (count + i) t.0 t.1 t.2 t.5; emulated = t.3; there = λ a w. subst (λ o. is_some o ≡ true) (sym (same a w)) (h.there a w) },
-              record { counter = t.6; tested = t.7; word = same },
-              le_refl (length (turn_code q count)),
-              le_refl (weigh (touch_weight by) (turn_code q count)),
-            )
+              under : 1 < b → lanes ≤ b * lanes
+              under l = (let m : 1 * lanes ≤ b * lanes = mul-le-mul_right lanes (omega (arith, l)) in omega (arith, m))
 
-        -- turns of several blocks, with aligned stores for some slots
-        pub blocks_with : (aligned : ℕ → Bool) (count b : ℕ) → (aligned 0 ≡ false → count * p.size 0 ≡ 16 → Free) → 0 < count → count ≤ 16 → b * count ≤ 64 → Each (IsFit count p.size) actions → Each IsIns (turn_code q count)
-            → ((k : ℕ) → k < b → Each (λ a. Each IsIns (action_far_code count p.size (block_far q (k * count)) aligned a)) actions) → Each IsIns (blocks_turn_code q aligned count b)
-            → IsTurn Q rsp stack_low n At ground by by_stack each some (Plain (blocks_turn_code q aligned count b)) (b * count) (λ i. (k : ℕ) → P k → aligned k ≡ true → (count * p.size k ≡ 16) × ((base k + i * p.size k) % 16 ≡ 0)) (length (blocks_turn_code q aligned count b)) (weigh (touch_weight by) (blocks_turn_code q aligned count b))
-        blocks_with aligned count b free positive most few fit ins_one ins_all ins i c within h aligns =
-            let calm : (u : Core) (i : Ins) → Calm n base P numbers rsp q Emul F other rdi h.mem u → TouchesPart n base p.size P rsp Free u i → Q u i = λ u i w. calmly u i (record { stack = w.stack; quiet = λ a k s f. w.quiet a k s ∙ h.near a k s f }) in
-            let t = blocks_turn_line n base P numbers rsp q Emul F other rdi h.mem Q Free calm count positive most fit ins_one aligned free b few ins_all ins i aligns h.e h.totals c within (to_there h.mem i h.e h.totals c h.inside) h.emulated in
-            let same : (a : ℕ) → InFree a → t.2.memory a ≡ c.memory a = λ a w. t.5.calm.quiet a (free_dest a w) (free_changed a w) ∙ sym (h.inside.calm.quiet a (free_dest a w) (free_changed a w)) in (
-              blocks_turn_code q aligned count b,
-              t.2,
-              (t.4, refl),
-              record { e = t.0; totals = t.1; mem = h.mem; near = h.near; inside = to_here h.mem (b * count + i) t.0 t.1 t.2 t.5; emulated = t.3; there = λ a w. subst (λ o. is_some o ≡ true) (sym (same a w)) (h.there a w) },
-              record { counter = t.6; tested = t.7; word = same },
-              le_refl (length (blocks_turn_code q aligned count b)),
-              le_refl (weigh (touch_weight by) (blocks_turn_code q aligned count b)),
-            )
+              go : (t : Bool) → nat_lt 1 b ≡ t → IsRegion Q rsp stack_low n At ground by by_stack each some (if t then wide_loops lanes (b * lanes) (Plain large) (Plain list) else wide_loop (Plain list)) lanes Pre 4
+              go false e = λ i c m rest all short at pre counter tested. (let z = wide_is i c m rest all short at pre counter tested in (z.0, z.1, z.2, z.3, omega (arith, z.4), z.5))
+              go true e =
+                  let several : 1 < b = ltb-true 1 b e in
+                  let large_is = y several in
+                  wide_regions Q rsp stack_low n At ground by by_stack each some (Plain list) (Plain large) lanes b Pre (length large) (b * some) positive (omega (arith, several)) width (under several) next (next_many b) one_turn
+                      (turn_is lanes aligned b large large_is positive (b * lanes) refl width (length large) (le_refl (length large)) Pre aligns free) large_is.short (le_refl (b * some))
 
--- a row without aligned stores: the turns of `p` do one element, and those of `actions` several
+-- the loops of a row, whose turns of one element are `single`
 module _ (n : ℕ) (base : ℕ → ℕ) (P : ℕ → Type 0) (numbers : Numbers) (rsp : ℕ) (p : Plan) (Emul : ℕ → Memory → (ℕ → ℕ) → Type 0) (F : ℕ → Type 0) (set : Setting n base P numbers rsp p Emul F) (rdi : ℕ) (first : Memory)
     (Q : Core → Ins → Type 0) (stack_low : rsp + (frame_size + 8) ≤ 2 ^ 47) (framed : (a : ℕ) → rsp ≤ a → a < rsp + frame_size → F a)
     (Free : Type 0) (calmly : (u : Core) (i : Ins) → Outside n base P numbers rsp p Emul F set rdi first Q stack_low framed u → TouchesPart n base p.size P rsp Free u i → Q u i)
-    (by : ℕ → Bool) (by_stack : by 4 ≡ false)
-    (actions : List Action) (other : Setting n base P numbers rsp (record p { actions = actions }) Emul F) (lanes : ℕ) (positive : 0 < lanes) (most : lanes ≤ 16)
-    (fit_one : Each (IsFit 1 p.size) p.actions) (ins_one : Each IsIns (turn_code p 1)) (fit_more : Each (IsFit lanes p.size) actions) (ins_more : Each IsIns (turn_code (record p { actions = actions }) lanes))
-    (each some : ℕ) (short_one : length (turn_code p 1) ≤ each) (short_more : length (turn_code (record p { actions = actions }) lanes) ≤ each)
-    (light_one : weigh (touch_weight by) (turn_code p 1) ≤ some) (light_more : weigh (touch_weight by) (turn_code (record p { actions = actions }) lanes) ≤ some) where
+    (by : ℕ → Bool) (by_stack : by 4 ≡ false) (each some : ℕ) (lanes : ℕ) (positive : 0 < lanes) (most : lanes ≤ 16) (b : ℕ) (few : b ≤ 4) where
   abbrev Place : ℕ → Core → Type 0
   Place = At n base P numbers rsp p Emul F set rdi first Q stack_low framed
 
-  abbrev pub single : Flow
-  single = Plain (turn_code p 1)
+  abbrev pub Turned : ℕ → Bool → ℕ → List Ins → Type 0
+  Turned count aligned = Round n base P numbers rsp p Emul F set rdi first Q stack_low framed Free calmly by by_stack each some count (aligned_first aligned)
 
-  abbrev pub wide : Flow
-  wide = Repeat Ns (Plain (turn_code (record p { actions = actions }) lanes))
+  abbrev g : Ground Q rsp stack_low n Place
+  g = ground n base P numbers rsp p Emul F set rdi first Q stack_low framed Free calmly
 
-  pub plain_done : Free → (c : Core) → Place 0 c → c.gpr 1 ≡ n
-      → (done : List Ins) × (d : Core) × Does Q (plain_row lanes single wide) c done d × Place n d × (length done ≤ 4 + turns lanes n * (2 + each)) × (weigh (touch_weight by) done ≤ turns lanes n * some)
-  plain_done free c h counts =
-      let g = ground n base P numbers rsp p Emul F set rdi first Q stack_low framed Free calmly in
-      let one = turn_is n base P numbers rsp p Emul F set rdi first Q stack_low framed Free calmly by by_stack each some 1 (omega arith) (omega arith) fit_one ins_one (λ i. Unit {0}) (λ i t e. free) in
-      let more = turn_with n base P numbers rsp p Emul F set rdi first Q stack_low framed Free calmly by by_stack each some actions other lanes positive most fit_more ins_more (λ i. Unit {0}) (λ i t e. free) in
-      plain_line Q rsp stack_low n Place g by by_stack each some single wide lanes 1 (λ i. Unit {0}) positive (omega (arith, most))
-      (λ i d w a t. let x = one i d w a t in (x.0, x.1, x.2, x.3, x.4, omega (arith, x.5, short_one), omega (arith, x.6, light_one)))
-      (wide_region Q rsp stack_low n Place g by by_stack each some (Plain (turn_code (record p { actions = actions }) lanes)) lanes (λ i. Unit {0}) positive (omega (arith, most)) (λ i t. tt)
-      (λ i d w a t. let x = more i d w a t in (x.0, x.1, x.2, x.3, x.4, omega (arith, x.5, short_more), omega (arith, x.6, light_more))))
-      tt c h counts
+  abbrev Aligns : ℕ → Bool → ℕ → Type 0
+  Aligns count aligned i = (k : ℕ) → P k → aligned_first aligned k ≡ true → (count * p.size k ≡ 16) × ((base k + i * p.size k) % 16 ≡ 0)
 
-  -- the first dest alone is stored aligned
-  abbrev pub first_only : ℕ → Bool
-  first_only = aligned_first true
+  none_aligned : (count i : ℕ) → Aligns count false i
+  none_aligned count i k h e = absurd (true≢false (sym e))
 
-  first_is : (k : ℕ) → first_only k ≡ true → k ≡ 0
-  first_is k e = grind (arith, e)
+  module _ (single : List Ins) (is_single : Turned 1 false 1 single) (wide : List Ins) (is_wide : Turned lanes false 1 wide) (large : List Ins) where
+    single_turn : (1 * p.size 0 ≡ 16 → Free) → IsTurn Q rsp stack_low n Place g by by_stack each some (Plain single) 1 (λ i. Unit {0}) each some
+    single_turn free i c within h pre =
+        let short = is_single.short in
+        let t = turn_is n base P numbers rsp p Emul F set rdi first Q stack_low framed Free calmly by by_stack each some 1 (aligned_first false) 1 single is_single (omega arith) 1 (omega arith) (omega arith) each (omega (arith, short)) (λ i. Unit {0}) (λ i t. none_aligned 1 i) (λ i t u. free) i c within h pre in
+        (t.0, t.1, t.2, t.3, t.4, t.5, omega (arith, t.6))
 
-  -- a row whose first dest has elements of 2 ^ k bytes, of which `lanes` fill a register; the turns of `stored` store it aligned
-  module _ (stored : List Action) (still : Setting n base P numbers rsp (record p { actions = stored }) Emul F) (fit_stored : Each (IsFit lanes p.size) stored) (ins_stored : Each IsIns (turn_code (record p { actions = stored }) lanes)) (k : ℕ) (small : k ≤ 3) (full : 16 / 2 ^ k ≡ lanes) (some_dest : 0 < p.dests) (size_is : p.size 0 ≡ 2 ^ k)
-      (ins_block : Each (λ a. Each IsIns (action_far_code lanes p.size (block_far (record p { actions = stored }) (0 * lanes)) first_only a)) stored)
-      (ins_aligned : Each IsIns (blocks_turn_code (record p { actions = stored }) first_only lanes 1))
-      (short_aligned : length (blocks_turn_code (record p { actions = stored }) first_only lanes 1) ≤ each) (light_aligned : weigh (touch_weight by) (blocks_turn_code (record p { actions = stored }) first_only lanes 1) ≤ some) where
-    whole : lanes * p.size 0 ≡ 16
-    whole = each_size (λ k. (l s : ℕ) → 16 / 2 ^ k ≡ l → s ≡ 2 ^ k → l * s ≡ 16)
-        (λ l s a b. sym (ap (λ x. x * s) a) ∙ ap (λ x. 16 * x) b) (λ l s a b. sym (ap (λ x. x * s) a) ∙ ap (λ x. 8 * x) b) (λ l s a b. sym (ap (λ x. x * s) a) ∙ ap (λ x. 4 * x) b) (λ l s a b. sym (ap (λ x. x * s) a) ∙ ap (λ x. 2 * x) b)
-        k small lanes (p.size 0) full size_is
+    -- a row without aligned stores
+    pub plain_done : Free → (1 < b → Turned lanes false b large) → (c : Core) → Place 0 c → c.gpr 1 ≡ n
+        → (done : List Ins) × (d : Core) × Does Q (plain_row lanes (Plain single) (turns_flow lanes b large wide)) c done d × Place n d × (length done ≤ 7 + turns lanes n * (2 + each)) × (weigh (touch_weight by) done ≤ turns lanes n * some)
+    plain_done free is_large c h counts =
+        plain_line Q rsp stack_low n Place g by by_stack each some (Plain single) (turns_flow lanes b large wide) lanes 4 (λ i. Unit {0}) positive (omega (arith, most)) (single_turn (λ e. free))
+        (turns_are n base P numbers rsp p Emul F set rdi first Q stack_low framed Free calmly by by_stack each some lanes positive most (λ i. Unit {0}) (λ i t. tt) (aligned_first false) (λ i t. none_aligned lanes i) (λ i t u e. free) wide is_wide b few large is_large)
+        tt c h counts
 
-    aligns : (i : ℕ) → AtSixteen k (base 0) i → (j : ℕ) → P j → first_only j ≡ true → (lanes * p.size j ≡ 16) × ((base j + i * p.size j) % 16 ≡ 0)
-    aligns i at j h e =
-        let z = first_is j e in
-        (ap (λ t. lanes * p.size t) z ∙ whole, ap (λ t. (base t + i * p.size t) % 16) z ∙ ap (λ t. (base 0 + i * t) % 16) size_is ∙ at)
+    -- the first dest alone is stored aligned
+    first_is : (k : ℕ) → aligned_first true k ≡ true → k ≡ 0
+    first_is k e = grind (arith, e)
 
-    each_block : (j : ℕ) → j < 1 → Each (λ a. Each IsIns (action_far_code lanes p.size (block_far (record p { actions = stored }) (j * lanes)) first_only a)) stored
-    each_block zero l = ins_block
-    each_block (suc j) l = absurd (omega (arith, l))
+    -- a row whose first dest has elements of 2 ^ k bytes, of which `lanes` fill a register; the turns `aligned` store it aligned
+    module _ (aligned : List Ins) (is_aligned : Turned lanes true 1 aligned) (k : ℕ) (small : k ≤ 3) (full : 16 / 2 ^ k ≡ lanes) (some_dest : 0 < p.dests) (size_is : p.size 0 ≡ 2 ^ k) where
+      whole : lanes * p.size 0 ≡ 16
+      whole = each_size (λ k. (l s : ℕ) → 16 / 2 ^ k ≡ l → s ≡ 2 ^ k → l * s ≡ 16)
+          (λ l s a b. sym (ap (λ x. x * s) a) ∙ ap (λ x. 16 * x) b) (λ l s a b. sym (ap (λ x. x * s) a) ∙ ap (λ x. 8 * x) b) (λ l s a b. sym (ap (λ x. x * s) a) ∙ ap (λ x. 4 * x) b) (λ l s a b. sym (ap (λ x. x * s) a) ∙ ap (λ x. 2 * x) b)
+          k small lanes (p.size 0) full size_is
 
-    -- one element is no whole register
-    narrow : 1 * p.size 0 ≡ 16 → ⊥
-    narrow e = each_size (λ k. p.size 0 ≡ 2 ^ k → ⊥) (λ s. omega (arith, e, s)) (λ s. omega (arith, e, s)) (λ s. omega (arith, e, s)) (λ s. omega (arith, e, s)) k small size_is
+      aligns : (i : ℕ) → AtSixteen k (base 0) i → Aligns lanes true i
+      aligns i at j h e =
+          let z = first_is j e in
+          (ap (λ t. lanes * p.size t) z ∙ whole, ap (λ t. (base t + i * p.size t) % 16) z ∙ ap (λ t. (base 0 + i * t) % 16) size_is ∙ at)
 
-    abbrev pub aligned : Flow
-    aligned = Repeat Ns (Plain (blocks_turn_code (record p { actions = stored }) first_only lanes 1))
+      -- one element is no whole register
+      narrow : 1 * p.size 0 ≡ 16 → ⊥
+      narrow e = each_size (λ k. p.size 0 ≡ 2 ^ k → ⊥) (λ s. omega (arith, e, s)) (λ s. omega (arith, e, s)) (λ s. omega (arith, e, s)) (λ s. omega (arith, e, s)) k small size_is
 
-    pub aligned_done : (((j : ℕ) → j + lanes ≤ n → AtSixteen k (base 0) j → ⊥) → Free) → (c : Core) → Place 0 c → c.gpr 1 ≡ n
-        → (done : List Ins) × (d : Core) × Does Q (aligned_row k lanes single wide aligned) c done d × Place n d × (length done ≤ 19 + turns lanes n * (2 + each)) × (weigh (touch_weight by) done ≤ turns lanes n * some)
-    aligned_done free c h counts =
-        let g = ground n base P numbers rsp p Emul F set rdi first Q stack_low framed Free calmly in
-        let one = turn_is n base P numbers rsp p Emul F set rdi first Q stack_low framed Free calmly by by_stack each some 1 (omega arith) (omega arith) fit_one ins_one (λ i. Unit {0}) (λ i t e. absurd (narrow e)) in
-        let more = turn_with n base P numbers rsp p Emul F set rdi first Q stack_low framed Free calmly by by_stack each some actions other lanes positive most fit_more ins_more (λ i. (j : ℕ) → j + lanes ≤ n → AtSixteen k (base 0) j → ⊥) (λ i none e. free none) in
-        let block = blocks_with n base P numbers rsp p Emul F set rdi first Q stack_low framed Free calmly by by_stack each some stored still first_only lanes 1 (λ e. absurd (true≢false e)) positive most (omega (arith, most)) fit_stored ins_stored each_block ins_aligned in
-        let same : 1 * lanes ≡ lanes = omega arith in
-        let block_turn : IsTurn Q rsp stack_low n Place g by by_stack each some (Plain (blocks_turn_code (record p { actions = stored }) first_only lanes 1)) lanes (AtSixteen k (base 0)) each some =
-        (λ i d w a t. let x = block i d (omega (arith, w)) a (aligns i t) in
-        (x.0, x.1, x.2, subst (λ l. Place (l + i) x.1) same x.3, record { counter = x.4.counter ∙ ap (λ l. (d.gpr 1 + (2 ^ 64 - l)) % 2 ^ 64) same; tested = x.4.tested; word = x.4.word }, omega (arith, x.5, short_aligned), omega (arith, x.6, light_aligned))) in
-        let address : base 0 % 2 ^ 64 ≡ c.gpr 2 = (let x = h.inside.pointers 0 (inl some_dest) in omega (arith, x)) in
-        aligned_line Q rsp stack_low n Place g by by_stack each some single wide aligned k lanes 1 (base 0) positive (omega (arith, most))
-        (λ i d w a t. let x = one i d w a t in (x.0, x.1, x.2, x.3, x.4, omega (arith, x.5, short_one), omega (arith, x.6, light_one)))
-        (wide_region Q rsp stack_low n Place g by by_stack each some (Plain (blocks_turn_code (record p { actions = stored }) first_only lanes 1)) lanes (AtSixteen k (base 0)) positive (omega (arith, most))
-        (λ i t. subst (λ l. AtSixteen k (base 0) (l + i)) full (sixteen_on k small (base 0) i t)) block_turn)
-        (wide_region Q rsp stack_low n Place g by by_stack each some (Plain (turn_code (record p { actions = actions }) lanes)) lanes (λ i. (j : ℕ) → j + lanes ≤ n → AtSixteen k (base 0) j → ⊥) positive (omega (arith, most)) (λ i t. t)
-        (λ i d w a t. let x = more i d w a t in (x.0, x.1, x.2, x.3, x.4, omega (arith, x.5, short_more), omega (arith, x.6, light_more))))
-        small full c h counts address
+      pub aligned_done : (1 < b → Turned lanes true b large) → (((j : ℕ) → j + lanes ≤ n → AtSixteen k (base 0) j → ⊥) → Free) → (c : Core) → Place 0 c → c.gpr 1 ≡ n
+          → (done : List Ins) × (d : Core) × Does Q (aligned_row k lanes (Plain single) (wide_loop (Plain wide)) (turns_flow lanes b large aligned)) c done d × Place n d × (length done ≤ 19 + turns lanes n * (3 + (2 + each))) × (weigh (touch_weight by) done ≤ turns lanes n * some)
+      aligned_done is_large free c h counts =
+          let address : base 0 % 2 ^ 64 ≡ c.gpr 2 = (let x = h.inside.pointers 0 (inl some_dest) in omega (arith, x)) in
+          aligned_line Q rsp stack_low n Place g by by_stack each some (Plain single) (wide_loop (Plain wide)) (turns_flow lanes b large aligned) k lanes 1 (base 0) positive (omega (arith, most)) (single_turn (λ e. absurd (narrow e)))
+          (turns_are n base P numbers rsp p Emul F set rdi first Q stack_low framed Free calmly by by_stack each some lanes positive most (AtSixteen k (base 0)) (λ i t. subst (λ l. AtSixteen k (base 0) (l + i)) full (sixteen_on k small (base 0) i t)) (aligned_first true) aligns (λ i t e. absurd (true≢false e)) aligned is_aligned b few large is_large)
+          (wide_is n base P numbers rsp p Emul F set rdi first Q stack_low framed Free calmly by by_stack each some lanes positive most (λ i. (j : ℕ) → j + lanes ≤ n → AtSixteen k (base 0) j → ⊥) (λ i t. t) (aligned_first false) (λ i t. none_aligned lanes i) (λ i none u e. free none) wide is_wide)
+          small full c h counts address

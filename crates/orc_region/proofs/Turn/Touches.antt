@@ -8,7 +8,7 @@ use Rattle.x86_flow.specs.Moves.{IsWidth, store_either_code}
 use Rattle.x86_flow.specs.Touching.{weight_by, touch_weight}
 use Rattle.x86_flow.proofs.Plans.{weigh, weigh_append}
 use Rattle.x86_flow.proofs.Moves.{load_weight, store_weight, aligned_store_weight}
-use Rattle.orc_region.specs.Code.{Action, IsRule, Source, FromArray, FromPattern, FromPlace, FromSlot, Target, ToArray, ToSum, ToPlace, ToSlot, Plan, pointer, at_pointer, unaligned, first_register, second_register, rule_code, source_far_code, sources_far_code, sum_code, result_far_code, results_far_code, action_far_code, actions_far_code, advance_code, block_far, blocks_code, turn_code, blocks_turn_code}
+use Rattle.orc_region.specs.Code.{Action, IsRule, Source, FromArray, FromPattern, FromPlace, FromSlot, Target, ToArray, ToSum, ToPlace, ToSlot, AreBlocks, AreTurns, pointer, far_by, first_register, second_register, rule_code, source_far_code, sources_far_code, sum_code, result_far_code, results_far_code, action_far_code, actions_far_code, advance_code}
 use Rattle.orc_region.proofs.Block.Touched.{GoesNowhere, rule_nowhere}
 use Rattle.orc_region.proofs.Block.Actions.{IsMovedFrom, IsMovedTo, IsFit}
 
@@ -130,24 +130,18 @@ module _ (by : ℕ → Bool) (by_stack : by 4 ≡ false) where
   advance_free size count first zero = refl
   advance_free size count first (suc n) = omega (arith, weigh_append v (advance_code size count first n) (AluImm Add (pointer (first + n)) (pos (count * size (first + n))) ∷ []), advance_free size count first n)
 
-  move_free : (p : Plan) (by_many : ℕ) (code : List Ins) (k : ℕ) → weigh v code ≤ k → weigh v (code ++ (advance_code p.size by_many 0 p.dests ++ (advance_code p.size by_many 4 p.sources ++ AluImm Sub 1 (pos by_many) ∷ []))) ≤ k
-  move_free p by_many code k l =
-      let a = advance_code p.size by_many 0 p.dests in
-      let b = advance_code p.size by_many 4 p.sources in
-      let c = AluImm Sub 1 (pos by_many) ∷ [] in
-      omega (arith, l, weigh_append v code (a ++ (b ++ c)), weigh_append v a (b ++ c), weigh_append v b c, advance_free p.size by_many 0 p.dests, advance_free p.size by_many 4 p.sources)
+  -- of blocks of actions of which Are holds; each block touches cells at most once for each operand that is an array
+  module _ (count : ℕ) (size : ℕ → ℕ) (aligned : ℕ → Bool) (Are : List Action → Type 0) (fit : (actions : List Action) → Are actions → Each (IsFit count size) actions) (most : ℕ) (few : (actions : List Action) → Are actions → arrays_of actions ≤ most) where
+    blocks_few : (b : ℕ) (list : List Ins) → AreBlocks Are count size aligned b list → weigh v list ≤ b * most
+    blocks_few zero list x = omega (arith, ap (weigh v) x)
+    blocks_few (suc b) list x =
+        let code = actions_far_code count size (far_by (b * count) size) aligned x.1 in
+        omega (arith, ap (weigh v) x.4, weigh_append v x.0 code, blocks_few b x.0 x.2, actions_few count size (far_by (b * count) size) aligned x.1 (fit x.1 x.3), few x.1 x.3, suc-mul b most)
 
-  -- a turn touches cells at most once for each operand that is an array
-  pub turn_few : (p : Plan) (count : ℕ) → Each (IsFit count p.size) p.actions → weigh v (turn_code p count) ≤ arrays_of p.actions
-  turn_few p count h = move_free p count (actions_far_code count p.size at_pointer unaligned p.actions) (arrays_of p.actions) (actions_few count p.size at_pointer unaligned p.actions h)
-
-  blocks_few : (p : Plan) (aligned : ℕ → Bool) (count b : ℕ) → Each (IsFit count p.size) p.actions → weigh v (blocks_code p aligned count b) ≤ b * arrays_of p.actions
-  blocks_few p aligned count zero h = omega arith
-  blocks_few p aligned count (suc b) h =
-      let x = blocks_few p aligned count b h in
-      let y = actions_few count p.size (block_far p (b * count)) aligned p.actions h in
-      omega (arith, x, y, suc-mul b (arrays_of p.actions), weigh_append v (blocks_code p aligned count b) (actions_far_code count p.size (block_far p (b * count)) aligned p.actions))
-
-  -- and a turn of several blocks so many times that
-  pub blocks_turn_few : (p : Plan) (aligned : ℕ → Bool) (count b : ℕ) → Each (IsFit count p.size) p.actions → weigh v (blocks_turn_code p aligned count b) ≤ b * arrays_of p.actions
-  blocks_turn_few p aligned count b h = move_free p (b * count) (blocks_code p aligned count b) (b * arrays_of p.actions) (blocks_few p aligned count b h)
+    pub turn_few : (dests sources b : ℕ) (list : List Ins) → AreTurns Are count size aligned dests sources b list → weigh v list ≤ b * most
+    turn_few dests sources b list x =
+        let by_many = b * count in
+        let first = advance_code size by_many 0 dests in
+        let second = advance_code size by_many 4 sources in
+        let last = AluImm Sub 1 (pos by_many) ∷ [] in
+        omega (arith, ap (weigh v) x.2, blocks_few b x.0 x.1, weigh_append v x.0 (first ++ (second ++ last)), weigh_append v first (second ++ last), weigh_append v second last, advance_free size by_many 0 dests, advance_free size by_many 4 sources)
