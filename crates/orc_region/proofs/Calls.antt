@@ -6,5 +6,5 @@ pub mod Holding
 pub mod Wide
 pub mod Doing
 pub mod Blocks
-pub mod Turns
+pub mod Filled
 pub mod Rows

@@ -183,23 +183,8 @@ abbrev pub aligned_first : Bool → ℕ → Bool
 aligned_first false = unaligned
 aligned_first true = λ k. k == 0
 
-abbrev pub source_code : ℕ → (ℕ → ℕ) → ℕ → Source → List Ins
-source_code count size = source_far_code count size at_pointer
-
-abbrev pub sources_code : ℕ → (ℕ → ℕ) → ℕ → ℕ → List Source → List Ins
-sources_code count size = sources_far_code count size at_pointer
-
-abbrev pub result_code : ℕ → (ℕ → ℕ) → ℕ → Target → List Ins
-result_code count size = result_far_code count size at_pointer unaligned
-
-abbrev pub results_code : ℕ → (ℕ → ℕ) → List Target → List Ins
-results_code count size = results_far_code count size at_pointer unaligned
-
 abbrev pub action_code : ℕ → (ℕ → ℕ) → Action → List Ins
 action_code count size = action_far_code count size at_pointer unaligned
-
-abbrev pub actions_code : ℕ → (ℕ → ℕ) → List Action → List Ins
-actions_code count size = actions_far_code count size at_pointer unaligned
 
 -- ---- a turn
 
@@ -282,13 +267,13 @@ AreBlocks Are count size aligned (suc b) list =
     (before : List Ins) × (actions : List Action) × AreBlocks Are count size aligned b before × Are actions × (list ≡ before ++ actions_far_code count size (far_by (b * count) size) aligned actions)
 
 -- a turn of so many blocks: the pointers of dests and of sources and the counter go on once
-abbrev pub AreTurns : (List Action → Type 0) → ℕ → (ℕ → ℕ) → (ℕ → Bool) → ℕ → ℕ → ℕ → List Ins → Type 0
-AreTurns Are count size aligned dests sources b list =
+abbrev pub IsBlocksTurn : (List Action → Type 0) → ℕ → (ℕ → ℕ) → (ℕ → Bool) → ℕ → ℕ → ℕ → List Ins → Type 0
+IsBlocksTurn Are count size aligned dests sources b list =
     (blocks : List Ins) × AreBlocks Are count size aligned b blocks × (list ≡ blocks ++ (advance_code size (b * count) 0 dests ++ (advance_code size (b * count) 4 sources ++ AluImm Sub 1 (pos (b * count)) ∷ [])))
 
 -- a turn of blocks of steps with these places, by the sizes of array slots
 abbrev pub IsTurnBy : List ℕ → List ℕ → List Step → ℕ → ℕ → Span → ℕ → List Ins → Type 0
-IsTurnBy at sizes steps dests sources span = AreTurns (AreActions at span.count steps) span.count (slice_index sizes) (aligned_first span.aligned) dests sources
+IsTurnBy at sizes steps dests sources span = IsBlocksTurn (AreActions at span.count steps) span.count (slice_index sizes) (aligned_first span.aligned) dests sources
 
 -- so many elements from the one that the pointers are at, with aligned stores to the first dest or without
 abbrev pub span_of : ℕ → Bool → Span
@@ -301,7 +286,7 @@ IsBlock f at count aligned list =
 
 -- a turn of so many blocks of a function's code, each of `count` elements, with aligned stores to the first dest or without
 abbrev pub IsTurnOf : FunctionValue → List ℕ → ℕ → Bool → ℕ → List Ins → Type 0
-IsTurnOf f at count aligned = AreTurns (AreActions at count (steps_of f)) count (size_of_slot f.vars) (aligned_first aligned) (count_of kind.Dest f.vars) (count_of kind.Source f.vars)
+IsTurnOf f at count aligned = IsBlocksTurn (AreActions at count (steps_of f)) count (size_of_slot f.vars) (aligned_first aligned) (count_of kind.Dest f.vars) (count_of kind.Source f.vars)
 
 -- ---- the elements of a row
 

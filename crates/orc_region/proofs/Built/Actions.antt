@@ -15,7 +15,7 @@ use Rattle.sse_acc.specs.Sums.{AddsUp}
 use Rattle.orc_plan.specs.declared.steps.Item.{Item}
 use Rattle.orc_plan.specs.declared.steps.Step.{Step}
 use Rattle.orc_region.specs.declared.span.Span.{Span}
-use Rattle.orc_region.specs.Code.{Action, Target, AreActions, AreBlocks, AreTurns, used_from, AddsRule, AddsAction, AddsActions, pointer, far_by, aligned_first, source_of, target_of, first_register, second_register, exchange, rule_register, rule_code, sources_far_code, sum_code, results_far_code, action_far_code, actions_far_code, advance_code}
+use Rattle.orc_region.specs.Code.{Action, Target, AreActions, AreBlocks, IsBlocksTurn, used_from, AddsRule, AddsAction, AddsActions, pointer, far_by, aligned_first, source_of, target_of, first_register, second_register, exchange, rule_register, rule_code, sources_far_code, sum_code, results_far_code, action_far_code, actions_far_code, advance_code}
 
 -- what follows from a fact of a success
 pub on_ok : {A E : Type 0} (r : Result A E) (P Q : Type 0) → (P → Q) → OnOk r P → OnOk r Q
@@ -41,7 +41,7 @@ advances_more base c d size count first n i p q e =
 -- blocks, and what moves the pointers and the counter on, make a turn; `inner` are the sizes as they are read
 pub turn_built : (Are : List Action → Type 0) (count : ℕ) (aligned : ℕ → Bool) (b : ℕ) (sizes inner : List ℕ) → inner ≡ sizes → (blocks l1 l2 l3 : List Ins) (dests sources : ℕ) → AreBlocks Are count (slice_index sizes) aligned b blocks
     → l1 ≡ blocks ++ advance_code (slice_index inner) (b * count) 0 dests → dests ≡ used_from (slice_index inner) 0 4 → l2 ≡ l1 ++ advance_code (slice_index inner) (b * count) 4 sources → sources ≡ used_from (slice_index inner) 4 8 → l3 ≡ l2 ++ AluImm Sub 1 (pos (b * count)) ∷ []
-    → AreTurns Are count (slice_index sizes) aligned (used_from (slice_index sizes) 0 4) (used_from (slice_index sizes) 4 8) b l3
+    → IsBlocksTurn Are count (slice_index sizes) aligned (used_from (slice_index sizes) 0 4) (used_from (slice_index sizes) 4 8) b l3
 turn_built Are count aligned b sizes inner same blocks l1 l2 l3 dests sources are e1 d e2 s e3 =
     let by = b * count in
     let first = advance_code (slice_index sizes) by 0 (used_from (slice_index sizes) 0 4) in

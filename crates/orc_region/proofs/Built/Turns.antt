@@ -1,6 +1,5 @@
 -- The turns over the elements of a row, and the loops around them, as they are built.
 use Rattle.std.proofs.Common.{◌≡◌, ◌≢◌, ℕ, zero, suc, ◌+◌, ◌*◌, ◌<◌, ◌≤◌, ◌==◌, ◌&&◌, ◌⊎◌, if◌then◌else◌, Bool, true, false, true≢false, All, IsTrue, List, [], length, nat_lt, slice_index, sym, ap, ap₂, ◌∙◌, subst, arith, inl, inr, refl, ⊎_elim}
-use Rattle.std.proofs.Math.Nat.{mul-le-mul_right}
 use Rattle.std.proofs.lemmas.Bool.{ne_eqb, lt-ltb, ltb-true, eqb-true}
 use Rattle.orc_program.proofs.Sizes.{both}
 use Rattle.x86_ins.specs.declared.ins.Cond.TheVariants.{Ns}
@@ -130,13 +129,7 @@ module _ (f : FunctionValue) (at sizes : List ℕ) (steps : List Step) (x : Lowe
 one_or_more : (lanes b : ℕ) (large turn : List Ins) (t : Bool) → nat_lt 1 b ≡ t → turns_flow lanes b large turn ≡ (if t then wide_loops lanes (b * lanes) (Plain large) (Plain turn) else wide_loop (Plain turn))
 one_or_more lanes b large turn t e = ap (λ t. if t then wide_loops lanes (b * lanes) (Plain large) (Plain turn) else wide_loop (Plain turn)) e
 
--- without large ones
-pub whole_of_one : (f : FunctionValue) (at : List ℕ) (aligned : Bool) (b : ℕ) → b ≡ 1 → (turn : List Ins) (turns loop : Tree) → flat_of turns ≡ turn → flat_of loop ≡ loop_code Ns (flat_of turns) → AreWholeTurns f at aligned b turn (flat_of loop)
-whole_of_one f at aligned b one turn turns loop t e =
-    let none : nat_lt 1 b ≡ false = ap (nat_lt 1) one in
-    ([], λ l. absurd (omega (arith, l, one)), e ∙ ap (loop_code Ns) t ∙ sym (ap flat (one_or_more (lanes f) b [] turn false none)))
-
--- after large ones
+-- large ones, and then those of one block
 pub whole_of_many : (f : FunctionValue) (at : List ℕ) (aligned : Bool) (b : ℕ) → 1 ≤ b → b ≢ 1 → (n : ℕ) → n ≡ lanes f → (large turn : List Ins) → IsTurnOf f at n aligned b large → (larges turns loop : Tree) → flat_of larges ≡ large → flat_of turns ≡ turn
     → flat_of loop ≡ flat (wide_loops n (b * n) (Plain (flat_of larges)) (Plain (flat_of turns))) → AreWholeTurns f at aligned b turn (flat_of loop)
 whole_of_many f at aligned b some more n n_is large turn is larges turns loop l t e =
@@ -145,9 +138,6 @@ whole_of_many f at aligned b some more n n_is large turn is larges turns loop l 
       λ z. subst (λ k. IsTurnOf f at k aligned b large) n_is is,
       e ∙ ap₂ (λ x y. flat (wide_loops n (b * n) (Plain x) (Plain y))) l t ∙ ap (λ k. flat (wide_loops k (b * k) (Plain large) (Plain turn))) n_is ∙ sym (ap flat (one_or_more (lanes f) b large turn true several)),
     )
-
-pub large_under : (lanes b : ℕ) → 1 ≤ b → lanes ≤ b * lanes
-large_under lanes b some = (let m : 1 * lanes ≤ b * lanes = mul-le-mul_right lanes some in omega (arith, m))
 
 -- ---- loops
 

@@ -44,7 +44,7 @@ use Rattle.orc_region.proofs.Calls.Holding.{totals_in, framed_in, agrees_in, hol
 use Rattle.orc_region.proofs.Calls.Wide.{by_pointer, cell_weight, part_wide}
 use Rattle.orc_region.proofs.Calls.Doing.{OnWay, Leaves, doing}
 use Rattle.orc_region.proofs.Calls.Blocks.{arrays_known, from_row, cell_begins, words_kept, words_frame}
-use Rattle.orc_region.proofs.Calls.Turns.{filled_first, filled_is}
+use Rattle.orc_region.proofs.Calls.Filled.{filled_first, filled_is}
 
 -- the instructions of a row's elements besides their turns
 abbrev besides_of : Bool → ℕ

@@ -17,7 +17,7 @@ use Rattle.x86_ins.specs.Way.{Each}
 use Rattle.x86_flow.specs.Moves.{IsWidth, away, store_either_code}
 use Rattle.x86_flow.proofs.Spelled.{IsFine, fine_alu_imm, fits_up, each_both, fine_load_far, fine_store_far, fine_aligned_store, fine_vec_load, fine_vec_store}
 use Rattle.orc_frame.specs.Layout.{pattern_slot, sum_slot, spill_slot}
-use Rattle.orc_region.specs.Code.{Action, IsRule, Source, FromArray, FromPattern, FromPlace, FromSlot, Target, ToArray, ToSum, ToPlace, ToSlot, Plan, pointer, place_register, made_in, first_register, second_register, rule_register, rule_code, AreBlocks, AreTurns, far_by, source_far_code, sources_far_code, sum_code, result_far_code, results_far_code, action_far_code, actions_far_code, advance_code}
+use Rattle.orc_region.specs.Code.{Action, IsRule, Source, FromArray, FromPattern, FromPlace, FromSlot, Target, ToArray, ToSum, ToPlace, ToSlot, Plan, pointer, place_register, made_in, first_register, second_register, rule_register, rule_code, AreBlocks, IsBlocksTurn, far_by, source_far_code, sources_far_code, sum_code, result_far_code, results_far_code, action_far_code, actions_far_code, advance_code}
 use Rattle.orc_region.proofs.Block.Keeping.{ins_of}
 use Rattle.orc_region.proofs.Block.RuleRegisters.{register_small}
 use Rattle.orc_region.proofs.Sizes.Cost.{from_weights, to_weights, weights}
@@ -169,7 +169,7 @@ module _ (count : ℕ) (size : ℕ → ℕ) (small : (k : ℕ) → size k ≤ 8)
         let code = actions_far_code count size (far_by (b * count) size) aligned x.1 in
         subst (Each IsFine) (sym x.4) (each_both IsFine x.0 code (fine_blocks b x.0 (omega (arith, l, suc-mul b count)) x.2) (fine_actions count size (far_by (b * count) size) aligned (near (b * count) (omega (arith, l, suc-mul b count))) x.1 (movable x.1 x.3)))
 
-    pub fine_turn : (dests sources : ℕ) → dests ≤ 4 → sources ≤ 8 → (b : ℕ) (list : List Ins) → b * count ≤ 64 → AreTurns Are count size aligned dests sources b list → Each IsFine list
+    pub fine_turn : (dests sources : ℕ) → dests ≤ 4 → sources ≤ 8 → (b : ℕ) (list : List Ins) → b * count ≤ 64 → IsBlocksTurn Are count size aligned dests sources b list → Each IsFine list
     fine_turn dests sources few_dests few_sources b list l x =
         let by = b * count in
         let last = AluImm Sub 1 (pos by) ∷ [] in

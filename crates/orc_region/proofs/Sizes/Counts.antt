@@ -10,7 +10,7 @@ use Rattle.x86_flow.specs.Moves.{IsWidth, load_far_code, store_either_code}
 use Rattle.x86_flow.proofs.Moves.{each_width}
 use Rattle.orc_program.specs.Need.{registers}
 use Rattle.orc_frame.specs.Layout.{spill_slots}
-use Rattle.orc_region.specs.Code.{Action, IsRule, Source, FromArray, FromPattern, FromPlace, FromSlot, Target, ToArray, ToSum, ToPlace, ToSlot, AreBlocks, AreTurns, pointer, far_by, first_register, second_register, rule_register, rule_code, source_far_code, sources_far_code, sum_code, result_far_code, results_far_code, action_far_code, actions_far_code, advance_code}
+use Rattle.orc_region.specs.Code.{Action, IsRule, Source, FromArray, FromPattern, FromPlace, FromSlot, Target, ToArray, ToSum, ToPlace, ToSlot, AreBlocks, IsBlocksTurn, pointer, far_by, first_register, second_register, rule_register, rule_code, source_far_code, sources_far_code, sum_code, result_far_code, results_far_code, action_far_code, actions_far_code, advance_code}
 use Rattle.orc_region.proofs.Sizes.Cost.{from_weight, from_weights, to_weight, to_weights, weight, weights}
 
 -- a slot of an array whose elements can be moved so many at once, one of the frame, or a place's register
@@ -104,7 +104,7 @@ module _ (count : ℕ) (size : ℕ → ℕ) (aligned : ℕ → Bool) (Are : List
       let code = actions_far_code count size (far_by (b * count) size) aligned x.1 in
       omega (arith, ap length x.4, length-append x.0 code, blocks_count b x.0 x.2, actions_count count size (far_by (b * count) size) aligned x.1 (movable x.1 x.3), few x.1 x.3, suc-mul b most)
 
-  pub turn_count : (dests sources b : ℕ) (list : List Ins) → AreTurns Are count size aligned dests sources b list → length list ≤ b * most + (dests + sources) + 1
+  pub turn_count : (dests sources b : ℕ) (list : List Ins) → IsBlocksTurn Are count size aligned dests sources b list → length list ≤ b * most + (dests + sources) + 1
   turn_count dests sources b list x =
       let by = b * count in
       let last = AluImm Sub 1 (pos by) ∷ [] in

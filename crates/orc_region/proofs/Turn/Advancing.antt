@@ -1,5 +1,5 @@
 -- A turn does so many elements: a block, and the pointers and the counter go on.
-use Rattle.std.proofs.Common.{◌≡◌, ◌≢◌, ℕ, zero, suc, ◌+◌, ◌-◌, ◌*◌, ◌%◌, ◌^◌, ◌<◌, ◌≤◌, Bool, true, false, true≢false, pos, List, [], ◌∷◌, ◌++◌, suc-mul, Some, is_some, refl, sym, ap, ◌∙◌, subst, arith, ◌⊎◌, inl, inr, ⊎_elim}
+use Rattle.std.proofs.Common.{◌≡◌, ◌≢◌, ℕ, zero, suc, ◌+◌, ◌-◌, ◌*◌, ◌%◌, ◌^◌, ◌<◌, ◌≤◌, Bool, true, false, pos, List, [], ◌∷◌, ◌++◌, suc-mul, Some, is_some, refl, sym, ap, ◌∙◌, subst, arith, ◌⊎◌, inl, inr, ⊎_elim}
 use Rattle.std.proofs.Math.Nat.{add-mul, mul_assoc}
 use Rattle.std.proofs.lemmas.Bool.{cases_eq}
 use Rattle.orc_bits.specs.Memory.{Memory, IsMapped}
@@ -17,7 +17,7 @@ use Rattle.x86_flow.proofs.Moves.{line_append}
 use Rattle.x86_flow.proofs.Touching.{touches_none}
 use Rattle.x86_flow.proofs.Plans.{line_map}
 use Rattle.orc_frame.specs.Parts.{InChanged}
-use Rattle.orc_region.specs.Code.{Plan, Action, AreBlocks, AreTurns, pointer, far_by, action_far_code, actions_far_code, advance_code}
+use Rattle.orc_region.specs.Code.{Plan, Action, AreBlocks, IsBlocksTurn, pointer, far_by, action_far_code, actions_far_code, advance_code}
 use Rattle.orc_region.proofs.Block.Registers.{not_0, not_1, not_4, not_7, pointer_one}
 use Rattle.sse_acc.specs.Sums.{sum_below}
 use Rattle.orc_region.proofs.Block.Cells.{Numbers, OfDests, Local, no_values, Lanes, Others, AtElements, AllKnown, Decided, Low, local, adds, elements_or_not, same_end}
@@ -339,7 +339,7 @@ module _ (n : ℕ) (base : ℕ → ℕ) (P : ℕ → Type 0) (numbers : Numbers)
         )
 
     -- a whole turn
-    pub turn_line : (b : ℕ) (list : List Ins) → AreTurns AbleTo count p.size aligned p.dests p.sources b list → b * count ≤ 64 → Each IsIns list → (i : ℕ) → Aligns n base P numbers rsp p Emul F set rdi mem count aligned i → (e : Memory) (totals : ℕ → ℕ) (c : Core) → i + b * count ≤ n → Here i e totals c → Emul i e totals
+    pub turn_line : (b : ℕ) (list : List Ins) → IsBlocksTurn AbleTo count p.size aligned p.dests p.sources b list → b * count ≤ 64 → Each IsIns list → (i : ℕ) → Aligns n base P numbers rsp p Emul F set rdi mem count aligned i → (e : Memory) (totals : ℕ → ℕ) (c : Core) → i + b * count ≤ n → Here i e totals c → Emul i e totals
         → (end : Memory) × (new : ℕ → ℕ) × (d : Core) × Emul (b * count + i) end new × Line Q list c d × Here (b * count + i) end new d × (d.gpr 1 ≡ (c.gpr 1 + (2 ^ 64 - b * count)) % 2 ^ 64) × Tested d
     turn_line b list x near known i aligns e totals c w h em =
         let a = blocks_line b x.0 x.1 near i aligns e totals c w h em in

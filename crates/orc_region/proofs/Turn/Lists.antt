@@ -18,7 +18,7 @@ use Rattle.x86_ins.specs.Way.{Each}
 use Rattle.x86_flow.specs.Flow.{size}
 use Rattle.x86_flow.proofs.Spelled.{IsFine, all_spelled, size_within}
 use Rattle.orc_frame.specs.Layout.{layout_of}
-use Rattle.orc_region.specs.Code.{Action, AreActions, AreBlocks, AreTurns, blocks_of, IsReady, IsTurnBy, IsTurnOf, span_of, plan_with, far_by, aligned_first, advance_code, action_far_code}
+use Rattle.orc_region.specs.Code.{Action, AreActions, AreBlocks, IsBlocksTurn, blocks_of, IsReady, IsTurnBy, IsTurnOf, span_of, plan_with, far_by, aligned_first, advance_code, action_far_code}
 use Rattle.orc_region.proofs.Sizes.Cost.{weights}
 use Rattle.orc_region.proofs.Sizes.Counts.{IsMovable, turn_count}
 use Rattle.orc_region.proofs.Checked.Acts.{AllPlaced}
@@ -37,7 +37,7 @@ module _ (A B : List Action → Type 0) (count : ℕ) (size : ℕ → ℕ) (alig
   blocks_map zero list x = x
   blocks_map (suc b) list x = (x.0, x.1, blocks_map b x.0 x.2, more x.1 x.3, x.4)
 
-  pub turns_map : (dests sources b : ℕ) (list : List Ins) → AreTurns A count size aligned dests sources b list → AreTurns B count size aligned dests sources b list
+  pub turns_map : (dests sources b : ℕ) (list : List Ins) → IsBlocksTurn A count size aligned dests sources b list → IsBlocksTurn B count size aligned dests sources b list
   turns_map dests sources b list x = (x.0, blocks_map b x.0 x.1, x.2)
 
 -- a large turn has at most four blocks

@@ -1,5 +1,5 @@
 -- Turns of so many elements are what the loops of a row ask for.
-use Rattle.std.proofs.Common.{◌≡◌, ℕ, zero, suc, ◌+◌, ◌/◌, true≢false, inl, ⊎_elim, ◌-◌, ◌*◌, ◌%◌, ◌^◌, ◌<◌, ◌≤◌, Bool, true, false, is_some, if◌then◌else◌, nat_lt, suc-mul, le_refl, sym, ap, ◌∙◌, subst, arith, refl, List, length}
+use Rattle.std.proofs.Common.{◌≡◌, ℕ, zero, suc, ◌+◌, ◌/◌, true≢false, inl, ⊎_elim, ◌*◌, ◌%◌, ◌^◌, ◌<◌, ◌≤◌, Bool, true, false, is_some, if◌then◌else◌, nat_lt, suc-mul, le_refl, sym, ap, ◌∙◌, subst, arith, refl, List, length}
 use Rattle.std.proofs.Math.Nat.{mul-le-mul_right}
 use Rattle.std.proofs.lemmas.Bool.{ltb-true}
 use Rattle.orc_bits.specs.Memory.{Memory, IsMapped}
@@ -12,7 +12,7 @@ use Rattle.x86_flow.specs.Touching.{touch_weight}
 use Rattle.x86_flow.specs.Does.{Does}
 use Rattle.x86_flow.proofs.Plans.{weigh}
 use Rattle.orc_program.specs.Need.{turns}
-use Rattle.orc_region.specs.Code.{Plan, AreTurns, pointer, aligned_first, turns_flow}
+use Rattle.orc_region.specs.Code.{Plan, IsBlocksTurn, pointer, aligned_first, turns_flow}
 use Rattle.orc_region.specs.Regions.{plain_row, aligned_row, wide_loop, wide_loops}
 use Rattle.orc_region.proofs.Block.Registers.{not_0, not_1}
 use Rattle.orc_region.proofs.Block.Cells.{Numbers}
@@ -105,7 +105,7 @@ module _ (n : ℕ) (base : ℕ → ℕ) (P : ℕ → Type 0) (numbers : Numbers)
     module _ (by : ℕ → Bool) (by_stack : by 4 ≡ false) (each some : ℕ) where
       -- what is known of a turn of so many blocks; it takes no more instructions than as many turns of one block
       pub record Round (count : ℕ) (aligned : ℕ → Bool) (b : ℕ) (list : List Ins) : Type 0 where
-        pub turn : AreTurns (Able n base P numbers rsp p Emul F count aligned) count p.size aligned p.dests p.sources b list
+        pub turn : IsBlocksTurn (Able n base P numbers rsp p Emul F count aligned) count p.size aligned p.dests p.sources b list
         pub known : Each IsIns list
         pub short : 2 + length list ≤ b * (2 + each)
         pub light : weigh (touch_weight by) list ≤ b * some
@@ -163,7 +163,7 @@ module _ (n : ℕ) (base : ℕ → ℕ) (P : ℕ → Type 0) (numbers : Numbers)
                   let several : 1 < b = ltb-true 1 b e in
                   let large_is = y several in
                   wide_regions Q rsp stack_low n At ground by by_stack each some (Plain list) (Plain large) lanes b Pre (length large) (b * some) positive (omega (arith, several)) width (under several) next (next_many b) one_turn
-                      (turn_is lanes aligned b large large_is positive (b * lanes) refl width (length large) (le_refl (length large)) Pre aligns free) large_is.short (le_refl (b * some))
+                  (turn_is lanes aligned b large large_is positive (b * lanes) refl width (length large) (le_refl (length large)) Pre aligns free) large_is.short (le_refl (b * some))
 
 -- the loops of a row, whose turns of one element are `single`
 module _ (n : ℕ) (base : ℕ → ℕ) (P : ℕ → Type 0) (numbers : Numbers) (rsp : ℕ) (p : Plan) (Emul : ℕ → Memory → (ℕ → ℕ) → Type 0) (F : ℕ → Type 0) (set : Setting n base P numbers rsp p Emul F) (rdi : ℕ) (first : Memory)

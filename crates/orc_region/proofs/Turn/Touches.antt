@@ -8,7 +8,7 @@ use Rattle.x86_flow.specs.Moves.{IsWidth, store_either_code}
 use Rattle.x86_flow.specs.Touching.{weight_by, touch_weight}
 use Rattle.x86_flow.proofs.Plans.{weigh, weigh_append}
 use Rattle.x86_flow.proofs.Moves.{load_weight, store_weight, aligned_store_weight}
-use Rattle.orc_region.specs.Code.{Action, IsRule, Source, FromArray, FromPattern, FromPlace, FromSlot, Target, ToArray, ToSum, ToPlace, ToSlot, AreBlocks, AreTurns, pointer, far_by, first_register, second_register, rule_code, source_far_code, sources_far_code, sum_code, result_far_code, results_far_code, action_far_code, actions_far_code, advance_code}
+use Rattle.orc_region.specs.Code.{Action, IsRule, Source, FromArray, FromPattern, FromPlace, FromSlot, Target, ToArray, ToSum, ToPlace, ToSlot, AreBlocks, IsBlocksTurn, pointer, far_by, first_register, second_register, rule_code, source_far_code, sources_far_code, sum_code, result_far_code, results_far_code, action_far_code, actions_far_code, advance_code}
 use Rattle.orc_region.proofs.Block.Touched.{GoesNowhere, rule_nowhere}
 use Rattle.orc_region.proofs.Block.Actions.{IsMovedFrom, IsMovedTo, IsFit}
 
@@ -138,7 +138,7 @@ module _ (by : ℕ → Bool) (by_stack : by 4 ≡ false) where
         let code = actions_far_code count size (far_by (b * count) size) aligned x.1 in
         omega (arith, ap (weigh v) x.4, weigh_append v x.0 code, blocks_few b x.0 x.2, actions_few count size (far_by (b * count) size) aligned x.1 (fit x.1 x.3), few x.1 x.3, suc-mul b most)
 
-    pub turn_few : (dests sources b : ℕ) (list : List Ins) → AreTurns Are count size aligned dests sources b list → weigh v list ≤ b * most
+    pub turn_few : (dests sources b : ℕ) (list : List Ins) → IsBlocksTurn Are count size aligned dests sources b list → weigh v list ≤ b * most
     turn_few dests sources b list x =
         let by_many = b * count in
         let first = advance_code size by_many 0 dests in

@@ -1,4 +1,4 @@
-use Rattle.std.proofs.Common.{◌≡◌, ℕ, ◌*◌, ◌^◌, ◌<◌, ◌++◌, ◌∷◌, [], ap, ◌∙◌, w32, arith}
+use Rattle.std.proofs.Common.{◌*◌, ◌^◌, ◌<◌, ◌++◌, ◌∷◌, [], ap, ◌∙◌, w32, arith}
 use Rattle.std.proofs.Math.Facts.{to_z_pos}
 use Rattle.x86_ins.specs.declared.ins.AluOp.TheVariants.{Sub}
 use Rattle.x86_ins.specs.declared.ins.Ins.TheVariants.{AluImm}
