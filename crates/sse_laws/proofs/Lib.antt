@@ -5,3 +5,4 @@ pub mod Runs
 pub mod Two
 pub mod Ways
 pub mod Formulas
+pub mod Machine
