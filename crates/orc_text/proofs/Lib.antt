@@ -21,3 +21,8 @@ pub mod KeptVars
 pub mod InsnLines
 pub mod Functions
 pub mod Reread
+pub mod Each
+pub mod OneName
+pub mod MoreLines
+pub mod LineSteps
+pub mod Segmented

@@ -1,0 +1,142 @@
+-- A text without a fault reads as what its segments say.
+use Rattle.std.proofs.Common.{◌≡◌, ℕ, suc, ◌+◌, ◌||◌, Bool, true, false, not, List, [], ◌∷◌, ◌++◌, Option, Some, None, option_to_list, if◌then◌else◌, take, filter_map, fold, refl, sym, ap, ◌∙◌, subst, append-nil, append_assoc, arith, true≢false}
+use Rattle.std.specs.List.{cons_option, before_first, prefix_len}
+use Rattle.orc_program.specs.declared.fault.Fault.{Fault}
+use Rattle.orc_program.specs.Words.{Word}
+use Rattle.orc_program.specs.Program.{FunctionValue}
+use Rattle.orc_words.specs.Text.{lines, content, words, word, starts_with_dot}
+use Rattle.orc_text.specs.declared.directive.Directive.{Directive}
+use Rattle.orc_text.specs.declared.directive.Directive.TheVariants as directive
+use Rattle.orc_text.specs.Each.{OneForEach}
+use Rattle.orc_text.specs.Faults.{words_fault, line_fault}
+use Rattle.orc_text.specs.Reads.{found_or, first_fault, text_fault, text_program}
+use Rattle.orc_text.specs.Said.{Said, functions_of, nothing_said, new_function, directive_of, say, say_words, counted, program_of}
+use Rattle.orc_text.specs.Segments.{TextLine, numbered, text_lines, directive_in, are_insn, is_function, is_start, after_init, segments, declared_names, SaysFunction, SaysProgram, ReadsAreSegments}
+use Rattle.orc_text.proofs.Directives.{within}
+use Rattle.orc_text.proofs.LineSteps.{words_step, outside, words_outside}
+use Rattle.orc_text.proofs.MoreLines.{grown, names_declared}
+
+-- ---- lists
+
+-- lists up to the first item of a kind
+stop_here : {A : Type 0} (p : A → Bool) (x : A) (xs : List A) → p x ≡ true → before_first p (x ∷ xs) ≡ []
+stop_here p x xs h = rw h refl
+
+go_on : {A : Type 0} (p : A → Bool) (x : A) (xs : List A) → p x ≡ false → before_first p (x ∷ xs) ≡ x ∷ before_first p xs
+go_on p x xs h = let e : 1 + prefix_len (λ y. not (p y)) xs ≡ suc (prefix_len (λ y. not (p y)) xs) = omega arith in rw (h, e) refl
+
+one_first : {A : Type 0} (x : Option A) (xs : List A) → cons_option x [] ++ xs ≡ cons_option x xs
+one_first None xs = refl
+one_first (Some a) xs = refl
+
+-- ---- faults
+
+none_both : (n : ℕ) (x : Option Fault) (later : Option (ℕ × Fault)) → found_or n x later ≡ None → (x ≡ None) × (later ≡ None)
+none_both n None later h = (refl, h)
+none_both n (Some f) later h = absurd (let e : ⊥ = cc in e)
+
+-- ---- a `.function` line
+
+function_there : (d : Option Directive) → is_function d ≡ true → d ≡ Some directive.Function
+function_there None h = absurd (true≢false (sym h))
+function_there (Some directive.Function) h = refl
+function_there (Some directive.Init) h = absurd (true≢false (sym h))
+function_there (Some directive.Flags) h = absurd (true≢false (sym h))
+function_there (Some directive.CountN) h = absurd (true≢false (sym h))
+function_there (Some directive.CountM) h = absurd (true≢false (sym h))
+function_there (Some directive.Backup) h = absurd (true≢false (sym h))
+function_there (Some (directive.Variable k)) h = absurd (true≢false (sym h))
+function_there (Some directive.Float) h = absurd (true≢false (sym h))
+
+record Starts (s : Said) (ws : List Word) : Type 0 where
+  insn : are_insn ws ≡ false
+  said : say_words s ws ≡ within s.lines s.init (functions_of s) (new_function (word ws 1))
+
+starts : (s : Said) (ws : List Word) → directive_in ws ≡ Some directive.Function → Starts s ws
+starts s [] e = absurd (let c : ⊥ = cc in c)
+starts s (w ∷ ws) e = go (starts_with_dot w) refl e
+  where
+    go : (b : Bool) → starts_with_dot w ≡ b → (if b then directive_of w else None) ≡ Some directive.Function → Starts s (w ∷ ws)
+    go true t h = record { insn = rw t refl; said = rw (t, h) refl }
+    go false t h = absurd (let c : ⊥ = cc in c)
+
+begun : (line : TextLine) → directive_in line.words ≡ Some directive.Function → are_insn line.words ≡ false → SaysFunction (line ∷ []) (new_function (word line.words 1))
+begun line e i = record {
+  name = refl;
+  two_d = rw e refl;
+  vars = rw e tt;
+  distinct = rw e refl;
+  insns = rw i tt;
+  n = rw e refl;
+  m = rw e refl;
+  backup = rw e refl;
+}
+
+-- ---- all lines
+
+abbrev noted_in : TextLine → Option Word
+noted_in line = after_init (directive_in line.words) line.words
+
+-- what is said after lines: more functions, and perhaps the name after `.init`
+record Run (init : Option Word) (over : List FunctionValue) (segs : List (List TextLine)) (ls : List TextLine) (end : Said) : Type 0 where
+  functions : (fs : List FunctionValue) × (functions_of end ≡ over ++ fs) × OneForEach SaysFunction segs fs
+  noted : option_to_list end.init ≡ option_to_list init ++ filter_map noted_in ls
+
+noted_more : (init to last : Option Word) (line : TextLine) (more : List TextLine) → option_to_list to ≡ option_to_list init ++ cons_option (noted_in line) [] → option_to_list last ≡ option_to_list to ++ filter_map noted_in more
+    → option_to_list last ≡ option_to_list init ++ filter_map noted_in (line ∷ more)
+noted_more init to last line more here later =
+    later
+    ∙ ap (λ ws. ws ++ filter_map noted_in more) here
+    ∙ append_assoc (option_to_list init) (cons_option (noted_in line) []) (filter_map noted_in more)
+    ∙ ap (λ ws. option_to_list init ++ ws) (one_first (noted_in line) (filter_map noted_in more))
+
+retold : (init : Option Word) (over : List FunctionValue) (segs others : List (List TextLine)) (ls : List TextLine) (end : Said) → others ≡ segs → Run init over segs ls end → Run init over others ls end
+retold init over segs others ls end e r = subst (λ (x : List (List TextLine)). Run init over x ls end) (sym e) r
+
+-- one more function before those that follow
+one_before : (init : Option Word) (over : List FunctionValue) (f : FunctionValue) (segment : List TextLine) (segs : List (List TextLine)) (ls : List TextLine) (end : Said) → SaysFunction segment f → Run init (over ++ f ∷ []) segs ls end → Run init over (segment ∷ segs) ls end
+one_before init over f segment segs ls end s r = record {
+  functions = (f ∷ r.functions.0, r.functions.1 ∙ append_assoc over (f ∷ []) r.functions.0, (s, r.functions.2));
+  noted = r.noted;
+}
+
+-- a line that starts a function
+step_start : (s : Said) (bytes : List ℕ) → directive_in (words (content bytes)) ≡ Some directive.Function → say s bytes ≡ within (s.lines + 1) s.init (functions_of s) (new_function (word (words (content bytes)) 1))
+unfolding say
+step_start s bytes e = ap (counted (s.lines + 1)) (starts s (words (content bytes)) e).said
+
+step_other : (s after : Said) (bytes : List ℕ) → say_words s (words (content bytes)) ≡ after → say s bytes ≡ counted (s.lines + 1) after
+unfolding say
+step_other s after bytes e = ap (counted (s.lines + 1)) e
+
+-- a line that starts a function says nothing of `.init`
+not_noted : (init : Option Word) (line : TextLine) → directive_in line.words ≡ Some directive.Function → option_to_list init ≡ option_to_list init ++ cons_option (noted_in line) []
+not_noted init line e = rw e (sym (append-nil (option_to_list init)))
+
+mutual_start : (line : TextLine) (more : List TextLine) → is_start line ≡ true → segments (line ∷ more) ≡ (line ∷ before_first is_start more) ∷ segments more
+mutual_start line more h = rw h refl
+
+not_start : (line : TextLine) (more : List TextLine) → is_start line ≡ false → segments (line ∷ more) ≡ segments more
+not_start line more h = rw h refl
+
+-- the line's own step, and then the others
+noted_then : (init to : Option Word) (over : List FunctionValue) (segs : List (List TextLine)) (line : TextLine) (more : List TextLine) (end : Said) → option_to_list to ≡ option_to_list init ++ cons_option (noted_in line) [] → Run to over segs more end → Run init over segs (line ∷ more) end
+noted_then init to over segs line more end here r = record { functions = r.functions; noted = noted_more init to end.init line more here r.noted }
+
+fault_here : (s : Said) (bytes : List ℕ) → line_fault s (content bytes) ≡ None → words_fault s (content bytes) (words (content bytes)) ≡ None
+unfolding line_fault
+fault_here s bytes h = h
+
+run_within : (all : List (List ℕ)) (n : ℕ) (init : Option Word) (over : List FunctionValue) (first : TextLine) (rest : List TextLine) (f : FunctionValue) → SaysFunction (first ∷ rest) f → first_fault (within n init over f) all ≡ None
+    → Run init over ((first ∷ (rest ++ before_first is_start (numbered (n + 1) all))) ∷ segments (numbered (n + 1) all)) (numbered (n + 1) all) (fold say (within n init over f) all)
+run_within [] n init over first rest f s h = record {
+  functions = (f ∷ [], refl, (subst (λ (xs : List TextLine). SaysFunction (first ∷ xs) f) (sym (append-nil rest)) s, tt));
+  noted = sym (append-nil (option_to_list init));
+}
+run_within (bytes ∷ all) n init over first rest f s h = go (is_start line) refl
+  where
+    ws = words (content bytes)
+    line : TextLine
+    line = record { number = n + 1; words = words (content bytes) }
+    go : (b : Bool) → is_start line ≡ b → Run init over ((first ∷ (rest ++ before_first is_start (numbered (n + 1) (bytes ∷ all)))) ∷ segments (numbered (n + 1) (bytes ∷ all))) (numbered (n + 1) (bytes ∷ all)) (fold say (within n init over f) (bytes ∷ all))
+    go b e = ?
