@@ -52,20 +52,26 @@ found_only w k (v ∷ vars) p h d =
       | inl t ↦
           let e : Some k ≡ Some p = rw t at h in
           let same : k ≡ p = cc in
-          let name = equal_bytes v.name w t in
-          (0, (omega (arith, same)), record {
-            within = omega arith;
-            here = name;
-            only = first_only v.name w (names vars) (not_true (list_any (bytes_eq v.name) (names vars)) two.0) name;
-          })
+          let name = equal_bytes v.name w t in (
+            0,
+            (omega (arith, same)),
+            record {
+              within = omega arith;
+              here = name;
+              only = first_only v.name w (names vars) (not_true (list_any (bytes_eq v.name) (names vars)) two.0) name;
+            },
+          )
       | inr f ↦
           let e : place_from w (k + 1) vars ≡ Some p = rw f at h in
-          let r = found_only w (k + 1) vars p e two.1 in
-          (suc r.0, (omega (arith, r.1)), record {
-            within = omega (arith, r.2.within);
-            here = r.2.here;
-            only = later_only v.name w (names vars) r.0 f r.2.only;
-          })
+          let r = found_only w (k + 1) vars p e two.1 in (
+            suc r.0,
+            (omega (arith, r.1)),
+            record {
+              within = omega (arith, r.2.within);
+              here = r.2.here;
+              only = later_only v.name w (names vars) r.0 f r.2.only;
+            },
+          )
     ]
 
 one_place : (w : Word) (vars : List Var) (p : ℕ) → place_of w vars ≡ Some p → all_distinct (names vars) ≡ true → OnlyAt (names vars) w p

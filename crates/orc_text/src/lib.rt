@@ -6,12 +6,14 @@ mod directive;
 mod directive_line;
 mod fault;
 mod instruction;
+mod laws;
 mod line;
 mod reading;
 mod showing;
 mod state;
 
 pub use directive::Directive;
+pub use laws::reads_are_segments;
 pub use reading::{TextError, read};
 pub use showing::show;
 
