@@ -26,3 +26,4 @@ pub mod OneName
 pub mod MoreLines
 pub mod LineSteps
 pub mod Segmented
+pub mod OneProgram

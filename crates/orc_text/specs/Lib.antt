@@ -8,3 +8,4 @@ pub mod Shown
 pub mod Again
 pub mod Each
 pub mod Segments
+pub mod FirstFault

@@ -177,3 +177,7 @@ pub record SaysProgram (all : List TextLine) (p : ProgramValue) : Type 0 where
 -- A text without a fault reads as what its segments say.
 abbrev pub ReadsAreSegments : Type 0
 ReadsAreSegments = (text : List ℕ) → text_fault text ≡ None → SaysProgram (text_lines text) (text_program text)
+
+-- Lines say at most one program.
+abbrev pub SaysOne : Type 0
+SaysOne = (all : List TextLine) (p q : ProgramValue) → SaysProgram all p → SaysProgram all q → p ≡ q
