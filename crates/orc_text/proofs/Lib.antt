@@ -27,3 +27,4 @@ pub mod MoreLines
 pub mod LineSteps
 pub mod Segmented
 pub mod OneProgram
+pub mod LeastLine

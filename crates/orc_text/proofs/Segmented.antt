@@ -11,7 +11,7 @@ use Rattle.orc_text.specs.declared.directive.Directive.TheVariants as directive
 use Rattle.orc_text.specs.Each.{OneForEach}
 use Rattle.orc_text.specs.Faults.{words_fault, line_fault}
 use Rattle.orc_text.specs.Reads.{found_or, first_fault, text_fault, text_program}
-use Rattle.orc_text.specs.Said.{Said, functions_of, nothing_said, new_function, directive_of, say, say_words, counted, program_of}
+use Rattle.orc_text.specs.Said.{Said, functions_of, nothing_said, new_function, directive_of, say, say_words, said_by, counted, program_of}
 use Rattle.orc_text.specs.Segments.{TextLine, numbered, text_lines, directive_in, are_insn, is_function, is_start, after_init, segments, declares, SaysFunction, SaysProgram, ReadsAreSegments}
 use Rattle.orc_text.proofs.Directives.{within}
 use Rattle.orc_text.proofs.LineSteps.{words_step, outside, words_outside}
@@ -226,11 +226,15 @@ run_outside (bytes ∷ all) n init over h =
 
 -- ---- texts
 
-pub reads_are_segments : ReadsAreSegments
-unfolding text_fault text_program
-reads_are_segments text h =
-    let run = run_outside (lines text) 0 None [] h in
+-- lines without a fault say the program of their segments
+pub lines_said : (all : List (List ℕ)) → first_fault nothing_said all ≡ None → SaysProgram (numbered 1 all) (program_of (said_by all))
+lines_said all h =
+    let run = run_outside all 0 None [] h in
     record {
-      functions = subst (λ (fs : List FunctionValue). OneForEach SaysFunction (segments (text_lines text)) fs) (sym run.functions.1) run.functions.2;
+      functions = subst (λ (fs : List FunctionValue). OneForEach SaysFunction (segments (numbered 1 all)) fs) (sym run.functions.1) run.functions.2;
       init = run.noted;
     }
+
+pub reads_are_segments : ReadsAreSegments
+unfolding text_fault text_program
+reads_are_segments text h = lines_said (lines text) h
