@@ -12,10 +12,10 @@ use Rattle.orc_words.specs.Text.{lines, content, words, word, starts_with_dot}
 use Rattle.orc_text.specs.declared.directive.Directive.{Directive}
 use Rattle.orc_text.specs.declared.directive.Directive.TheVariants as directive
 use Rattle.orc_text.specs.Faults.{line_fault}
-use Rattle.orc_text.specs.FirstFault.{IsBefore, FaultAt, IsLeast, IsFirstFault, LeastLineFaults, OneFault}
+use Rattle.orc_text.specs.FirstFault.{IsBefore, FaultAt, IsFirstFault, LeastLineFaults, OneFault}
 use Rattle.orc_text.specs.Reads.{found_or, first_fault, text_fault}
 use Rattle.orc_text.specs.Said.{Said, nothing_said, directive_of, split_prefix, program_of, say, said_by, say_words, say_if, say_directive, say_found, say_insn}
-use Rattle.orc_text.specs.Segments.{TextLine, numbered, directive_in, is_function, is_start, SaysProgram}
+use Rattle.orc_text.specs.Segments.{TextLine, numbered, directive_in, starts_function, is_start}
 use Rattle.orc_text.proofs.Lines.{said_more, said_counts, fault_there}
 use Rattle.orc_text.proofs.OneProgram.{says_one}
 use Rattle.orc_text.proofs.Segmented.{lines_said}
@@ -26,7 +26,7 @@ kept : {A : Type 0} (change : A → A) (c : Option A) → is_some (option_map ch
 kept change None = refl
 kept change (Some a) = refl
 
-directive_kept : (s : Said) (ws : List Word) (d : Directive) → is_some (say_directive s ws d).current ≡ is_function (Some d) || is_some s.current
+directive_kept : (s : Said) (ws : List Word) (d : Directive) → is_some (say_directive s ws d).current ≡ starts_function (Some d) || is_some s.current
 directive_kept s ws directive.Function = refl
 directive_kept s ws directive.Init = refl
 directive_kept s ws directive.Flags = kept _ s.current
@@ -36,7 +36,7 @@ directive_kept s ws directive.Backup = kept _ s.current
 directive_kept s ws (directive.Variable k) = kept _ s.current
 directive_kept s ws directive.Float = refl
 
-if_kept : (s : Said) (ws : List Word) (x : Option Directive) → is_some (say_if s ws x).current ≡ is_function x || is_some s.current
+if_kept : (s : Said) (ws : List Word) (x : Option Directive) → is_some (say_if s ws x).current ≡ starts_function x || is_some s.current
 if_kept s ws None = refl
 if_kept s ws (Some d) = directive_kept s ws d
 
@@ -45,15 +45,15 @@ found_kept s prefix ws (found.Yes op) = kept _ s.current
 found_kept s prefix ws found.Unsupported = refl
 found_kept s prefix ws found.Unknown = refl
 
-words_kept : (s : Said) (ws : List Word) → is_some (say_words s ws).current ≡ is_function (directive_in ws) || is_some s.current
+words_kept : (s : Said) (ws : List Word) → is_some (say_words s ws).current ≡ starts_function (directive_in ws) || is_some s.current
 words_kept s [] = refl
 words_kept s (w ∷ ws) = go (starts_with_dot w)
   where
-    go : (dot : Bool) → is_some (if dot then say_if s (w ∷ ws) (directive_of w) else say_insn s (split_prefix (w ∷ ws))).current ≡ is_function (if dot then directive_of w else None) || is_some s.current
+    go : (dot : Bool) → is_some (if dot then say_if s (w ∷ ws) (directive_of w) else say_insn s (split_prefix (w ∷ ws))).current ≡ starts_function (if dot then directive_of w else None) || is_some s.current
     go true = if_kept s (w ∷ ws) (directive_of w)
     go false = found_kept s (split_prefix (w ∷ ws)).0 (drop 1 (split_prefix (w ∷ ws)).1) (find_op (word (split_prefix (w ∷ ws)).1 0))
 
-say_kept : (s : Said) (bytes : List ℕ) → is_some (say s bytes).current ≡ is_function (directive_in (words (content bytes))) || is_some s.current
+say_kept : (s : Said) (bytes : List ℕ) → is_some (say s bytes).current ≡ starts_function (directive_in (words (content bytes))) || is_some s.current
 unfolding say
 say_kept s bytes = words_kept s (words (content bytes))
 
@@ -71,7 +71,7 @@ lines_kept n s [] = none_or (is_some s.current)
 lines_kept n s (bytes ∷ all) =
     lines_kept (n + 1) (say s bytes) all
     ∙ ap (λ b. b || list_any is_start (numbered (n + 1) all)) (say_kept s bytes)
-    ∙ any_order (is_function (directive_in (words (content bytes)))) (is_some s.current) (list_any is_start (numbered (n + 1) all))
+    ∙ any_order (starts_function (directive_in (words (content bytes)))) (is_some s.current) (list_any is_start (numbered (n + 1) all))
 
 numbered_length : (n : ℕ) (all : List (List ℕ)) → length (numbered n all) ≡ length all
 numbered_length n [] = refl
@@ -114,11 +114,15 @@ module _ (done : List (List ℕ)) (bytes : List ℕ) (all : List (List ℕ)) (h 
             | inl a ↦ before j a
             | inr same ↦ subst (λ (i : ℕ). FaultAt (done ++ bytes ∷ all) i None) (sym same) here
           ]
-  least_next later (Some f) e = (length done, ap (λ (m : ℕ). m + 1) (said_counts done), record {
-    there = omega (arith, length-append done (bytes ∷ all));
-    fault = fault_next done bytes all (Some f) h e;
-    before = before;
-  })
+  least_next later (Some f) e = (
+    length done,
+    ap (λ (m : ℕ). m + 1) (said_counts done),
+    record {
+      there = omega (arith, length-append done (bytes ∷ all));
+      fault = fault_next done bytes all (Some f) h e;
+      before = before;
+    },
+  )
 
 least_from : (done all : List (List ℕ)) → first_fault nothing_said done ≡ None → ((j : ℕ) → j < length done → FaultAt (done ++ all) j None) → IsFirstFault (done ++ all) (first_fault (said_by done) all)
 least_from done [] h before = λ k l. before k (omega (arith, l, ap length (append-nil done)))

@@ -28,3 +28,4 @@ pub mod LineSteps
 pub mod Segmented
 pub mod OneProgram
 pub mod LeastLine
+pub mod Looking

@@ -1,12 +1,11 @@
 -- What is said with one line without a fault, by the directive that it begins with.
-use Rattle.std.proofs.Common.{◌≡◌, ℕ, ◌+◌, ◌||◌, ◌==◌, Bool, true, false, not, List, [], ◌∷◌, ◌++◌, Option, Some, None, is_some, unwrap_or, option_to_list, if◌then◌else◌, drop, length, refl, sym, ap, ◌∙◌, subst, append-nil, true≢false}
-use Rattle.std.specs.List.{list_any, list_all, cons_option}
+use Rattle.std.proofs.Common.{◌≡◌, ℕ, ◌+◌, ◌||◌, Bool, true, false, not, List, [], ◌∷◌, ◌++◌, Option, Some, None, is_some, unwrap_or, option_to_list, if◌then◌else◌, drop, length, refl, sym, ap, ◌∙◌, subst, append-nil, true≢false}
+use Rattle.std.specs.List.{list_any, cons_option}
 use Rattle.std.specs.Str.{bytes_eq}
 use Rattle.orc_ops.specs.declared.opcode.Op.{Op}
 use Rattle.orc_ops.specs.declared.lookup.Found.{Found}
 use Rattle.orc_ops.specs.declared.lookup.Found.TheVariants as found
 use Rattle.orc_ops.specs.Names.{find_op}
-use Rattle.orc_program.specs.declared.fault.Fault.{Fault}
 use Rattle.orc_program.specs.declared.fault.Fault.TheVariants as fault
 use Rattle.orc_program.specs.declared.program.Insn.{Insn}
 use Rattle.orc_program.specs.declared.program.Var.{Var}
@@ -14,7 +13,7 @@ use Rattle.orc_program.specs.declared.program.VarKind.{VarKind}
 use Rattle.orc_program.specs.declared.program.VarKind.TheVariants as kind
 use Rattle.orc_program.specs.Words.{Word, number_of, size_of}
 use Rattle.orc_program.specs.Program.{FunctionValue}
-use Rattle.orc_program.specs.Checks.{check, or_else}
+use Rattle.orc_program.specs.Checks.{check}
 use Rattle.orc_program.specs.Kept.{all_distinct, result_count, source_count}
 use Rattle.orc_words.specs.Text.{is_bad_byte, word, starts_with_dot}
 use Rattle.orc_text.specs.declared.directive.Directive.{Directive}
@@ -22,10 +21,10 @@ use Rattle.orc_text.specs.declared.directive.Directive.TheVariants as directive
 use Rattle.orc_text.specs.Each.{OneForEach}
 use Rattle.orc_text.specs.Faults.{is_number, is_size_word, has_bad_number, directive_fault, found_fault, insn_line_fault, words_fault}
 use Rattle.orc_text.specs.Said.{Said, directive_of, split_prefix, var_of, operands_of, result_words, source_words, insn_of, say_words, say_if, say_directive, say_found, say_insn}
-use Rattle.orc_text.specs.Segments.{TextLine, directive_in, are_insn, is_function, after_init, after_n, after_m, after_backup, is_flags, is_declaration, declared_names, Placed, HasRest, Declares, StandsFor, Instructs}
+use Rattle.orc_text.specs.Segments.{TextLine, directive_in, are_insn, starts_function, after_init, after_n, after_m, after_backup, is_flags, is_declaration, declared_names, HasRest, Declares, StandsFor, Instructs}
 use Rattle.orc_text.proofs.Directives.{within}
 use Rattle.orc_text.proofs.Distinct.{names}
-use Rattle.orc_text.proofs.Faultless.{or_none, check_none, not_false, not_some, passed, fine_variable, var_new}
+use Rattle.orc_text.proofs.Faultless.{or_none, not_false, passed, fine_variable, var_new}
 use Rattle.orc_text.proofs.Fitting.{fine_line, fine_opcode}
 use Rattle.orc_text.proofs.MoreLines.{Adds}
 use Rattle.orc_text.proofs.Named.{known_named}
@@ -121,7 +120,7 @@ module _ (n : ℕ) (init : Option Word) (over : List FunctionValue) (done : List
 
   -- by the directive
 
-  directive_step : (ws : List Word) (d : Directive) → directive_in ws ≡ Some d → is_function (Some d) ≡ false → directive_fault (within n init over f) ws (Some d) ≡ None
+  directive_step : (ws : List Word) (d : Directive) → directive_in ws ≡ Some d → starts_function (Some d) ≡ false → directive_fault (within n init over f) ws (Some d) ≡ None
       → Stepped (Some d) false n init over ws done f (say_directive (within n init over f) ws d)
   directive_step ws directive.Function e other h = absurd (true≢false other)
   directive_step ws directive.Init e other h = record {
@@ -213,7 +212,7 @@ module _ (n : ℕ) (init : Option Word) (over : List FunctionValue) (done : List
   }
   directive_step ws directive.Float e other h = record { to = init; function = f; is = refl; adds = nothing (Some directive.Float) ws refl refl refl refl refl; noted = same init }
 
-  if_step : (ws : List Word) (x : Option Directive) → directive_in ws ≡ x → is_function x ≡ false → directive_fault (within n init over f) ws x ≡ None → Stepped x false n init over ws done f (say_if (within n init over f) ws x)
+  if_step : (ws : List Word) (x : Option Directive) → directive_in ws ≡ x → starts_function x ≡ false → directive_fault (within n init over f) ws x ≡ None → Stepped x false n init over ws done f (say_if (within n init over f) ws x)
   if_step ws None e other h = record { to = init; function = f; is = refl; adds = nothing None ws refl refl refl refl refl; noted = same init }
   if_step ws (Some d) e other h = directive_step ws d e other h
 
@@ -259,7 +258,7 @@ module _ (n : ℕ) (init : Option Word) (over : List FunctionValue) (done : List
 
   -- a line
 
-  dotted_step : (w : Word) (ws : List Word) (dot : Bool) → starts_with_dot w ≡ dot → is_function (if dot then directive_of w else None) ≡ false
+  dotted_step : (w : Word) (ws : List Word) (dot : Bool) → starts_with_dot w ≡ dot → starts_function (if dot then directive_of w else None) ≡ false
       → (if dot then directive_fault (within n init over f) (w ∷ ws) (directive_of w) else insn_line_fault (within n init over f) (split_prefix (w ∷ ws))) ≡ None
       → Stepped (if dot then directive_of w else None) (not dot) n init over (w ∷ ws) done f
       (if dot then say_if (within n init over f) (w ∷ ws) (directive_of w) else say_insn (within n init over f) (split_prefix (w ∷ ws)))
@@ -268,7 +267,7 @@ module _ (n : ℕ) (init : Option Word) (over : List FunctionValue) (done : List
       let x = split_prefix (w ∷ ws) in
       found_step (w ∷ ws) (find_op (word x.1 0)) refl (fine_line (within n init over f) x h).found
 
-  pub words_step : (bytes : List ℕ) (ws : List Word) → is_function (directive_in ws) ≡ false → words_fault (within n init over f) bytes ws ≡ None
+  pub words_step : (bytes : List ℕ) (ws : List Word) → starts_function (directive_in ws) ≡ false → words_fault (within n init over f) bytes ws ≡ None
       → Stepped (directive_in ws) (are_insn ws) n init over ws done f (say_words (within n init over f) ws)
   words_step bytes [] other h = record { to = init; function = f; is = refl; adds = nothing None [] refl refl refl refl refl; noted = same init }
   words_step bytes (w ∷ ws) other h =
@@ -287,7 +286,7 @@ pub record SteppedOutside (d : Option Directive) (n : ℕ) (init : Option Word) 
   pub noted : option_to_list to ≡ option_to_list init ++ cons_option (after_init d ws) []
 
 module _ (n : ℕ) (init : Option Word) (over : List FunctionValue) where
-  directive_outside : (ws : List Word) (d : Directive) → is_function (Some d) ≡ false → directive_fault (outside n init over) ws (Some d) ≡ None → SteppedOutside (Some d) n init over ws (say_directive (outside n init over) ws d)
+  directive_outside : (ws : List Word) (d : Directive) → starts_function (Some d) ≡ false → directive_fault (outside n init over) ws (Some d) ≡ None → SteppedOutside (Some d) n init over ws (say_directive (outside n init over) ws d)
   directive_outside ws directive.Function other h = absurd (true≢false other)
   directive_outside ws directive.Init other h = record { to = Some (word ws 1); is = refl; noted = only_one init (word ws 1) (passed (outside n init over) directive.Init ws h).new }
   directive_outside ws directive.Flags other h = record { to = init; is = refl; noted = same init }
@@ -297,17 +296,17 @@ module _ (n : ℕ) (init : Option Word) (over : List FunctionValue) where
   directive_outside ws (directive.Variable k) other h = record { to = init; is = refl; noted = same init }
   directive_outside ws directive.Float other h = record { to = init; is = refl; noted = same init }
 
-  if_outside : (ws : List Word) (x : Option Directive) → is_function x ≡ false → directive_fault (outside n init over) ws x ≡ None → SteppedOutside x n init over ws (say_if (outside n init over) ws x)
+  if_outside : (ws : List Word) (x : Option Directive) → starts_function x ≡ false → directive_fault (outside n init over) ws x ≡ None → SteppedOutside x n init over ws (say_if (outside n init over) ws x)
   if_outside ws None other h = record { to = init; is = refl; noted = same init }
   if_outside ws (Some d) other h = directive_outside ws d other h
 
-  dotted_outside : (w : Word) (ws : List Word) (dot : Bool) → is_function (if dot then directive_of w else None) ≡ false
+  dotted_outside : (w : Word) (ws : List Word) (dot : Bool) → starts_function (if dot then directive_of w else None) ≡ false
       → (if dot then directive_fault (outside n init over) (w ∷ ws) (directive_of w) else insn_line_fault (outside n init over) (split_prefix (w ∷ ws))) ≡ None
       → SteppedOutside (if dot then directive_of w else None) n init over (w ∷ ws) (if dot then say_if (outside n init over) (w ∷ ws) (directive_of w) else say_insn (outside n init over) (split_prefix (w ∷ ws)))
   dotted_outside w ws true other h = if_outside (w ∷ ws) (directive_of w) other h
   dotted_outside w ws false other h = absurd (true≢false (sym (fine_line (outside n init over) (split_prefix (w ∷ ws)) h).there))
 
-  pub words_outside : (bytes : List ℕ) (ws : List Word) → is_function (directive_in ws) ≡ false → words_fault (outside n init over) bytes ws ≡ None → SteppedOutside (directive_in ws) n init over ws (say_words (outside n init over) ws)
+  pub words_outside : (bytes : List ℕ) (ws : List Word) → starts_function (directive_in ws) ≡ false → words_fault (outside n init over) bytes ws ≡ None → SteppedOutside (directive_in ws) n init over ws (say_words (outside n init over) ws)
   words_outside bytes [] other h = record { to = init; is = refl; noted = same init }
   words_outside bytes (w ∷ ws) other h =
       let s = outside n init over in

@@ -1,5 +1,5 @@
 -- A name has one place among distinct names; what operand words without a fault stand for.
-use Rattle.std.proofs.Common.{◌≡◌, ℕ, zero, suc, ◌+◌, ◌<◌, ◌≤◌, Bool, true, false, not, List, [], ◌∷◌, ◌++◌, Option, Some, None, is_some, unwrap_or, if◌then◌else◌, length, get_or, refl, sym, ap, ◌∙◌, subst, inl, inr, arith, true≢false}
+use Rattle.std.proofs.Common.{◌≡◌, ℕ, zero, suc, ◌+◌, ◌<◌, Bool, true, false, not, List, [], ◌∷◌, Option, Some, None, is_some, unwrap_or, if◌then◌else◌, length, get_or, refl, sym, ap, ◌∙◌, subst, inl, inr, arith, true≢false}
 use Rattle.std.specs.List.{list_any}
 use Rattle.std.specs.Str.{bytes_eq}
 use Rattle.std.proofs.lemmas.Bool.{cases_Bool}
@@ -18,7 +18,7 @@ use Rattle.orc_text.specs.Each.{OneForEach}
 use Rattle.orc_text.specs.Faults.{is_number, operand_word_fault}
 use Rattle.orc_text.specs.Said.{operand_of, operands_of, var_operand}
 use Rattle.orc_text.specs.Segments.{OnlyAt, StandsFor}
-use Rattle.orc_text.proofs.Distinct.{not_true, same_bytes, names}
+use Rattle.orc_text.proofs.Distinct.{not_true, names}
 use Rattle.orc_text.proofs.Faultless.{check_none, or_none, not_false}
 use Rattle.orc_text.proofs.Typed.{AreFine}
 

@@ -1,8 +1,7 @@
 -- Lines say at most one program.
-use Rattle.std.proofs.Common.{◌≡◌, ℕ, ◌+◌, Bool, true, false, List, [], ◌∷◌, ◌++◌, Option, Some, None, option_to_list, refl, sym, ap, ◌∙◌, subst, true≢false}
+use Rattle.std.proofs.Common.{◌≡◌, ℕ, Bool, List, [], ◌∷◌, Option, Some, None, option_to_list, refl, sym, ap, ◌∙◌, subst, true≢false}
 use Rattle.orc_ops.specs.declared.opcode.Op.{Op}
 use Rattle.orc_ops.specs.declared.lookup.Found.TheVariants as found
-use Rattle.orc_ops.specs.Names.{find_op}
 use Rattle.orc_program.specs.declared.program.Insn.{Insn}
 use Rattle.orc_program.specs.declared.program.Operand.{Operand}
 use Rattle.orc_program.specs.declared.program.Operand.TheVariants as operand
@@ -10,13 +9,11 @@ use Rattle.orc_program.specs.declared.program.Var.{Var}
 use Rattle.orc_program.specs.declared.program.VarKind.{VarKind}
 use Rattle.orc_program.specs.declared.program.VarKind.TheVariants as kind
 use Rattle.orc_program.specs.Program.{FunctionValue, ProgramValue}
-use Rattle.orc_program.specs.Words.{Word, number_of, size_of}
-use Rattle.orc_text.specs.declared.directive.Directive.{Directive}
+use Rattle.orc_program.specs.Words.{Word}
 use Rattle.orc_text.specs.declared.directive.Directive.TheVariants as directive
 use Rattle.orc_text.specs.Each.{OneForEach}
-use Rattle.orc_text.specs.Said.{result_words, source_words, split_prefix}
-use Rattle.orc_words.specs.Text.{word}
-use Rattle.orc_text.specs.Segments.{TextLine, HasRest, Declares, StandsFor, Placed, operand_words, declared_names, Instructs, SaysFunction, SaysProgram, SaysOne}
+use Rattle.orc_text.specs.Said.{result_words, source_words}
+use Rattle.orc_text.specs.Segments.{TextLine, HasRest, Declares, StandsFor, Placed, operand_words, declared_names, Instructs, SaysFunction, SaysOne}
 
 -- one for each, where each has one
 each_one : {A B : Type 0} (R : A → B → Type 0) → ((a : A) (b c : B) → R a b → R a c → b ≡ c) → (xs : List A) (ys zs : List B) → OneForEach R xs ys → OneForEach R xs zs → ys ≡ zs

@@ -1,5 +1,5 @@
 -- A text without a fault reads as what its segments say.
-use Rattle.std.proofs.Common.{◌≡◌, ℕ, suc, ◌+◌, ◌||◌, Bool, true, false, not, List, [], ◌∷◌, ◌++◌, Option, Some, None, option_to_list, if◌then◌else◌, take, filter, filter_map, fold, refl, sym, ap, ◌∙◌, subst, append-nil, append_assoc, arith, true≢false, inl, inr}
+use Rattle.std.proofs.Common.{◌≡◌, ℕ, suc, ◌+◌, Bool, true, false, not, List, [], ◌∷◌, ◌++◌, Option, Some, None, option_to_list, if◌then◌else◌, filter, filter_map, fold, refl, sym, ap, ◌∙◌, subst, append-nil, append_assoc, arith, true≢false, inl, inr}
 use Rattle.std.specs.List.{cons_option, before_first, prefix_len}
 use Rattle.std.proofs.lemmas.Bool.{cases_Bool}
 use Rattle.orc_program.specs.declared.fault.Fault.{Fault}
@@ -12,7 +12,7 @@ use Rattle.orc_text.specs.Each.{OneForEach}
 use Rattle.orc_text.specs.Faults.{words_fault, line_fault}
 use Rattle.orc_text.specs.Reads.{found_or, first_fault, text_fault, text_program}
 use Rattle.orc_text.specs.Said.{Said, functions_of, nothing_said, new_function, directive_of, say, say_words, said_by, counted, program_of}
-use Rattle.orc_text.specs.Segments.{TextLine, numbered, text_lines, directive_in, are_insn, is_function, is_start, after_init, segments, declares, SaysFunction, SaysProgram, ReadsAreSegments}
+use Rattle.orc_text.specs.Segments.{TextLine, numbered, directive_in, are_insn, starts_function, is_start, after_init, segments, declares, SaysFunction, SaysProgram, ReadsAreSegments}
 use Rattle.orc_text.proofs.Directives.{within}
 use Rattle.orc_text.proofs.LineSteps.{words_step, outside, words_outside}
 use Rattle.orc_text.proofs.MoreLines.{grown, names_declared}
@@ -38,7 +38,7 @@ none_both n (Some f) later h = absurd (let e : ⊥ = cc in e)
 
 -- ---- a `.function` line
 
-function_there : (d : Option Directive) → is_function d ≡ true → d ≡ Some directive.Function
+function_there : (d : Option Directive) → starts_function d ≡ true → d ≡ Some directive.Function
 function_there None h = absurd (true≢false (sym h))
 function_there (Some directive.Function) h = refl
 function_there (Some directive.Init) h = absurd (true≢false (sym h))

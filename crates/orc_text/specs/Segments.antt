@@ -1,5 +1,5 @@
 -- The program of a text, by lists of lines: its segments, and in each segment its declaration lines, its instruction lines and the lines of its notes. It is said of texts without a fault.
-use Rattle.std.specs.Prelude.{◌≡◌, ℕ, ◌+◌, ◌<◌, Bool, true, false, not, List, [], ◌∷◌, ◌++◌, Option, Some, None, if◌then◌else◌, is_some, drop, filter, filter_map, length, map, option_to_list, slice_index_or}
+use Rattle.std.specs.Prelude.{◌≡◌, ℕ, ◌+◌, ◌<◌, Bool, true, false, not, List, [], ◌∷◌, ◌++◌, Option, Some, None, if◌then◌else◌, drop, filter, filter_map, length, map, option_to_list, slice_index_or}
 use Rattle.std.specs.List.{list_any, before_first}
 use Rattle.orc_ops.specs.declared.lookup.Found.TheVariants as found
 use Rattle.orc_ops.specs.Names.{find_op}
@@ -48,13 +48,13 @@ are_insn (w ∷ ws) = not (starts_with_dot w)
 abbrev pub is_insn_line : TextLine → Bool
 is_insn_line line = are_insn line.words
 
-abbrev pub is_function : Option Directive → Bool
-is_function (Some directive.Function) = true
-is_function d = false
+abbrev pub starts_function : Option Directive → Bool
+starts_function (Some directive.Function) = true
+starts_function d = false
 
 -- a `.function` line
 abbrev pub is_start : TextLine → Bool
-is_start line = is_function (directive_in line.words)
+is_start line = starts_function (directive_in line.words)
 
 -- what a line says after `.init`, `.n`, `.m` and `.backup`; nothing where it is another line
 abbrev pub after_init : Option Directive → List Word → Option Word

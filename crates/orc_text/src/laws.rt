@@ -1,7 +1,7 @@
 //! Laws of texts, each the contract of a function that does nothing.
 
 ghost use Rattle.orc_text.specs.Segments.{ReadsAreSegments, SaysOne};
-ghost use Rattle.orc_text.specs.FirstFault.{LeastLineFaults, OneFault};
+ghost use Rattle.orc_text.specs.FirstFault.{ChecksLook, LeastLineFaults, OneFault};
 
 /// The program of a text without a fault is what the text's segments say.
 pub fn reads_are_segments()
@@ -21,4 +21,9 @@ pub fn least_line_faults()
 /// A line has one fault or none, after the lines before it.
 pub fn one_fault()
     ensures { OneFault }
+{}
+
+/// What the checks of a line look at is what the lines before it say.
+pub fn checks_look()
+    ensures { ChecksLook }
 {}

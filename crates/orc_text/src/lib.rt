@@ -13,7 +13,7 @@ mod showing;
 mod state;
 
 pub use directive::Directive;
-pub use laws::{least_line_faults, one_fault, reads_are_segments, says_one};
+pub use laws::{checks_look, least_line_faults, one_fault, reads_are_segments, says_one};
 pub use reading::{TextError, read};
 pub use showing::show;
 
