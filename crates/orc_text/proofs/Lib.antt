@@ -28,4 +28,5 @@ pub mod LineSteps
 pub mod Segmented
 pub mod OneProgram
 pub mod LeastLine
+pub mod Setting
 pub mod Looking

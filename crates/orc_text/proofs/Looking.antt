@@ -1,10 +1,11 @@
 -- The checks look at the lines before alone.
-use Rattle.std.proofs.Common.{◌≡◌, ℕ, suc, ◌+◌, ◌||◌, Bool, true, false, nat_le, List, [], ◌∷◌, ◌++◌, Option, Some, None, is_some, option_to_list, if◌then◌else◌, map, length, filter, filter_map, refl, sym, ap, ◌∙◌, subst}
+use Rattle.std.proofs.Common.{◌≡◌, ℕ, suc, ◌+◌, ◌||◌, Bool, true, false, nat_le, List, [], ◌∷◌, ◌++◌, Option, Some, None, is_some, option_to_list, if◌then◌else◌, map, length, filter, filter_map, refl, sym, ap, ◌∙◌, subst, ◌<◌, get_or, arith}
 use Rattle.std.specs.List.{list_any, count_by, cons_option}
 use Rattle.std.specs.Str.{bytes_eq}
 use Rattle.std.proofs.lemmas.List.Sums.{sum_by-cons}
 use Rattle.orc_program.specs.declared.program.Var.{Var}
 use Rattle.orc_program.specs.declared.program.VarKind.{VarKind}
+use Rattle.orc_program.specs.Checks.{is_set}
 use Rattle.orc_program.specs.Kept.{most_of, most_functions}
 use Rattle.orc_program.specs.Program.{FunctionValue, is_of, count_of, place_of}
 use Rattle.orc_program.specs.Words.{Word}
@@ -14,11 +15,12 @@ use Rattle.orc_text.specs.declared.directive.Directive.{Directive}
 use Rattle.orc_text.specs.declared.directive.Directive.TheVariants as directive
 use Rattle.orc_text.specs.Each.{OneForEach}
 use Rattle.orc_text.specs.Faults.{has_n, has_m, has_backup, is_duplicate, is_full}
-use Rattle.orc_text.specs.FirstFault.{IsBefore, last_segment, is_said_before, is_of_kind, are_many_before, ChecksLook}
+use Rattle.orc_text.specs.FirstFault.{IsBefore, last_segment, is_said_before, is_result_of, is_of_kind, are_many_before, ChecksLook}
 use Rattle.orc_text.specs.Said.{Said, functions_of, vars_in, insns_in}
 use Rattle.orc_text.specs.Segments.{TextLine, directive_in, after_init, after_n, after_m, after_backup, is_start, declares, segments, name_in, declared_names, insn_lines, Declares, Instructs, SaysFunction}
 use Rattle.orc_text.proofs.MoreLines.{names_declared}
 use Rattle.orc_text.proofs.Named.{known_named}
+use Rattle.orc_text.proofs.Setting.{set_same}
 
 -- ---- one for each
 
@@ -87,9 +89,10 @@ record CurrentLooks (segment : List TextLine) (c : Option FunctionValue) : Type 
   named : (w : Word) → is_some (place_of w (vars_in c)) ≡ list_any (bytes_eq w) (declared_names segment)
   vars : OneForEach Declares (filter declares segment) (vars_in c)
   insns : OneForEach Instructs (insn_lines segment) (insns_in c)
+  set : (p : ℕ) → p < length (declared_names segment) → is_set (insns_in c) p ≡ list_any (λ x. is_result_of (get_or (declared_names segment) p []) x.line.words) (insn_lines segment)
 
 none_looks : CurrentLooks [] None
-none_looks = record { n = refl; m = refl; backup = refl; named = λ w. refl; vars = tt; insns = tt }
+none_looks = record { n = refl; m = refl; backup = refl; named = λ w. refl; vars = tt; insns = tt; set = λ p l. absurd (omega (arith, l)) }
 
 some_looks : (segment : List TextLine) (f : FunctionValue) → SaysFunction segment f → CurrentLooks segment (Some f)
 some_looks segment f s = record {
@@ -99,6 +102,7 @@ some_looks segment f s = record {
   named = λ w. sym (known_named w f.vars (declared_names segment) (names_declared (filter declares segment) f.vars s.vars));
   vars = s.vars;
   insns = s.insns;
+  set = λ p l. set_same segment s.distinct p l f.insns s.insns;
 }
 
 no_segments : (ls : List TextLine) → list_any is_start ls ≡ false → segments ls ≡ []
@@ -140,6 +144,8 @@ checks_look earlier said b = record {
   current = b.current;
   duplicate = duplicate_looks earlier said b;
   many = many_look earlier said b;
+  known = (looks earlier said b).named;
   vars = (looks earlier said b).vars;
   insns = (looks earlier said b).insns;
+  set = (looks earlier said b).set;
 }

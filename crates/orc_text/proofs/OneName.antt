@@ -24,14 +24,14 @@ use Rattle.orc_text.proofs.Typed.{AreFine}
 
 -- ---- places
 
-equal_bytes : (x w : Word) → bytes_eq x w ≡ true → x ≡ w
+pub equal_bytes : (x w : Word) → bytes_eq x w ≡ true → x ≡ w
 equal_bytes x w h = (bytes_eq-Decides x w).0 h
 
-equal_tests : (x w : Word) → x ≡ w → bytes_eq x w ≡ true
+pub equal_tests : (x w : Word) → x ≡ w → bytes_eq x w ≡ true
 equal_tests x w h = (bytes_eq-Decides x w).1 h
 
 -- no later word is the same
-no_later : (x : Word) (ws : List Word) (q : ℕ) → list_any (bytes_eq x) ws ≡ false → q < length ws → get_or ws q [] ≡ x → ⊥
+pub no_later : (x : Word) (ws : List Word) (q : ℕ) → list_any (bytes_eq x) ws ≡ false → q < length ws → get_or ws q [] ≡ x → ⊥
 no_later x [] q h l e = absurd (omega (arith, l))
 no_later x (w ∷ ws) zero h l e = true≢false (sym (equal_tests x w (sym e)) ∙ (neither (bytes_eq x w) (list_any (bytes_eq x) ws) h).0)
 no_later x (w ∷ ws) (suc q) h l e = no_later x ws q (neither (bytes_eq x w) (list_any (bytes_eq x) ws) h).1 (omega (arith, l)) e
