@@ -8,7 +8,7 @@ use Rattle.std.proofs.lemmas.Slice.Eq.{bytes_eq-Decides}
 use Rattle.std.proofs.Math.Seq.{drop-cons}
 use Rattle.orc_program.specs.Kept.{all_distinct}
 use Rattle.orc_image.specs.Spelling.{is_among}
-use Rattle.orcc_top.specs.Each.{OneForEach}
+use Rattle.orc_text.specs.Each.{OneForEach}
 
 -- ---- lists
 

@@ -9,7 +9,7 @@ use Rattle.orc_asm.specs.declared.refusal.AsmError.{AsmError}
 use Rattle.orc_asm.specs.declared.refusal.AsmError.TheVariants as asm
 use Rattle.orc_asm.specs.Function.{RunsAs, RunsFully, first_pressure}
 use Rattle.orc_image.specs.Spelling as spelling
-use Rattle.orcc_top.specs.Each.{OneForEach}
+use Rattle.orc_text.specs.Each.{OneForEach}
 use Rattle.orcc_top.specs.declared.refusal.Refusal.{Refusal}
 use Rattle.orcc_top.specs.declared.refusal.Refusal.TheVariants as refusal
 

@@ -9,7 +9,7 @@ use Rattle.orcc_top.specs.declared.assembly.Form.TheVariants.{Image, Object}
 use Rattle.orcc_top.specs.declared.command.Command.{Command}
 use Rattle.orcc_top.specs.declared.command.Command.TheVariants.{Asm, Obj}
 use Rattle.orcc_top.specs.Assembly.{EntriesOf}
-use Rattle.orcc_top.specs.Each.{OneForEach}
+use Rattle.orc_text.specs.Each.{OneForEach}
 use Rattle.orcc_top.specs.Objects.{CompiledOf}
 
 -- the command that writes it

@@ -2,7 +2,6 @@ pub mod Answer
 pub mod Assembly
 pub mod Code
 pub mod Commands
-pub mod Each
 pub mod Emulation
 pub mod Execution
 pub mod Figures

@@ -8,7 +8,7 @@ use Rattle.orc_elf.specs.Entries.{EntryValue}
 use Rattle.orc_elf.specs.Fields.{ElfGives}
 use Rattle.orc_image.specs.Spelling as spelling
 use Rattle.orc_image.specs.Listing.{IsListing}
-use Rattle.orcc_top.specs.Each.{OneForEach}
+use Rattle.orc_text.specs.Each.{OneForEach}
 
 -- an object's function with the name of a function of the text, and with code as in an image of that text
 pub record CompiledOf (f : FunctionValue) (entry : EntryValue) : Type 0 where

@@ -1,5 +1,5 @@
 use Rattle.std.proofs.Common.{◌≡◌, take}
-use Rattle.orcc_top.specs.Each.{OneForEach}
+use Rattle.orc_text.specs.Each.{OneForEach}
 use Rattle.orcc_top.specs.Objects.{uncounted}
 use Rattle.orcc_top.proofs.listing.image_of.Given as goal
 
