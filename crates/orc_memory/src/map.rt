@@ -84,19 +84,19 @@ fn spot_of(parts: &[Part], extents: &[Extent], at: u64, n: usize) -> Option<Spot
 }
 
 /// The n bytes from an address on, where they stand side by side in one part.
-fn run_of<'a>(parts: &'a [Part], extents: &[Extent], at: u64, n: usize) -> Option<&'a [u8]>
+fn slice_of<'a>(parts: &'a [Part], extents: &[Extent], at: u64, n: usize) -> Option<&'a [u8]>
     requires { IsIndex (layout parts.now) extents.now }
-    ensures count { IfSome result (λ run. length run.now ≡ n) }
-    ensures bytes { IfSome result (λ run. (j : ℕ) → j < n → memory_of parts.now ((at + j) % 2 ^ 64) ≡ Some (get_or run.now j 0)) }
+    ensures count { IfSome result (λ s. length s.now ≡ n) }
+    ensures bytes { IfSome result (λ s. (j : ℕ) → j < n → memory_of parts.now ((at + j) % 2 ^ 64) ≡ Some (get_or s.now j 0)) }
 {
     let spot = spot_of(parts, extents, at, n)?;
     let (_, rest) = parts[spot.part].bytes.as_slice().split_at(spot.first);
-    let (run, _) = rest.split_at(n);
-    Some(run)
+    let (slice, _) = rest.split_at(n);
+    Some(slice)
 }
 
 /// Changes the bytes from an address on, where they stand side by side in one part.
-fn change_run(parts: &mut [Part], extents: &[Extent], at: u64, from: &[u8]) -> bool
+fn change_slice(parts: &mut [Part], extents: &[Extent], at: u64, from: &[u8]) -> bool
     requires { IsIndex (layout parts.old) extents.now }
     ensures mapped { result ≡ true → all_mapped (length from.now) (memory_of parts.old) at ≡ true }
     ensures memory { memory_of parts.new ≡ (if result then fill (length from.now) (memory_of parts.old) at (λ j. get_or from.now j 0) else memory_of parts.old) }
@@ -179,21 +179,21 @@ impl PartMap {
     }
 
     /// The n bytes from an address on, where they stand side by side in one part; None where they don't.
-    pub fn run(&self, at: u64, n: usize) -> Option<&[u8]>
-        ensures count { IfSome result (λ run. length run.now ≡ n) }
-        ensures bytes { IfSome result (λ run. (j : ℕ) → j < n → memory_of self.now ((at + j) % 2 ^ 64) ≡ Some (get_or run.now j 0)) }
+    pub fn slice(&self, at: u64, n: usize) -> Option<&[u8]>
+        ensures count { IfSome result (λ s. length s.now ≡ n) }
+        ensures bytes { IfSome result (λ s. (j : ℕ) → j < n → memory_of self.now ((at + j) % 2 ^ 64) ≡ Some (get_or s.now j 0)) }
     {
-        run_of(&self.parts, &self.extents, at, n)
+        slice_of(&self.parts, &self.extents, at, n)
     }
 
     /// Changes the bytes from an address on, where they stand side by side in one part. False where they don't, and then
     /// nothing has changed.
-    pub fn set_run(&mut self, at: u64, from: &[u8]) -> bool
+    pub fn set_slice(&mut self, at: u64, from: &[u8]) -> bool
         ensures mapped { result ≡ true → all_mapped (length from.now) (memory_of self.old) at ≡ true }
         ensures memory { memory_of self.new ≡ (if result then fill (length from.now) (memory_of self.old) at (λ j. get_or from.now j 0) else memory_of self.old) }
         ensures layout { layout self.new ≡ layout self.old }
         ensures unchanged { result ≡ false → self.new ≡ self.old }
     {
-        change_run(&mut self.parts, &self.extents, at, from)
+        change_slice(&mut self.parts, &self.extents, at, from)
     }
 }

@@ -1,6 +1,6 @@
 use Rattle.std.proofs.Common.{arith, refl}
 use Rattle.orc_bits.proofs.PartLaws.{found}
-use Rattle.orc_memory.proofs.Runs.{is_spot}
+use Rattle.orc_memory.proofs.Slices.{is_spot}
 use Rattle.orc_memory.proofs.map.spot_of.Goals as goal
 
 pub overflow_sub-first : goal.overflow_sub-first

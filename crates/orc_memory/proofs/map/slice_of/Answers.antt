@@ -1,7 +1,7 @@
 use Rattle.std.proofs.Common.{ap, ◌∙◌, take, drop, get_or}
 use Rattle.orc_bits.specs.declared.parts.Part.{Part}
-use Rattle.orc_memory.proofs.Runs.{cut_there}
-use Rattle.orc_memory.proofs.map.run_of.Goals as goal
+use Rattle.orc_memory.proofs.Slices.{cut_there}
+use Rattle.orc_memory.proofs.map.slice_of.Goals as goal
 
 pub returns-clause-bytes : goal.returns-clause-bytes
 returns-clause-bytes c =

@@ -50,9 +50,9 @@ all_there ps es a n k first x h =
     all_mapped_there n (memory_of ps) a (λ j l. ap (λ b. is_some (memory_of ps b)) (straight h j l) ∙ ap is_some (byte_there ps es a n k first p x h e j l))
 
 -- the bytes of a spot, cut out of its part
-pub cut_there : (ps : List Part) (es : List Extent) (a n k first : ℕ) (p : Part) (run : List ℕ) → IsIndex (layout ps) es → IsSpot (layout ps) a n k first → p ≡ get_or ps k p
-    → run ≡ take n (drop first p.bytes) → (j : ℕ) → j < n → memory_of ps ((a + j) % 2 ^ 64) ≡ Some (get_or run j 0)
-cut_there ps es a n k first p run x h e is j l =
+pub cut_there : (ps : List Part) (es : List Extent) (a n k first : ℕ) (p : Part) (cut : List ℕ) → IsIndex (layout ps) es → IsSpot (layout ps) a n k first → p ≡ get_or ps k p
+    → cut ≡ take n (drop first p.bytes) → (j : ℕ) → j < n → memory_of ps ((a + j) % 2 ^ 64) ≡ Some (get_or cut j 0)
+cut_there ps es a n k first p cut x h e is j l =
     ap (memory_of ps) (straight h j l)
     ∙ byte_there ps es a n k first p x h e j l
     ∙ ap Some (sym (ap (λ r. get_or r j 0) is ∙ get_or-take n (drop first p.bytes) j 0 l ∙ get_or-drop first p.bytes j 0))

@@ -1,7 +1,7 @@
 use Rattle.std.proofs.Common.{ap, arith, get_or, length}
 use Rattle.orc_bits.specs.declared.parts.Part.{Part}
-use Rattle.orc_memory.proofs.Runs.{none_changed, part_now, one_changed, all_there}
-use Rattle.orc_memory.proofs.map.change_run.Goals as goal
+use Rattle.orc_memory.proofs.Slices.{none_changed, part_now, one_changed, all_there}
+use Rattle.orc_memory.proofs.map.change_slice.Goals as goal
 
 pub loop-j-init : goal.loop-j-init
 loop-j-init c = none_changed c.args.parts.now c.args.at _
