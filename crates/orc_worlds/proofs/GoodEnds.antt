@@ -1,9 +1,11 @@
 -- A run of a good job returns with what emulation of the job leaves.
-use Rattle.std.proofs.Common.{◌≡◌, ℕ, ◌+◌, ◌*◌, ◌%◌, ◌^◌, ◌<◌, ◌≤◌, true, if◌then◌else◌, List, length, slice_index, Some, Ok, refl, sym, ap, ◌∙◌, subst, arith, lit<}
+use Rattle.std.proofs.Common.{◌≡◌, ℕ, ◌+◌, ◌*◌, ◌%◌, ◌^◌, ◌<◌, ◌≤◌, true, if◌then◌else◌, List, [], ◌∷◌, zero, suc, drop, length, slice_index, Some, Ok, refl, sym, ap, ◌∙◌, subst, arith, lit<}
 use Rattle.std.proofs.Math.Nat.{mod-mod}
 use Rattle.std.proofs.lemmas.List.{length-map}
 use Rattle.orc_bits.specs.Memory.{Memory, IsMapped, word}
-use Rattle.orc_bits.specs.Parts.{memory_of}
+use Rattle.orc_bits.specs.declared.parts.Part.{Part}
+use Rattle.orc_bits.specs.Parts.{Span, span, span_at, layout, memory_of}
+use Rattle.std.specs.List.{AllByRecursion}
 use Rattle.orc_bits.proofs.Memories.{some_one}
 use Rattle.orc_program.specs.declared.program.VarKind.TheVariants as kind
 use Rattle.orc_program.specs.declared.call.Call.{Call}
@@ -29,6 +31,8 @@ use Rattle.x86_machine.specs.declared.machine.End.{End}
 use Rattle.x86_machine.specs.declared.machine.End.TheVariants as end
 use Rattle.x86_machine.specs.Ends.{EndsAt}
 use Rattle.x86_machine.proofs.OneEnd.{one_end}
+use Rattle.orc_worlds.specs.Now.{IsPartOf, AreNow}
+use Rattle.orc_worlds.proofs.Leaving.{first_covers, one_more_keeps}
 use Rattle.orc_worlds.specs.Placement.{code_at, block_at, return_to, start, placed_code, stop}
 use Rattle.orc_worlds.specs.Whole.{words_of}
 use Rattle.orc_worlds.specs.GoodJobs.{IsCodeOf, IsGoodJob, IsDone, GoodJobsReturn}
@@ -163,3 +167,27 @@ module _ (f : FunctionValue) (entry : image.FunctionValue) (job : Job) (c : IsCo
 
 pub good_jobs_return : GoodJobsReturn
 good_jobs_return f entry job e at c g enough ends = done f entry job c g e at enough ends
+
+-- ---- segments as a run leaves them
+
+segments_now : (job after : List Part) (now left : Memory) → ((a : ℕ) → IsMapped (memory_of job) a → now a ≡ left a) → (ps : List Part) → ((i : ℕ) → i < length ps → (k : ℕ) → k < (span_at (layout ps) i).count → IsMapped (memory_of job) ((span_at (layout ps) i).at + k))
+    → layout after ≡ layout ps → AllByRecursion (IsPartOf now) after → AllByRecursion (IsPartOf left) after
+segments_now job [] now left same ps there e all = tt
+segments_now job (q ∷ after) now left same [] there e all = absurd (let n = ap length e in omega (arith, n))
+segments_now job (q ∷ after) now left same (b ∷ ps) there e all =
+    let first : span q ≡ span b = ap (λ ss. span_at ss 0) e in
+    let rest : layout after ≡ layout ps = ap (λ ss. drop 1 ss) e in
+    let at = ap (λ (x : Span). x.at) first in
+    let count = ap (λ (x : Span). x.count) first in (
+      (λ i l. sym (same (q.at + i) (subst (λ n. IsMapped (memory_of job) (n + i)) (sym at) (there 0 (omega arith) i (omega (arith, l, count))))) ∙ all.0 i l),
+      segments_now job after now left same ps (λ i l. there (suc i) (omega (arith, l))) rest all.1,
+    )
+
+-- each byte of each part is mapped
+parts_mapped : (ps : List Part) (i : ℕ) → i < length ps → (k : ℕ) → k < (span_at (layout ps) i).count → IsMapped (memory_of ps) ((span_at (layout ps) i).at + k)
+parts_mapped [] i l k h = absurd (omega (arith, l))
+parts_mapped (p ∷ ps) zero l k h = first_covers p ps k h
+parts_mapped (p ∷ ps) (suc i) l k h = one_more_keeps p ps _ (parts_mapped ps i (omega (arith, l)) k h)
+
+pub now_left : (job after : List Part) (now left : Memory) → ((a : ℕ) → IsMapped (memory_of job) a → now a ≡ left a) → AreNow now job after → AreNow left job after
+now_left job after now left same h = record { lie = h.lie; have = segments_now job after now left same job (parts_mapped job) h.lie h.have }

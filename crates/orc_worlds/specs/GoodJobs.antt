@@ -32,6 +32,7 @@ pub record IsCodeOf (f : FunctionValue) (entry : image.FunctionValue) : Type 0 w
   pub dests : entry.dests ≡ count_of kind.Dest f.vars
   pub sources : entry.sources ≡ count_of kind.Source f.vars
   pub params : entry.params ≡ count_of kind.Param f.vars
+  pub accs : entry.accs ≡ count_of kind.Accumulator f.vars
   pub runs : RunsAs f entry.code
   pub short : length entry.code ≤ 1048576
 
