@@ -1,3 +1,6 @@
+pub mod BlockWords
+pub mod GoodPlaced
+pub mod GoodEnds
 pub mod Padding
 pub mod Leaving
 pub mod Begins

@@ -1,3 +1,4 @@
+pub mod GoodJobs
 pub mod Mapped
 pub mod Now
 pub mod Placement
