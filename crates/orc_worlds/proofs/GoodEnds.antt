@@ -66,7 +66,7 @@ module _ (f : FunctionValue) (call : Call) (low : (p : ℕ) → (place_at f call
     apart = λ j k lj lk ne. absurd (ne (omega (arith, lj, lk)));
   }
 
-  sums_count : (mem : Memory) (e : Memory × List ℕ) → emulate f call mem ≡ Ok e → length e.1 ≡ count_of kind.Accumulator f.vars
+  pub sums_count : (mem : Memory) (e : Memory × List ℕ) → emulate f call mem ≡ Ok e → length e.1 ≡ count_of kind.Accumulator f.vars
   sums_count mem e h =
       let u = go_on_ok (rows_of f call (rows f call) (at_start mem)) (ended_call f) e h in
       ap (λ (x : Memory × List ℕ). length x.1) (sym (ok_same (u.0.memory, sums_of f u.0) e u.2))

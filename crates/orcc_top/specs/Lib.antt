@@ -8,6 +8,7 @@ pub mod Figures
 pub mod Images
 pub mod Inputs
 pub mod Jobs
+pub mod Laws
 pub mod Objects
 pub mod Refusals
 pub mod Replies
