@@ -1,5 +1,5 @@
 -- The checks look at the lines before alone.
-use Rattle.std.proofs.Common.{◌≡◌, ℕ, suc, ◌+◌, ◌||◌, Bool, true, false, nat_le, List, [], ◌∷◌, ◌++◌, Option, Some, None, is_some, option_to_list, if◌then◌else◌, map, length, filter, filter_map, refl, sym, ap, ◌∙◌, subst, ◌<◌, get_or, arith}
+use Rattle.std.proofs.Common.{◌≡◌, ℕ, ◌+◌, ◌||◌, Bool, true, false, nat_le, List, [], ◌∷◌, ◌++◌, Option, Some, None, is_some, option_to_list, if◌then◌else◌, map, length, filter, filter_map, refl, sym, ap, ◌∙◌, subst, ◌<◌, get_or, arith}
 use Rattle.std.specs.List.{list_any, count_by, cons_option}
 use Rattle.std.specs.Str.{bytes_eq}
 use Rattle.std.proofs.lemmas.List.Sums.{sum_by-cons}
@@ -18,17 +18,12 @@ use Rattle.orc_text.specs.Faults.{has_n, has_m, has_backup, is_duplicate, is_ful
 use Rattle.orc_text.specs.FirstFault.{IsBefore, last_segment, is_said_before, is_result_of, is_of_kind, are_many_before, ChecksLook}
 use Rattle.orc_text.specs.Said.{Said, functions_of, vars_in, insns_in}
 use Rattle.orc_text.specs.Segments.{TextLine, directive_in, after_init, after_n, after_m, after_backup, is_start, declares, segments, name_in, declared_names, insn_lines, Declares, Instructs, SaysFunction}
+use Rattle.orc_text.proofs.Each.{count_kept}
 use Rattle.orc_text.proofs.MoreLines.{names_declared}
 use Rattle.orc_text.proofs.Named.{known_named}
 use Rattle.orc_text.proofs.Setting.{set_same}
 
 -- ---- one for each
-
-count_each : {A B : Type 0} (R : A → B → Type 0) (xs : List A) (ys : List B) → OneForEach R xs ys → length ys ≡ length xs
-count_each R [] [] h = refl
-count_each R [] (b ∷ ys) h = absurd h
-count_each R (a ∷ xs) [] h = absurd h
-count_each R (a ∷ xs) (b ∷ ys) h = ap suc (count_each R xs ys h.1)
 
 last_each : (segs : List (List TextLine)) (fs : List FunctionValue) (f : FunctionValue) → OneForEach SaysFunction segs (fs ++ f ∷ []) → SaysFunction (last_segment segs) f
 last_each [] [] f h = absurd h
@@ -130,7 +125,7 @@ module _ (earlier : List TextLine) (said : Said) (b : IsBefore earlier said) whe
   duplicate_looks directive.Float ws = refl
 
   many_look : (d : Directive) → is_full said d ≡ are_many_before earlier d
-  many_look directive.Function = ap (nat_le most_functions) (count_each SaysFunction (segments earlier) (functions_of said) b.program.functions)
+  many_look directive.Function = ap (nat_le most_functions) (count_kept SaysFunction (segments earlier) (functions_of said) b.program.functions)
   many_look directive.Init = refl
   many_look directive.Backup = refl
   many_look directive.Flags = refl

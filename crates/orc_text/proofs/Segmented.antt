@@ -2,7 +2,6 @@
 use Rattle.std.proofs.Common.{◌≡◌, ℕ, suc, ◌+◌, Bool, true, false, not, List, [], ◌∷◌, ◌++◌, Option, Some, None, option_to_list, if◌then◌else◌, filter, filter_map, fold, refl, sym, ap, ◌∙◌, subst, append-nil, append_assoc, arith, true≢false, inl, inr}
 use Rattle.std.specs.List.{cons_option, before_first, prefix_len}
 use Rattle.std.proofs.lemmas.Bool.{cases_Bool}
-use Rattle.orc_program.specs.declared.fault.Fault.{Fault}
 use Rattle.orc_program.specs.Words.{Word}
 use Rattle.orc_program.specs.Program.{FunctionValue}
 use Rattle.orc_words.specs.Text.{lines, content, words, word, starts_with_dot}
@@ -10,10 +9,11 @@ use Rattle.orc_text.specs.declared.directive.Directive.{Directive}
 use Rattle.orc_text.specs.declared.directive.Directive.TheVariants as directive
 use Rattle.orc_text.specs.Each.{OneForEach}
 use Rattle.orc_text.specs.Faults.{words_fault, line_fault}
-use Rattle.orc_text.specs.Reads.{found_or, first_fault, text_fault, text_program}
+use Rattle.orc_text.specs.Reads.{first_fault, text_fault, text_program}
 use Rattle.orc_text.specs.Said.{Said, functions_of, nothing_said, new_function, directive_of, say, say_words, said_by, counted, program_of}
 use Rattle.orc_text.specs.Segments.{TextLine, numbered, directive_in, are_insn, starts_function, is_start, after_init, segments, declares, SaysFunction, SaysProgram, ReadsAreSegments}
 use Rattle.orc_text.proofs.Directives.{within}
+use Rattle.orc_text.proofs.Lines.{none_both}
 use Rattle.orc_text.proofs.LineSteps.{words_step, outside, words_outside}
 use Rattle.orc_text.proofs.MoreLines.{grown, names_declared}
 
@@ -29,12 +29,6 @@ go_on p x xs h = let e : 1 + prefix_len (λ y. not (p y)) xs ≡ suc (prefix_len
 one_first : {A : Type 0} (x : Option A) (xs : List A) → cons_option x [] ++ xs ≡ cons_option x xs
 one_first None xs = refl
 one_first (Some a) xs = refl
-
--- ---- faults
-
-none_both : (n : ℕ) (x : Option Fault) (later : Option (ℕ × Fault)) → found_or n x later ≡ None → (x ≡ None) × (later ≡ None)
-none_both n None later h = (refl, h)
-none_both n (Some f) later h = absurd (let e : ⊥ = cc in e)
 
 -- ---- a `.function` line
 
