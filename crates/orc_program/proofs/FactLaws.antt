@@ -2,7 +2,7 @@
 use Rattle.std.proofs.Common.{◌≡◌, ℕ, zero, suc, add-one, ◌+◌, ◌-◌, ◌/◌, ◌%◌, ◌≤◌, Bool, true, false, ◌&&◌, ◌||◌, ◌==◌, nat_le, List, [], ◌∷◌, ◌++◌, Option, Some, None, length, ap, refl, ◌∙◌, arith, inl, inr, if◌then◌else◌}
 use Rattle.std.specs.List.{list_all, fold}
 use Rattle.std.specs.Prelude.{filter, map, unwrap_or}
-use Rattle.std.proofs.lemmas.Bool.{cases_Bool, cases_lt, lt-ltb, le-leb, le-ltb, eq-eqb, leb-true}
+use Rattle.std.proofs.lemmas.Bool.{cases_Bool, cases_lt, lt-ltb, le-leb, le-ltb, eq-eqb, leb-true, eqb-true}
 use Rattle.std.proofs.lemmas.Bool.Decides.{nat_tests}
 use Rattle.std.proofs.lemmas.List.{length-map, length-append}
 use Rattle.std.proofs.lemmas.List.Sums.{length-filter}
@@ -16,7 +16,7 @@ use Rattle.orc_program.specs.Words.{Word, number_of}
 use Rattle.orc_program.specs.Notes.{is_align_number}
 use Rattle.orc_program.specs.Program.{FunctionValue, is_of, count_of, array_count}
 use Rattle.orc_program.specs.Kept.{is_function}
-use Rattle.orc_program.specs.Facts.{most_count, free, meets, least_multiple, is_unbounded, is_count_facts, counted, stated, last_of, within, exactly_or, line_states, note_states, align_number, align_words, align_of, aligns_among, facts_of, is_free_count, is_align_value, is_facts, ones}
+use Rattle.orc_program.specs.Facts.{most_count, free, meets, least_multiple, is_unbounded, is_count_facts, counted, stated, last_of, within, exactly_or, line_states, note_states, align_number, align_words, align_of, aligns_among, facts_of, is_free_count, is_align_value, is_facts, ones, free_facts, is_free}
 use Rattle.orc_program.proofs.Sizes.{both, kept_of}
 use Rattle.orc_program.proofs.Counts.{few_vars}
 use Rattle.orc_program.proofs.Declared.{both_hold}
@@ -45,6 +45,52 @@ meets_by exact mult least greatest c e d low high =
 pub kept_by : (exact mult least greatest : ℕ) → exact ≤ most_count → 1 ≤ mult → mult ≤ most_count → least ≤ most_count → greatest ≤ most_count → least_multiple mult least ≤ greatest → (exact == 0 || is_unbounded (facts_with exact mult least greatest) ≡ true)
     → is_count_facts (facts_with exact mult least greatest) ≡ true
 kept_by exact mult least greatest a b c d e g h = rw (le-leb exact most_count a, le-leb 1 mult b, le-leb mult most_count c, le-leb least most_count d, le-leb greatest most_count e, le-leb (least_multiple mult least) greatest g, h) refl
+
+-- and back
+pub record KeptCount (c : CountFacts) : Type 0 where
+  pub exact : c.exact ≤ most_count
+  pub some : 1 ≤ c.mult
+  pub mult : c.mult ≤ most_count
+  pub least : c.min ≤ most_count
+  pub greatest : c.max ≤ most_count
+  pub room : least_multiple c.mult c.min ≤ c.max
+  pub free : c.exact == 0 || is_unbounded c ≡ true
+
+pub kept_count : (c : CountFacts) → is_count_facts c ≡ true → KeptCount c
+kept_count c h =
+    let free = c.exact == 0 || is_unbounded c in
+    let room = nat_le (least_multiple c.mult c.min) c.max in
+    let a = both (nat_le c.exact most_count) (nat_le 1 c.mult && (nat_le c.mult most_count && (nat_le c.min most_count && (nat_le c.max most_count && (room && free))))) h in
+    let b = both (nat_le 1 c.mult) (nat_le c.mult most_count && (nat_le c.min most_count && (nat_le c.max most_count && (room && free)))) a.1 in
+    let d = both (nat_le c.mult most_count) (nat_le c.min most_count && (nat_le c.max most_count && (room && free))) b.1 in
+    let e = both (nat_le c.min most_count) (nat_le c.max most_count && (room && free)) d.1 in
+    let g = both (nat_le c.max most_count) (room && free) e.1 in
+    let k = both room free g.1 in
+    record {
+      exact = leb-true _ _ a.0;
+      some = leb-true _ _ b.0;
+      mult = leb-true _ _ d.0;
+      least = leb-true _ _ e.0;
+      greatest = leb-true _ _ g.0;
+      room = leb-true _ _ k.0;
+      free = k.1;
+    }
+
+-- a divisor and bounds that state nothing are these
+pub record Unbounded (c : CountFacts) : Type 0 where
+  pub mult : c.mult ≡ 1
+  pub least : c.min ≡ 0
+  pub greatest : c.max ≡ most_count
+
+pub unbounded : (c : CountFacts) → is_unbounded c ≡ true → Unbounded c
+unbounded c h =
+    let a = both (c.mult == 1) (c.min == 0 && c.max == most_count) h in
+    let b = both (c.min == 0) (c.max == most_count) a.1 in
+    record { mult = eqb-true _ _ a.0; least = eqb-true _ _ b.0; greatest = eqb-true _ _ b.1 }
+
+-- nothing is stated of a count where the facts are these
+pub free_count : (c : CountFacts) → is_free_count c ≡ true → (c.exact ≡ 0) × Unbounded c
+free_count c h = let a = both (c.exact == 0) (is_unbounded c) h in (eqb-true _ _ a.0, unbounded c a.1)
 
 -- facts as a type keeps them, which some count meets
 pub record Sound (facts : CountFacts) : Type 0 where
@@ -170,3 +216,22 @@ ones_pushed (suc n) = ap (λ xs. 1 ∷ xs) (ones_pushed n)
 
 pub ones_more : (n : ℕ) → ones (n + 1) ≡ ones n ++ 1 ∷ []
 ones_more n = rw add-one (ones_pushed n)
+
+ones_allowed : (n : ℕ) → list_all is_align_value (ones n) ≡ true
+ones_allowed zero = refl
+ones_allowed (suc n) = ones_allowed n
+
+ones_free : (n : ℕ) → list_all (λ a. a == 1) (ones n) ≡ true
+ones_free zero = refl
+ones_free (suc n) = ones_free n
+
+-- facts that state nothing are as a type keeps them
+pub free_kept : (two_d : Bool) (arrays : ℕ) → is_facts two_d arrays (free_facts arrays) ≡ true
+free_kept two_d arrays = rw (or_true two_d, eq-eqb _ _ (ones_length arrays), ones_allowed arrays) refl
+  where
+    or_true : (b : Bool) → b || true ≡ true
+    or_true true = refl
+    or_true false = refl
+
+pub free_free : (arrays : ℕ) → is_free (free_facts arrays) ≡ true
+free_free arrays = ones_free arrays
