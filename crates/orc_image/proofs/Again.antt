@@ -16,7 +16,7 @@ use Rattle.orc_program.specs.declared.known.Facts.{Facts}
 use Rattle.orc_program.specs.Facts.{most_count, free, least_multiple, is_unbounded, is_count_facts, is_free_count, is_align_value, is_facts, ones, free_facts, is_free}
 use Rattle.orc_program.proofs.Sizes.{both}
 use Rattle.orc_program.proofs.Declared.{both_hold}
-use Rattle.orc_program.proofs.FactLaws.{KeptCount, kept_count, Unbounded, unbounded, free_count}
+use Rattle.orc_program.proofs.FactLaws.{KeptCount, kept_count, Unbounded, unbounded, free_count, KeptFacts, kept_facts}
 use Rattle.orc_image.specs.declared.error.ImageError.{ImageError}
 use Rattle.orc_image.specs.declared.error.ImageError.TheVariants.{BadMagic}
 use Rattle.orc_image.specs.Spelling.{FunctionValue, ImageValue, IsFunction, IsImage, ImageBegins, OneImage, AreFunctions, names, is_among, bit, is_version, count_bytes, slots_bytes, facts_bytes, function_bytes, functions_bytes, image_bytes, magic}
@@ -141,26 +141,7 @@ aligns_again (suc n) at (a ∷ aligns) rest few h =
 abbrev after_stated : ℕ → ℕ
 after_stated at = after_aligns 8 (after_aligns 4 (at + 4 + 4 + 4 + 4 + 4 + 4 + 4 + 4))
 
--- what a function of an image keeps of its facts, one by one
-record KeptFacts (two_d : Bool) (dests sources : ℕ) (facts : Facts) : Type 0 where
-  n : is_count_facts facts.n ≡ true
-  m : is_count_facts facts.m ≡ true
-  rows : two_d || is_free_count facts.m ≡ true
-  count : length facts.aligns.items ≡ dests + sources
-  aligns : list_all is_align_value facts.aligns.items ≡ true
-
-kept_facts : (two_d : Bool) (dests sources : ℕ) (facts : Facts) → is_facts two_d (dests + sources) facts ≡ true → KeptFacts two_d dests sources facts
-kept_facts two_d dests sources facts h =
-    let rows = two_d || is_free_count facts.m in
-    let count = length facts.aligns.items == dests + sources in
-    let all = list_all is_align_value facts.aligns.items in
-    let a = both (is_count_facts facts.n) (is_count_facts facts.m && (rows && (count && all))) h in
-    let b = both (is_count_facts facts.m) (rows && (count && all)) a.1 in
-    let c = both rows (count && all) b.1 in
-    let d = both count all c.1 in
-    record { n = a.0; m = b.0; rows = c.0; count = eqb-true _ _ d.0; aligns = d.1 }
-
-stated_again : (two_d : Bool) (dests sources at : ℕ) (facts : Facts) (rest : List ℕ) → dests ≤ 4 → sources ≤ 8 → KeptFacts two_d dests sources facts
+stated_again : (two_d : Bool) (dests sources at : ℕ) (facts : Facts) (rest : List ℕ) → dests ≤ 4 → sources ≤ 8 → KeptFacts two_d (dests + sources) facts
     → stated_at two_d dests sources (cursor at (facts_bytes 2 dests facts ++ rest)) ≡ Ok (facts, cursor (after_stated at) rest)
 unfolding stated_at
 stated_again two_d dests sources at facts rest few_dests few_sources k =
@@ -233,7 +214,7 @@ after_facts version at = if version == 2 then after_stated at else at
 facts_again : (version : ℕ) (two_d : Bool) (dests sources at : ℕ) (facts : Facts) (rest : List ℕ) → dests ≤ 4 → sources ≤ 8 → is_facts two_d (dests + sources) facts ≡ true → is_version version ≡ true → (version ≡ 1 → is_free facts ≡ true)
     → facts_at version two_d dests sources (cursor at (facts_bytes version dests facts ++ rest)) ≡ Ok (facts, cursor (after_facts version at) rest)
 facts_again version two_d dests sources at facts rest few_dests few_sources h known free =
-    let k = kept_facts two_d dests sources facts h in
+    let k = kept_facts two_d (dests + sources) facts h in
     elim (one_or_two version known) [
       | inl e ↦ rw e (ap (λ (x : Facts). Ok (x, cursor at rest)) (sym (free_facts_are (dests + sources) facts (free e) k.count)))
       | inr e ↦ rw e (stated_again two_d dests sources at facts rest few_dests few_sources k)

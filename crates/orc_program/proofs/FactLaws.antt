@@ -11,6 +11,7 @@ use Rattle.orc_program.specs.declared.program.Var.{Var}
 use Rattle.orc_program.specs.declared.program.VarKind.{VarKind}
 use Rattle.orc_program.specs.declared.program.VarKind.TheVariants as kind
 use Rattle.orc_program.specs.declared.known.CountFacts.{CountFacts}
+use Rattle.orc_program.specs.declared.known.Facts.{Facts}
 use Rattle.orc_program.specs.declared.stated.Claim.TheVariants as claim
 use Rattle.orc_program.specs.Words.{Word, number_of}
 use Rattle.orc_program.specs.Notes.{is_align_number}
@@ -91,6 +92,25 @@ unbounded c h =
 -- nothing is stated of a count where the facts are these
 pub free_count : (c : CountFacts) → is_free_count c ≡ true → (c.exact ≡ 0) × Unbounded c
 free_count c h = let a = both (c.exact == 0) (is_unbounded c) h in (eqb-true _ _ a.0, unbounded c a.1)
+
+-- what a type keeps of a function's facts, one by one
+pub record KeptFacts (two_d : Bool) (arrays : ℕ) (facts : Facts) : Type 0 where
+  pub n : is_count_facts facts.n ≡ true
+  pub m : is_count_facts facts.m ≡ true
+  pub rows : two_d || is_free_count facts.m ≡ true
+  pub count : length facts.aligns.items ≡ arrays
+  pub aligns : list_all is_align_value facts.aligns.items ≡ true
+
+pub kept_facts : (two_d : Bool) (arrays : ℕ) (facts : Facts) → is_facts two_d arrays facts ≡ true → KeptFacts two_d arrays facts
+kept_facts two_d arrays facts h =
+    let rows = two_d || is_free_count facts.m in
+    let count = length facts.aligns.items == arrays in
+    let all = list_all is_align_value facts.aligns.items in
+    let a = both (is_count_facts facts.n) (is_count_facts facts.m && (rows && (count && all))) h in
+    let b = both (is_count_facts facts.m) (rows && (count && all)) a.1 in
+    let c = both rows (count && all) b.1 in
+    let d = both count all c.1 in
+    record { n = a.0; m = b.0; rows = c.0; count = eqb-true _ _ d.0; aligns = d.1 }
 
 -- facts as a type keeps them, which some count meets
 pub record Sound (facts : CountFacts) : Type 0 where

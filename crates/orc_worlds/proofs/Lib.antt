@@ -5,3 +5,4 @@ pub mod Started
 pub mod Keeping
 pub mod Placed
 pub mod Wholly
+pub mod Meet

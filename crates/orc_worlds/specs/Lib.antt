@@ -4,3 +4,4 @@ pub mod Placement
 pub mod Played
 pub mod Whole
 pub mod Worlds
+pub mod Meeting
