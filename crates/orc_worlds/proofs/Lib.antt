@@ -8,3 +8,4 @@ pub mod Started
 pub mod Keeping
 pub mod Placed
 pub mod Wholly
+pub mod Meet

@@ -5,3 +5,4 @@ pub mod Placement
 pub mod Played
 pub mod Whole
 pub mod Worlds
+pub mod Meeting

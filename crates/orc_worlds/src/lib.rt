@@ -9,7 +9,7 @@ mod printing;
 mod remaining;
 
 pub use laws::good_jobs_return;
-pub use parting::world_of;
+pub use parting::{parts_meet, world_of};
 pub use placing::{BLOCK, machine_of};
 pub use playing::{Played, Steps, play_job};
 pub use printing::print_played;

@@ -1,6 +1,7 @@
 mod failures;
 mod hostile;
 mod meaning;
+mod stated;
 
 use crate::{Status, orcc};
 use c_read::read_c;

@@ -1,10 +1,30 @@
-//! Number words.
+//! Words of a line, by their bytes: number words, and words that have a meaning after a name or a count.
 
 ghost use Rattle.std.specs.Prelude.{◌≡◌, ℕ, ◌+◌, ◌*◌, ◌<◌, ◌≤◌, ◌^◌, Some, None, SomeIff, option_and_then};
 ghost use Rattle.std.specs.List.{list_all};
-ghost use Rattle.orc_program.specs.Words.{is_digit, is_hex, digit, value_in, hex_natural, zero_or_hex, natural, positive, negative, number_of};
+ghost use Rattle.std.specs.Str.{bytes_eq};
+ghost use Rattle.orc_program.specs.Words.{without, is_digit, is_hex, digit, value_in, hex_natural, zero_or_hex, natural, positive, negative, number_of};
+ghost use Rattle.orc_program.specs.Words.{is_align, is_count_word};
+ghost use Rattle.orc_program.specs.Notes.{is_align_number};
 
-use crate::scan::without;
+/// Whether two words are one.
+pub fn is_same(a: &[u8], b: &[u8]) -> bool
+    ensures { result ≡ bytes_eq a.now b.now }
+{
+    a == b
+}
+
+/// The bytes without one `last` at their end.
+#[tactic(auto, using(crate::proofs::Shortened::without_yes, crate::proofs::Shortened::without_no))]
+pub fn without(last: u8, bytes: &[u8]) -> &[u8]
+    ensures { result.now ≡ without last bytes.now }
+{
+    let n = bytes.len();
+    if n > 0 && bytes[n - 1] == last {
+        return &bytes[..n - 1];
+    }
+    bytes
+}
 
 /// 0 to 9.
 pub fn is_digit(b: u8) -> bool
@@ -132,7 +152,7 @@ fn negated(n: u64) -> Option<u64>
 }
 
 /// The number that a word stands for, modulo 2^64.
-#[tactic(auto, unfolding(orc_program::specs::Words::number_of))]
+#[tactic(auto, unfolding(crate::specs::Words::number_of))]
 pub fn number_of(word: &[u8]) -> Option<u64>
     ensures { result ≡ number_of word.now }
 {
@@ -144,4 +164,28 @@ pub fn number_of(word: &[u8]) -> Option<u64>
         }
         _ => natural(without(b'L', word)),
     }
+}
+
+/// The word `align`.
+pub fn is_align(word: &[u8]) -> bool
+    ensures { result ≡ is_align word.now }
+{
+    is_same(word, b"align")
+}
+
+/// Whether a number is a power of two from 1 to 4096.
+pub fn is_align_number(number: Option<u64>) -> bool
+    ensures { result ≡ is_align_number number }
+{
+    matches!(
+        number,
+        Some(1 | 2 | 4 | 8 | 16 | 32 | 64 | 128 | 256 | 512 | 1024 | 2048 | 4096)
+    )
+}
+
+/// `mult`, `min` or `max`, each of which a number follows.
+pub fn is_count_word(word: &[u8]) -> bool
+    ensures { result ≡ is_count_word word.now }
+{
+    is_same(word, b"mult") || is_same(word, b"min") || is_same(word, b"max")
 }
