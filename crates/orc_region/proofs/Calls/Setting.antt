@@ -29,7 +29,7 @@ use Rattle.orc_region.proofs.Checked.Acts.{StandsIn, nothing_stands}
 use Rattle.orc_region.proofs.Checked.Knows.{numbers_of, all_meant, all_known}
 use Rattle.orc_region.proofs.Checked.Layouts.{patterns_are, sizes_are}
 use Rattle.orc_region.proofs.Turn.Advancing.{Setting}
-use Rattle.orc_region.proofs.Calls.Cells.{Arrays, arrays, call, P, row_base, low, separate, decided, slot_at, cell_is, cell_cells, cell_frame}
+use Rattle.orc_region.proofs.Calls.Cells.{Arrays, stack_room, arrays, call, P, row_base, low, separate, decided, slot_at, cell_is, cell_cells, cell_frame}
 
 -- the accumulators of a function, by its layout
 pub sums_count : (f : FunctionValue) → length (layout_of f).acc_sizes.items ≡ count_of kind.Accumulator f.vars
@@ -49,9 +49,6 @@ module _ (f : FunctionValue) (is : is_function f ≡ true) (known : Arrays f) (c
   abbrev pub Frame : ℕ → Type 0
   Frame = InFrame rsp
 
-  pub stack_room : rsp + (frame_size + 8) ≤ 2 ^ 47
-  stack_room = (let a = good.frame_room in let b = good.return_low in omega (arith, a, b))
-
   fact : Facts (layout_of f)
   fact = facts (layout_of f) (f, is, refl)
 
@@ -59,7 +56,7 @@ module _ (f : FunctionValue) (is : is_function f ≡ true) (known : Arrays f) (c
   few_patterns = (let a = fact.few_patterns in subst (λ l. length l ≤ 48) (patterns_are f) a)
 
   pub is_frame : IsFrame numbers rsp
-  is_frame = record { few_patterns = few_patterns; few_sums = known.few.accs; low = (let a = stack_room in omega (arith, a)) }
+  is_frame = record { few_patterns = few_patterns; few_sums = known.few.accs; low = (let a = stack_room f known code s args back good in omega (arith, a)) }
 
   pub sums_frame : (a : ℕ) → InRunning rsp numbers.sums a → Frame a
   sums_frame a h = (omega (arith, h.0), omega (arith, h.1, known.few.accs))
