@@ -1,5 +1,5 @@
 -- The elements of a row of a good call are what the laws of blocks, turns and rows ask for.
-use Rattle.std.proofs.Common.{◌≡◌, ℕ, ◌+◌, ◌*◌, ◌^◌, ◌<◌, ◌≤◌, true, List, [], length, refl, sym, ap, ◌∙◌, subst, arith}
+use Rattle.std.proofs.Common.{◌≡◌, ℕ, ◌+◌, ◌*◌, ◌<◌, ◌≤◌, true, List, [], length, refl, sym, ap, ◌∙◌, subst, arith}
 use Rattle.orc_bits.specs.Memory.{Memory}
 use Rattle.orc_program.specs.declared.program.VarKind.TheVariants as kind
 use Rattle.orc_program.specs.declared.call.Call.{Call}
@@ -12,7 +12,7 @@ use Rattle.orc_plan.specs.Lowered.{steps_of}
 use Rattle.orc_plan.specs.Standing.{AllStand}
 use Rattle.x86_ins.specs.Machine.{Point}
 use Rattle.x86_ins.specs.Way.{Placed}
-use Rattle.orc_frame.specs.Layout.{layout_of, frame_size}
+use Rattle.orc_frame.specs.Layout.{layout_of}
 use Rattle.orc_frame.specs.Parts.{InFrame, InRunning}
 use Rattle.orc_frame.specs.Subject.{Call as Arguments, rows}
 use Rattle.orc_frame.specs.GoodCall.{GoodCall, lowered}
