@@ -27,8 +27,7 @@ use Rattle.orc_frame.specs.Subject.{Call, IsArray, VerySame, cell, rows}
 use Rattle.orc_region.specs.Code.{pointer}
 use Rattle.orc_region.specs.Stores.{TouchesCell, StoresFirst}
 
--- ---- of which function placed steps and a layout are
-
+-- placed steps and a layout are of this function
 pub record AreOf (f : FunctionValue) (p : PlacedValue) (l : Layout) : Type 0 where
   pub kept : is_function f ≡ true
   pub steps : p.core.steps ≡ steps_of f
@@ -52,10 +51,11 @@ HasCome f args mem r i e = (before : State) × (rows_of f (meant_call f args) r 
 abbrev pub PointsAt : FunctionValue → Call → ℕ → ℕ → Core → Type 0
 PointsAt f args r i c = (k : ℕ) → IsArray (subject_of f) k → c.gpr (pointer k) ≡ cell (subject_of f) args k r i 0
 
--- where emulation has the state e: RSP is lowered, RDI has the block's address, memory outside the frame is emulation's, and the frame holds what the layout says
+-- where emulation has the state e: RSP is lowered, and RDI has the block's address
 pub record Holds (f : FunctionValue) (s : Core) (args : Call) (e : State) (c : Core) : Type 0 where
   pub stack : c.gpr 4 ≡ lowered s
   pub block : c.gpr 7 ≡ s.gpr 7
+  -- outside the frame memory is emulation's, and no byte was unmapped
   pub agree : (a : ℕ) → (InFrame (lowered s) a → ⊥) → c.memory a ≡ e.memory a
   pub mapped : (a : ℕ) → IsMapped s.memory a → IsMapped c.memory a
   -- each pattern's bytes are in its slot

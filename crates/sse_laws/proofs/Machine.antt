@@ -1,11 +1,10 @@
 -- A list that works on vector registers alone, on the machine.
-use Rattle.std.proofs.Common.{◌≡◌, ℕ, ◌≤◌, true, List, length, refl}
+use Rattle.std.proofs.Common.{◌≡◌, ℕ, ◌≤◌, true, List, refl}
 use Rattle.orc_ops.specs.declared.opcode.Op.{Op}
 use Rattle.x86_ins.specs.declared.ins.Ins.{Ins}
 use Rattle.x86_ins.specs.Machine.{Core, with_lanes}
 use Rattle.x86_ins.specs.Vectors.{all_simd, after}
 use Rattle.x86_ins.proofs.VectorLists.{vectors_lead}
-use Rattle.sse_laws.specs.Meets.{Meets}
 use Rattle.sse_laws.specs.Laws.{Kept, Computes}
 
 -- with the vector registers as `after` says
