@@ -67,12 +67,13 @@ fn calls_of(alloc: Global, failure: Failure, stream: Stream) -> Result<Vec<u64>,
     Ok(calls)
 }
 
-/// Runs on an input and with an output of so much room, where each call moves seven bytes.
+/// Runs on an input and with an output of so much room, where each call moves at most so many bytes.
 fn run_with(
     alloc: Global,
     words: &[&str],
     bytes: &[u8],
     room: usize,
+    most: usize,
     failure: Failure,
 ) -> Result<Outcome, AllocError> {
     let mut given = Vec::new(alloc);
@@ -82,15 +83,15 @@ fn run_with(
     let mut input = Piece {
         bytes: Vec::from_slice(alloc, bytes)?,
         at: 0,
-        most: 7,
+        most,
         fail: calls_of(alloc, failure, Stream::Input)?,
         calls: 0,
         faults: 0,
     };
     let failing_puts = calls_of(alloc, failure, Stream::Output)?;
-    let mut output = Buffer::with_room(alloc, room, 7, failing_puts)?;
+    let mut output = Buffer::with_room(alloc, room, most, failing_puts)?;
     let failing_notes = calls_of(alloc, failure, Stream::Notes)?;
-    let mut notes = Buffer::with_room(alloc, 100, 7, failing_notes)?;
+    let mut notes = Buffer::with_room(alloc, 100, most, failing_notes)?;
     let status = orcc(alloc, given.as_slice(), &mut input, &mut output, &mut notes);
     Ok(Outcome {
         status,
@@ -102,7 +103,7 @@ fn run_with(
 
 /// Runs where no call fails.
 fn run(alloc: Global, words: &[&str], bytes: &[u8]) -> Result<Outcome, AllocError> {
-    run_with(alloc, words, bytes, 60_000, None)
+    run_with(alloc, words, bytes, 60_000, 7, None)
 }
 
 #[test]
