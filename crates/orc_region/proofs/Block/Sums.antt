@@ -21,10 +21,10 @@ IsResident last g = last + g + 1 < registers
 abbrev pub IsFramed : ℕ → ℕ → Type 0
 IsFramed last g = registers ≤ last + g + 1
 
-resident_yes : (last g : ℕ) → IsResident last g → is_resident last g ≡ true
+pub resident_yes : (last g : ℕ) → IsResident last g → is_resident last g ≡ true
 resident_yes last g h = lt-ltb (last + g + 1) registers h
 
-resident_no : (last g : ℕ) → IsFramed last g → is_resident last g ≡ false
+pub resident_no : (last g : ℕ) → IsFramed last g → is_resident last g ≡ false
 resident_no last g h = le-ltb (last + g + 1) registers h
 
 -- what holds of a sum's register or of its slot holds of where it stands
