@@ -21,10 +21,10 @@ row_flow-requires c = record {
 pub whole_code-requires-clause-few : goal.whole_code-requires-clause-few
 whole_code-requires-clause-few c =
     let are : AreOf c.args.f.now c.args.placed.now c.layout-layout.result = record { kept = c.counts_of-counts.ensures.kept; steps = c.requires.steps; sizes = c.requires.sizes; lanes = c.requires.lanes; layout = c.layout-layout.ensures.value } in
-    elements_few c.args.f.now c.counts_of-counts.ensures.kept _ (c.in_ok-elements.ensures.is c.args.f.now are)
+    elements_few c.args.f.now c.counts_of-counts.ensures.kept c.args.placed.now.places _ (c.in_ok-elements.ensures.is c.args.f.now are)
 
 -- the tree does the function's elements
-elements_are : (c : After-whole_code) → IsElements c.args.f.now c.in_ok-elements.elements
+elements_are : (c : After-whole_code) → IsElements c.args.f.now c.args.placed.now.places c.in_ok-elements.elements
 elements_are c = c.in_ok-elements.ensures.is c.args.f.now (record { kept = c.counts_of-counts.ensures.kept; steps = c.requires.steps; sizes = c.requires.sizes; lanes = c.requires.lanes; layout = c.layout-layout.ensures.value })
 
 -- the bytes of the rows between the frame's lists
