@@ -1,17 +1,9 @@
 -- The code of a function: it is allowed, its bytes are few, and it runs as the function means.
 use Rattle.std.proofs.Common.{◌≡◌, Bool, ℕ, ◌+◌, ◌*◌, ◌/◌, ◌^◌, ◌==◌, nat_lt, ◌≤◌, true, List, [], ◌∷◌, ◌++◌, length, slice_index, false, ◌<◌, refl, sym, ap, ap₂, ◌∙◌, subst, arith, inl, inr, length-append}
-use Rattle.std.proofs.lemmas.Bool.{eqb-true, ltb-true}
 use Rattle.orc_program.specs.declared.program.VarKind.TheVariants as kind
-use Rattle.orc_program.specs.Program.{FunctionValue, count_of, places_of}
+use Rattle.orc_program.specs.Program.{FunctionValue, count_of}
 use Rattle.orc_program.specs.Checks.{patterns_of}
 use Rattle.orc_program.specs.Kept.{is_function}
-use Rattle.orc_program.specs.Need.{cost, lanes}
-use Rattle.orc_program.specs.Slots.{size_of_slot}
-use Rattle.orc_program.proofs.Apart.{IsSize}
-use Rattle.orc_program.proofs.Sizes.{both, size_kept}
-use Rattle.orc_plan.specs.Lowered.{steps_of}
-use Rattle.orc_plan.specs.Places.{GoodPlaces}
-use Rattle.orc_plan.specs.Standing.{AllStand}
 use Rattle.x86_ins.specs.declared.ins.Ins.{Ins}
 use Rattle.x86_ins.specs.declared.ins.Ins.TheVariants.{Ret}
 use Rattle.x86_ins.specs.Spelling.{IsAllowed, spelling}
@@ -28,7 +20,6 @@ use Rattle.orc_frame.specs.Layout.{layout_of}
 use Rattle.orc_frame.specs.Frame.{Prepares, Finishes}
 use Rattle.orc_frame.proofs.Facts.{Facts, facts}
 use Rattle.orc_frame.proofs.Apart.{length-acc_sizes_of}
-use Rattle.orc_program.proofs.Places.{length-places_of}
 use Rattle.orc_frame.specs.Function.{subject_of}
 use Rattle.orc_frame.specs.Subject.{Call}
 use Rattle.orc_frame.specs.Subject.{rows as rows_of}
@@ -37,12 +28,8 @@ use Rattle.orc_asm.specs.RunsAs.{wide as wide_promise}
 use Rattle.orc_asm.specs.Function.{RunsFully}
 use Rattle.orc_region.specs.Code.{Action, AreActions, Turns, IsElements, is_filled, shift_of, elements_of, sum_loads_code, sum_stores_code}
 use Rattle.orc_asm.specs.Rows.{rows_flow, whole_flow}
-use Rattle.orc_region.proofs.Checked.Several.{IsCount, one_count, lanes_count}
 use Rattle.orc_region.proofs.Checked.Layouts.{patterns_are, sizes_are}
 use Rattle.orc_region.proofs.Checked.Slots.{Limits, limits}
-use Rattle.orc_region.proofs.Checked.Fits.{some_size, slot_size}
-use Rattle.orc_region.proofs.Checked.Numbered.{nth_is}
-use Rattle.orc_region.proofs.Turn.Lists.{stand_is, fit_actions, ins_blocks, ins_turn, ins_aligned, turn_few, aligned_few}
 use Rattle.orc_region.proofs.Sizes.Loops.{Fits}
 use Rattle.orc_region.proofs.Built.Turns.{fits_elements}
 use Rattle.orc_region.proofs.Calls.Sums.{fine_loads, fine_stores, loads_few, stores_few, loads_own, stores_own}
@@ -52,7 +39,6 @@ use Rattle.orc_asm.proofs.Row.Path.{own_free, Parts}
 use Rattle.orc_region.proofs.Calls.Wide.{cell_weight}
 use Rattle.orc_asm.proofs.Row.Runs.{AreShort, runs_with}
 use Rattle.orc_asm.proofs.Function.WideSteps.{WideAt, own_wide, wide_way}
-use Rattle.orc_region.proofs.Turn.Operands.{turn_light, aligned_light}
 use Rattle.orc_asm.proofs.Calls.Inside.{lift, quiet_lifts, wide_lifts, both_lift}
 use Rattle.orc_asm.proofs.Function.Parts.{parts}
 use Rattle.orc_region.proofs.Calls.Cells.{Arrays}

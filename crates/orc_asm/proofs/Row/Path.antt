@@ -1,5 +1,5 @@
 -- The way of code with rows through a good call.
-use Rattle.std.proofs.Common.{◌≡◌, ℕ, ◌+◌, ◌*◌, ◌<◌, ◌≤◌, ◌==◌, ◌||◌, not, Bool, List, ◌++◌, length, Some, Ok, refl, ◌∙◌, arith, ◌⊎◌, inl, inr, ⊎_elim, length-append}
+use Rattle.std.proofs.Common.{◌≡◌, ℕ, ◌+◌, ◌*◌, ◌<◌, ◌≤◌, List, ◌++◌, length, Some, Ok, refl, ◌∙◌, arith, ◌⊎◌, inl, inr, ⊎_elim, length-append}
 use Rattle.orc_bits.specs.Memory.{word}
 use Rattle.orc_program.specs.declared.program.VarKind.TheVariants as kind
 use Rattle.orc_program.specs.Program.{FunctionValue, count_of}
@@ -10,7 +10,7 @@ use Rattle.x86_ins.specs.Way.{Placed}
 use Rattle.x86_flow.specs.Flow.{Flow}
 use Rattle.x86_flow.specs.Does.{Line, Does}
 use Rattle.x86_flow.proofs.Plans.{weigh, weigh_append}
-use Rattle.x86_flow.specs.Touching.{touch_weight, AreOwn}
+use Rattle.x86_flow.specs.Touching.{AreOwn}
 use Rattle.x86_flow.proofs.Touching.{weigh_free}
 use Rattle.orc_frame.specs.Subject.{Call as Arguments, rows}
 use Rattle.orc_frame.specs.Parts.{InBlock, InSums, InReturn, sum_word}
