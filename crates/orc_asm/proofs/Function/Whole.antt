@@ -1,12 +1,12 @@
 -- The code of a function: it is allowed, its bytes are few, and it runs as the function means.
-use Rattle.std.proofs.Common.{◌≡◌, Bool, ℕ, ◌+◌, ◌*◌, ◌/◌, ◌^◌, ◌==◌, nat_lt, ◌≤◌, true, List, [], ◌∷◌, ◌++◌, length, slice_index, false, ◌<◌, refl, sym, ap, ap₂, ◌∙◌, subst, arith, inl, inr, length-append}
+use Rattle.std.proofs.Common.{◌≡◌, Bool, ℕ, ◌+◌, ◌*◌, ◌/◌, ◌^◌, ◌==◌, nat_lt, ◌≤◌, true, List, [], ◌∷◌, ◌++◌, length, slice_index, false, ◌<◌, refl, sym, ap, ap₂, ◌∙◌, subst, arith, inl, inr, length-append, All, IsTrue, zero, suc}
 use Rattle.orc_program.specs.declared.program.VarKind.TheVariants as kind
 use Rattle.orc_program.specs.Program.{FunctionValue, count_of}
 use Rattle.orc_program.specs.Checks.{patterns_of}
 use Rattle.orc_program.specs.Kept.{is_function}
 use Rattle.x86_ins.specs.declared.ins.Ins.{Ins}
 use Rattle.x86_ins.specs.declared.ins.Ins.TheVariants.{Ret}
-use Rattle.x86_ins.specs.Spelling.{IsAllowed, spelling}
+use Rattle.x86_ins.specs.Spelling.{IsAllowed, spelling, has_spelling}
 use Rattle.x86_ins.specs.Way.{Each, AtMost}
 use Rattle.x86_flow.specs.declared.tree.Flow.{Flow as Tree}
 use Rattle.x86_flow.specs.Flow.{Flow, Plain, flat, size, spell_all, with_return}
@@ -32,6 +32,7 @@ use Rattle.orc_region.proofs.Checked.Layouts.{patterns_are, sizes_are}
 use Rattle.orc_region.proofs.Checked.Slots.{Limits, limits}
 use Rattle.orc_region.proofs.Sizes.Loops.{Fits}
 use Rattle.orc_region.proofs.Built.Turns.{fits_elements}
+use Rattle.orc_program.specs.Need.{lanes}
 use Rattle.orc_region.proofs.Calls.Sums.{fine_loads, fine_stores, loads_few, stores_few, loads_own, stores_own}
 use Rattle.orc_region.proofs.Sizes.Steps.{regions_of}
 use Rattle.orc_asm.proofs.Row.Counts.{rows_bytes, rows_allowed}
@@ -178,9 +179,9 @@ module _ (f : FunctionValue) (h : is_function f ≡ true) (l : Layout) (first la
       bound args = ap₂ (λ a b. a + rows_of (subject_of f) args * ((subject_of f).turns args.n * some) + b) first_free last_free
 
 -- as the bytes are built from the lists around the rows and the tree that does their elements
-pub whole_runs : (f : FunctionValue) → is_function f ≡ true → (l : Layout) (first last : List Ins) → Lists f l first last → (at : List ℕ) (tree : Tree) → IsElements f at tree → (front behind : List Ins) → front ≡ first ++ sum_loads_code at (length l.acc_sizes.items) → behind ≡ sum_stores_code at (length l.acc_sizes.items) ++ last → (bytes : List ℕ) (two_d : Bool) (d s : ℕ) → two_d ≡ f.two_d → d ≡ count_of kind.Dest f.vars → s ≡ count_of kind.Source f.vars
-    → bytes ≡ spell_all (with_return (whole_flow front (Plain (flat_of tree)) behind two_d d s)) → RunsFully f bytes × HasCodeLength bytes
-whole_runs f h l first last x at tree (single, wide, aligned, turns, t) front behind p q bytes two_d d s a b c e =
+pub whole_runs : (f : FunctionValue) → is_function f ≡ true → (l : Layout) (first last : List Ins) → Lists f l first last → (at : List ℕ) (tree : Tree) → IsElements f at tree → (begins ends : List Ins) → begins ≡ first ++ sum_loads_code at (length l.acc_sizes.items) → ends ≡ sum_stores_code at (length l.acc_sizes.items) ++ last → (bytes : List ℕ) (two_d : Bool) (d s : ℕ) → two_d ≡ f.two_d → d ≡ count_of kind.Dest f.vars → s ≡ count_of kind.Source f.vars
+    → bytes ≡ spell_all (with_return (whole_flow begins (Plain (flat_of tree)) ends two_d d s)) → RunsFully f bytes × HasCodeLength bytes
+whole_runs f h l first last x at tree (single, wide, aligned, turns, t) begins ends p q bytes two_d d s a b c e =
     let loads = first ++ sum_loads_code at (length l.acc_sizes.items) in
     let stores = sum_stores_code at (length l.acc_sizes.items) ++ last in
     let is : bytes ≡ spell_all (with_return (flow f h l first last x at single wide aligned turns)) =
@@ -188,3 +189,27 @@ whole_runs f h l first last x at tree (single, wide, aligned, turns, t) front be
     ∙ ap (λ r. spell_all (with_return (whole_flow loads (Plain (flat_of tree)) stores r d s))) a ∙ ap₂ (λ d s. spell_all (with_return (whole_flow loads (Plain (flat_of tree)) stores f.two_d d s))) b c
     ∙ ap (λ t. spell_all (with_return (whole_flow loads (Plain t) stores f.two_d (count_of kind.Dest f.vars) (count_of kind.Source f.vars)))) t in
     (subst (RunsFully f) (sym is) (code_runs f h l first last x at single wide aligned turns), subst HasCodeLength (sym is) (code_length f h l first last x at single wide aligned turns))
+
+-- ---- the lists around the rows are spelled
+
+abbrev AllSpelled : List Ins → Type 0
+AllSpelled list = All (λ i. IsTrue (has_spelling i)) list
+
+allowed_spelled : (list : List Ins) → Each IsAllowed list → AllSpelled list
+allowed_spelled [] h k d l = absurd (omega (arith, l))
+allowed_spelled (i ∷ list) h zero d l = h.0.1
+allowed_spelled (i ∷ list) h (suc k) d l = allowed_spelled list h.1 k d (omega (arith, l))
+
+module _ (f : FunctionValue) (h : is_function f ≡ true) (l : Layout) (layout : l ≡ layout_of f) (at : List ℕ) where
+  abbrev sums_of : ℕ
+  sums_of = length l.acc_sizes.items
+
+  pub front_spelled : (first list : List Ins) → Each IsAllowed first → list ≡ first ++ sum_loads_code at sums_of → AllSpelled list
+  front_spelled first list fine e =
+      let loads = sum_loads_code at sums_of in
+      subst AllSpelled (sym e) (allowed_spelled (first ++ loads) (each_both IsAllowed first loads fine (all_allowed loads (fine_loads at sums_of (facts l (f, h, layout)).few_sums))))
+
+  pub behind_spelled : (last list : List Ins) → Each IsAllowed last → list ≡ sum_stores_code at sums_of ++ last → AllSpelled list
+  behind_spelled last list fine e =
+      let stores = sum_stores_code at sums_of in
+      subst AllSpelled (sym e) (allowed_spelled (stores ++ last) (each_both IsAllowed stores last (all_allowed stores (fine_stores at sums_of (facts l (f, h, layout)).few_sums)) fine))
