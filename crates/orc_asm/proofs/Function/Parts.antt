@@ -1,5 +1,5 @@
 -- A function's code in a good call: the lists around its rows, and the elements of a row.
-use Rattle.std.proofs.Common.{◌≡◌, ℕ, ◌+◌, ◌*◌, ◌/◌, ◌%◌, ◌^◌, ◌<◌, ◌≤◌, true, List, [], length, get_or, slice_index, Some, is_some, Result, Ok, Err, refl, lit<, sym, ap, ◌∙◌, subst, arith, inl, inr, ⊎_elim, ◌++◌}
+use Rattle.std.proofs.Common.{◌≡◌, ℕ, ◌+◌, ◌*◌, ◌/◌, ◌%◌, ◌^◌, ◌<◌, ◌≤◌, true, List, [], length, get_or, Some, is_some, Result, Ok, Err, refl, lit<, sym, ap, ◌∙◌, subst, arith, inl, inr, ⊎_elim, ◌++◌}
 use Rattle.std.proofs.Math.Nat.{zero-mod, zero-div}
 use Rattle.orc_bits.specs.Memory.{Memory, word, IsMapped}
 use Rattle.orc_bits.specs.Numbers.{cut}

@@ -1,5 +1,5 @@
 -- The code of a function: it is allowed, its bytes are few, and it runs as the function means.
-use Rattle.std.proofs.Common.{◌≡◌, Bool, ℕ, ◌+◌, ◌*◌, ◌/◌, ◌^◌, ◌==◌, nat_lt, ◌≤◌, true, List, [], ◌∷◌, ◌++◌, length, slice_index, false, ◌<◌, refl, sym, ap, ap₂, ◌∙◌, subst, arith, inl, inr, length-append, All, IsTrue, zero, suc}
+use Rattle.std.proofs.Common.{◌≡◌, Bool, ℕ, ◌+◌, ◌*◌, ◌≤◌, true, List, [], ◌∷◌, ◌++◌, length, refl, sym, ap, ap₂, ◌∙◌, subst, arith, length-append, All, IsTrue, zero, suc}
 use Rattle.orc_program.specs.declared.program.VarKind.TheVariants as kind
 use Rattle.orc_program.specs.Program.{FunctionValue, count_of}
 use Rattle.orc_program.specs.Checks.{patterns_of}
@@ -26,7 +26,7 @@ use Rattle.orc_frame.specs.Subject.{rows as rows_of}
 use Rattle.orc_asm.specs.RunsAs.{quiet, fully}
 use Rattle.orc_asm.specs.RunsAs.{wide as wide_promise}
 use Rattle.orc_asm.specs.Function.{RunsFully}
-use Rattle.orc_region.specs.Code.{Action, AreActions, Turns, IsElements, is_filled, shift_of, elements_of, sum_loads_code, sum_stores_code}
+use Rattle.orc_region.specs.Code.{Turns, IsElements, elements_of, sum_loads_code, sum_stores_code}
 use Rattle.orc_asm.specs.Rows.{rows_flow, whole_flow}
 use Rattle.orc_region.proofs.Checked.Layouts.{patterns_are, sizes_are}
 use Rattle.orc_region.proofs.Checked.Slots.{Limits, limits}

@@ -32,7 +32,7 @@ use Rattle.sse_acc.specs.Sums.{number_of as adds_number}
 use Rattle.sse_acc.proofs.Totals.{sum_below-same}
 use Rattle.orc_program.specs.Meaning.{sub_lane, pack}
 use Rattle.orc_frame.specs.Layout.{pattern_slot, sum_slot, frame_size, spill_slot}
-use Rattle.orc_program.specs.Need.{places, registers}
+use Rattle.orc_program.specs.Need.{registers}
 use Rattle.orc_frame.specs.Parts.{InChanged}
 use Rattle.orc_region.specs.Code.{Action, IsRule, Source, FromArray, FromPattern, FromPlace, FromSlot, Target, ToArray, ToSum, ToResident, ToPlace, ToSlot, pointer, place_register, sum_register, slot_place, made_in, first_register, second_register, third_register, sum_home, rule_register, rule_code, source_far_code, sources_far_code, sum_code, result_far_code, results_far_code, action_code, action_far_code, actions_far_code}
 use Rattle.orc_region.specs.Elements.{sum_byte}

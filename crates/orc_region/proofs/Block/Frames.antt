@@ -5,7 +5,7 @@ use Rattle.std.proofs.lemmas.Nat.{mod-mul-add}
 use Rattle.std.proofs.Math.Nat.{add-mod-mod}
 use Rattle.orc_bits.specs.Numbers.{cut}
 use Rattle.orc_bits.specs.Lanes.{lane, from_bytes, AreBytes, change}
-use Rattle.orc_bits.specs.Memory.{Memory, IsMapped, read, fill}
+use Rattle.orc_bits.specs.Memory.{IsMapped, read, fill}
 use Rattle.orc_bits.proofs.LaneLaws.{lane_of_digits, lane-same, from_byte, change_other, change_same, eq_false}
 use Rattle.orc_bits.proofs.Memories.{read_lanes, all_there, store_there}
 use Rattle.x86_ins.specs.declared.ins.Ins.TheVariants.{VecLoad, VecStore}

@@ -10,7 +10,7 @@ use Rattle.x86_ins.specs.Vectors.{after}
 use Rattle.x86_ins.specs.Renaming.{renamed}
 use Rattle.x86_ins.proofs.Renamed.{after_same, after_renamed, simd_renamed}
 use Rattle.sse_acc.specs.Sums.{AddsUp, sum_of}
-use Rattle.orc_region.specs.Code.{Target, ToArray, ToSum, ToResident, ToPlace, ToSlot, place_register, sum_register, sum_home, first_register, second_register, third_register, exchange, rule_register}
+use Rattle.orc_region.specs.Code.{Target, ToArray, ToSum, ToResident, ToPlace, ToSlot, place_register, sum_register, first_register, second_register, third_register, exchange, rule_register}
 
 -- ---- two registers change places
 

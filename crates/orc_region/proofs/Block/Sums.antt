@@ -1,5 +1,5 @@
 -- Running sums that stand in registers, and those that stand in the frame.
-use Rattle.std.proofs.Common.{◌≡◌, ◌≢◌, ℕ, zero, suc, ◌+◌, ◌-◌, ◌<◌, ◌≤◌, true, false, nat_lt, max, if◌then◌else◌, List, [], ◌∷◌, ◌++◌, get_or, slice_index, length, take, map, Some, sym, ap, ap₂, ◌∙◌, subst, arith, le_trans, ⊎_elim}
+use Rattle.std.proofs.Common.{◌≡◌, ◌≢◌, ℕ, zero, suc, ◌+◌, ◌<◌, ◌≤◌, true, false, max, if◌then◌else◌, List, [], ◌∷◌, ◌++◌, get_or, slice_index, length, take, map, Some, sym, ap, ◌∙◌, subst, arith, le_trans, ⊎_elim}
 use Rattle.std.proofs.lemmas.Bool.{cases_lt, lt-ltb, le-ltb}
 use Rattle.std.proofs.lemmas.List.{take_more}
 use Rattle.std.proofs.Math.Nat.{le-max_left, le-max_right}
@@ -9,7 +9,7 @@ use Rattle.orc_plan.specs.declared.steps.Item.{Item}
 use Rattle.orc_plan.specs.declared.steps.Item.TheVariants as item
 use Rattle.orc_program.specs.Need.{places, registers}
 use Rattle.orc_frame.specs.Layout.{sum_slot}
-use Rattle.orc_region.specs.Code.{Source, FromArray, FromPattern, FromPlace, FromSlot, Target, ToArray, ToSum, ToResident, ToPlace, ToSlot, place_register, slot_place, sum_register, first_register, second_register, last_place, is_resident, to_sum, source_of, target_of}
+use Rattle.orc_region.specs.Code.{Source, FromArray, FromPattern, FromPlace, FromSlot, Target, ToArray, ToSum, ToResident, ToPlace, ToSlot, slot_place, sum_register, first_register, second_register, last_place, is_resident, to_sum, source_of, target_of}
 use Rattle.orc_region.specs.Elements.{sum_byte}
 use Rattle.orc_region.proofs.Block.Places.{by_source, by_target}
 

@@ -1,5 +1,5 @@
 -- The running sums that stand in registers go there before the first row of a call, and back to the frame after its last.
-use Rattle.std.proofs.Common.{◌≡◌, ◌≢◌, ℕ, zero, suc, ◌+◌, ◌*◌, ◌^◌, ◌<◌, ◌≤◌, Bool, true, false, if◌then◌else◌, List, [], ◌∷◌, ◌++◌, get_or, length, Some, is_some, refl, sym, ap, ◌∙◌, subst, arith, length-append, inl, inr, ⊎_elim}
+use Rattle.std.proofs.Common.{◌≡◌, ℕ, zero, suc, ◌+◌, ◌^◌, ◌<◌, ◌≤◌, if◌then◌else◌, List, [], ◌∷◌, get_or, length, Some, is_some, refl, sym, ap, ◌∙◌, subst, arith, length-append, inr, ⊎_elim}
 use Rattle.std.proofs.lemmas.Bool.{cases_eq, cases_lt}
 use Rattle.orc_bits.specs.Memory.{IsMapped}
 use Rattle.orc_bits.proofs.Memories.{or_else}
