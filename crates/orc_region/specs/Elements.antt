@@ -27,8 +27,7 @@ use Rattle.orc_frame.specs.Subject.{Call, IsArray, VerySame, cell, rows}
 use Rattle.orc_region.specs.Code.{pointer, last_place, is_resident, sum_register}
 use Rattle.orc_region.specs.Stores.{TouchesCell, StoresFirst}
 
--- ---- of which function placed steps and a layout are
-
+-- placed steps and a layout are of this function
 pub record AreOf (f : FunctionValue) (p : PlacedValue) (l : Layout) : Type 0 where
   pub kept : is_function f ≡ true
   pub steps : p.core.steps ≡ steps_of f
@@ -56,10 +55,11 @@ PointsAt f args r i c = (k : ℕ) → IsArray (subject_of f) k → c.gpr (pointe
 abbrev pub sum_byte : ℕ → ℕ → Core → ℕ → ℕ → Option ℕ
 sum_byte last rsp c g b = if is_resident last g then Some (get_or (c.xmm (sum_register g)) b 0) else c.memory (rsp + sum_slot g + b)
 
--- where emulation has the state e: RSP is lowered, RDI has the block's address, memory outside the frame is emulation's, and the frame and the registers of running sums hold what the layout says; `at` are the places of values
+-- where emulation has the state e, and values have these places: RSP is lowered, and RDI has the block's address
 pub record Holds (f : FunctionValue) (at : List ℕ) (s : Core) (args : Call) (e : State) (c : Core) : Type 0 where
   pub stack : c.gpr 4 ≡ lowered s
   pub block : c.gpr 7 ≡ s.gpr 7
+  -- outside the frame memory is emulation's, and no byte was unmapped
   pub agree : (a : ℕ) → (InFrame (lowered s) a → ⊥) → c.memory a ≡ e.memory a
   pub mapped : (a : ℕ) → IsMapped s.memory a → IsMapped c.memory a
   -- each pattern's bytes are in its slot

@@ -24,7 +24,7 @@ use Rattle.orc_asm.specs.Rows.{rows_code, row_entry_code, row_step_code, row_flo
 use Rattle.orc_region.proofs.Block.Registers.{not_4, not_7}
 use Rattle.orc_region.proofs.Block.Keeping.{line_bounded, ins_of}
 use Rattle.orc_asm.proofs.Row.Emulated.{more_rows}
-use Rattle.orc_region.proofs.Calls.Cells.{Arrays, call, P, row_base, base_small, first_base, next_base, rows_small, dest_cell, cell_block}
+use Rattle.orc_region.proofs.Calls.Cells.{Arrays, stack_room, call, P, row_base, base_small, first_base, next_base, rows_small, dest_cell, cell_block}
 use Rattle.orc_asm.proofs.Row.Counts.{fine_rows, fine_row_entry, fine_row_step, row_entry_count, row_step_count, row_entry_free, row_step_free}
 use Rattle.orc_asm.proofs.Row.Lines.{InRows, OnWay, TouchesFew, HasRows, rows_line, row_entry_line, row_step_line}
 
@@ -64,7 +64,7 @@ module _ (f : FunctionValue) (known : Arrays f) (code : Placed) (s : Point) (arg
   slot_base = row_base f known code s args back good
 
   pub stack_low : rsp + (frame_size + 8) ≤ 2 ^ 47
-  stack_low = (let a = good.frame_room in let b = good.return_low in omega (arith, a, b))
+  stack_low = stack_room f known code s args back good
 
   in_frame : (x : ℕ) → InRows rsp rdi stack_low good.block_low x → Frame x
   in_frame x h = (omega (arith, h.0), omega (arith, h.1))

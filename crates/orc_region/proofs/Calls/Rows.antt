@@ -39,8 +39,8 @@ use Rattle.orc_region.proofs.Turn.Advancing.{Setting, IsCell, IsDestCell, Inside
 use Rattle.orc_region.proofs.Turn.Lists.{stand_is, turn_few, aligned_few}
 use Rattle.orc_region.proofs.Turn.Operands.{turn_light, aligned_light}
 use Rattle.orc_region.proofs.Turn.Rounds.{Outside, At, plain_done, aligned_done}
-use Rattle.orc_region.proofs.Calls.Cells.{Arrays, mapped, cell_cells, cell_at, cell_frame}
-use Rattle.orc_region.proofs.Calls.Setting.{meant, base, numbers, Emul, Slot, setting, apart, changed_frame, stack_room}
+use Rattle.orc_region.proofs.Calls.Cells.{Arrays, stack_room, mapped, cell_cells, cell_at, cell_frame}
+use Rattle.orc_region.proofs.Calls.Setting.{meant, base, numbers, Emul, Slot, setting, apart, changed_frame}
 use Rattle.orc_region.proofs.Calls.Holding.{totals_in, framed_in, agrees_in, holds_again}
 use Rattle.orc_region.proofs.Calls.Wide.{by_pointer, cell_weight, part_wide}
 use Rattle.orc_region.proofs.Calls.Doing.{OnWay, Leaves, doing}
@@ -165,7 +165,7 @@ module _ (f : FunctionValue) (is : is_function f ≡ true) (at : List ℕ) (sing
       Q = OnWay f code s args back good r 0 args.n Wanted c
 
       abbrev Calm : Core → Type 0
-      Calm = Outside args.n Base Slots (numbers f is known code s args back good at) low plan Emulates (InFrame low) first (s.core.gpr 7) c.memory Q (stack_room f is known code s args back good) in_frame
+      Calm = Outside args.n Base Slots (numbers f is known code s args back good at) low plan Emulates (InFrame low) first (s.core.gpr 7) c.memory Q (stack_room f known code s args back good) in_frame
 
       quietly : (u : Core) → ((a : ℕ) → (IsRowDest a → ⊥) → (InChanged low (numbers f is known code s args back good at).sums a → ⊥) → (InFree a → ⊥) → u.memory a ≡ c.memory a) → IsQuiet f s.core args r 0 args.n c u
       quietly u w a nd nf = w a (λ t. nd (row_dests a t)) (λ t. nf (changed_frame f is known code s args back good at a t)) (λ t. nf (free_frame a t))
@@ -183,7 +183,7 @@ module _ (f : FunctionValue) (is : is_function f ≡ true) (at : List ℕ) (sing
       }
 
       abbrev Place : ℕ → Core → Type 0
-      Place = At args.n Base Slots (numbers f is known code s args back good at) low plan Emulates (InFrame low) first (s.core.gpr 7) c.memory Q (stack_room f is known code s args back good) in_frame
+      Place = At args.n Base Slots (numbers f is known code s args back good at) low plan Emulates (InFrame low) first (s.core.gpr 7) c.memory Q (stack_room f known code s args back good) in_frame
 
       place_first : Place 0 c
       place_first = record {
@@ -230,7 +230,7 @@ module _ (f : FunctionValue) (is : is_function f ≡ true) (at : List ℕ) (sing
       none_filled empty w = true≢false (sym (filled_is (count_of kind.Dest f.vars) (lanes f) (size 0) w.2.0 w.0) ∙ empty)
 
       plain : fills f ≡ false → Goes (plain_row (lanes f) by_one by_more) 4
-      plain empty = plain_done args.n Base Slots (numbers f is known code s args back good at) low plan Emulates (InFrame low) first (s.core.gpr 7) c.memory Q (stack_room f is known code s args back good) in_frame Free calmly by_pointer refl more (set (lanes f) more x.more.1) (lanes f) (lanes_count f is).some (lanes_count f is).most
+      plain empty = plain_done args.n Base Slots (numbers f is known code s args back good at) low plan Emulates (InFrame low) first (s.core.gpr 7) c.memory Q (stack_room f known code s args back good) in_frame Free calmly by_pointer refl more (set (lanes f) more x.more.1) (lanes f) (lanes_count f is).some (lanes_count f is).most
           able_one.fit able_one.turn able_more.fit able_more.turn each some few_one few_more light_one light_more (none_filled empty) c place_first counter
 
       -- where some element of the first dest begins at a multiple of 16, it does so by the row's base
@@ -241,7 +241,7 @@ module _ (f : FunctionValue) (is : is_function f ≡ true) (at : List ℕ) (sing
 
       filled : (acts : List Action) → Stored f at (lanes f) acts → length (blocks_turn_code (plan_with f acts) (aligned_first true) (lanes f) 1) ≤ each → weigh cell_weight (blocks_turn_code (plan_with f acts) (aligned_first true) (lanes f) 1) ≤ some
           → Goes (aligned_row (shift_of (size 0)) (lanes f) by_one by_more (Repeat Ns (Plain (blocks_turn_code (plan_with f acts) (aligned_first true) (lanes f) 1)))) 19
-      filled acts y short light = aligned_done args.n Base Slots (numbers f is known code s args back good at) low plan Emulates (InFrame low) first (s.core.gpr 7) c.memory Q (stack_room f is known code s args back good) in_frame Free calmly by_pointer refl more (set (lanes f) more x.more.1) (lanes f) (lanes_count f is).some (lanes_count f is).most
+      filled acts y short light = aligned_done args.n Base Slots (numbers f is known code s args back good at) low plan Emulates (InFrame low) first (s.core.gpr 7) c.memory Q (stack_room f known code s args back good) in_frame Free calmly by_pointer refl more (set (lanes f) more x.more.1) (lanes f) (lanes_count f is).some (lanes_count f is).most
           able_one.fit able_one.turn able_more.fit able_more.turn each some few_one few_more light_one light_more
           acts (set (lanes f) acts y.able.are) y.able.fit y.able.turn (shift_of (size 0)) y.shift y.full y.some y.size y.block y.turn short light (some_reached (shift_of (size 0)) y.size) c place_first counter
 

@@ -1,5 +1,5 @@
 -- The elements of a row of a good call are what the laws of blocks, turns and rows ask for.
-use Rattle.std.proofs.Common.{◌≡◌, ℕ, ◌+◌, ◌*◌, ◌^◌, ◌<◌, ◌≤◌, true, List, [], length, refl, sym, ap, ◌∙◌, subst, arith, ⊎_elim}
+use Rattle.std.proofs.Common.{◌≡◌, ℕ, ◌+◌, ◌*◌, ◌<◌, ◌≤◌, true, List, [], length, refl, sym, ap, ◌∙◌, subst, arith, ⊎_elim}
 use Rattle.orc_bits.specs.Memory.{Memory}
 use Rattle.orc_program.specs.declared.program.VarKind.TheVariants as kind
 use Rattle.orc_program.specs.declared.call.Call.{Call}
@@ -12,7 +12,7 @@ use Rattle.orc_plan.specs.Lowered.{steps_of}
 use Rattle.orc_plan.specs.Places.{GoodPlaces}
 use Rattle.x86_ins.specs.Machine.{Point}
 use Rattle.x86_ins.specs.Way.{Placed}
-use Rattle.orc_frame.specs.Layout.{layout_of, frame_size}
+use Rattle.orc_frame.specs.Layout.{layout_of}
 use Rattle.orc_frame.specs.Parts.{InFrame, InChanged}
 use Rattle.orc_frame.specs.Subject.{Call as Arguments, rows}
 use Rattle.orc_frame.specs.GoodCall.{GoodCall, lowered}
@@ -31,7 +31,7 @@ use Rattle.orc_region.proofs.Checked.Knows.{numbers_of, all_meant, all_known}
 use Rattle.orc_region.proofs.Checked.Layouts.{patterns_are, sizes_are}
 use Rattle.orc_region.proofs.Turn.Advancing.{Setting}
 use Rattle.orc_region.proofs.Turn.Lists.{stand_is}
-use Rattle.orc_region.proofs.Calls.Cells.{Arrays, arrays, call, P, row_base, low, separate, decided, slot_at, cell_is, cell_cells, cell_frame}
+use Rattle.orc_region.proofs.Calls.Cells.{Arrays, stack_room, arrays, call, P, row_base, low, separate, decided, slot_at, cell_is, cell_cells, cell_frame}
 
 -- the accumulators of a function, by its layout
 pub sums_count : (f : FunctionValue) → length (layout_of f).acc_sizes.items ≡ count_of kind.Accumulator f.vars
@@ -51,9 +51,6 @@ module _ (f : FunctionValue) (is : is_function f ≡ true) (known : Arrays f) (c
   abbrev pub Frame : ℕ → Type 0
   Frame = InFrame rsp
 
-  pub stack_room : rsp + (frame_size + 8) ≤ 2 ^ 47
-  stack_room = (let a = good.frame_room in let b = good.return_low in omega (arith, a, b))
-
   fact : Facts (layout_of f)
   fact = facts (layout_of f) (f, is, refl)
 
@@ -61,7 +58,7 @@ module _ (f : FunctionValue) (is : is_function f ≡ true) (known : Arrays f) (c
   few_patterns = (let a = fact.few_patterns in subst (λ l. length l ≤ 48) (patterns_are f) a)
 
   pub is_frame : (at : List ℕ) → GoodPlaces (steps_of f) at → IsFrame (numbers at) rsp
-  is_frame at places_are = record { few_patterns = few_patterns; few_sums = known.few.accs; low = (let a = stack_room in omega (arith, a)); few_places = last_below at places_are.below }
+  is_frame at places_are = record { few_patterns = few_patterns; few_sums = known.few.accs; low = (let a = stack_room f known code s args back good in omega (arith, a)); few_places = last_below at places_are.below }
 
   pub changed_frame : (at : List ℕ) (a : ℕ) → InChanged rsp (numbers at).sums a → Frame a
   changed_frame at a h = ⊎_elim (λ i. (omega (arith, i.0), omega (arith, i.1, known.few.accs))) (λ i. (omega (arith, i.0), i.1)) h
