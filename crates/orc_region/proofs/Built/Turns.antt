@@ -110,7 +110,7 @@ module _ (f : FunctionValue) (at sizes : List ℕ) (steps : List Step) (x : Lowe
     block_spelled_of aligned list t = block_spelled f x.kept at good count several aligned list t
 
     -- with aligned stores where they were asked for and elements of the first dest fill a register
-    pub does_block : (aligned stored : Bool) → stored ≡ aligned && (count * slice_index sizes 0 == 16) → (list : List Ins) → IsBlock f at count stored list → DoesElements f count aligned list
+    pub does_block : (aligned stored : Bool) → stored ≡ aligned && (count * slice_index sizes 0 == 16) → (list : List Ins) → IsBlock f at count stored list → DoesElements f at count aligned list
     does_block aligned stored e list t = does_elements f x.kept at good count several aligned stored asked given list t
       where
         asked : stored ≡ true → (0 < count_of kind.Dest f.vars) × (count * size_of_slot f.vars 0 ≡ 16) × (aligned ≡ true)
@@ -153,12 +153,12 @@ module _ (f : FunctionValue) (at sizes : List ℕ) (steps : List Step) (x : Lowe
   more_is : IsTurn f at (lanes f) turn
   more_is = subst (λ k. IsTurn f at k turn) n_is more
 
-  pub plain_elements : n * first ≢ 16 → (t : Tree) → flat_of t ≡ flat (plain_row n (Plain tail) (Plain (flat_of wide))) → IsElements f t
+  pub plain_elements : n * first ≢ 16 → (t : Tree) → flat_of t ≡ flat (plain_row n (Plain tail) (Plain (flat_of wide))) → IsElements f at t
   plain_elements test t e = (
     tail,
     turn,
     [],
-    record { at = at; good = good f at sizes steps x; one = one; more = more_is; stored = λ y. absurd (true≢false (sym y ∙ empty)) },
+    record { good = good f at sizes steps x; one = one; more = more_is; stored = λ y. absurd (true≢false (sym y ∙ empty)) },
     e ∙ ap₂ (λ k w. flat (plain_row k (Plain tail) (Plain w))) n_is wide_flat ∙ sym (ap (λ b. flat (elements_flow b (shift_of size_first) (lanes f) tail turn [])) empty),
   )
     where
@@ -175,12 +175,12 @@ module _ (f : FunctionValue) (at sizes : List ℕ) (steps : List Step) (x : Lowe
     aligned_flat : flat_of aligned ≡ loop_code Ns list
     aligned_flat = aligned_is ∙ ap (loop_code Ns) stores_are
 
-    pub aligned_elements : (head : List Ins) (shift : ℕ) → head ≡ tail → shift ≡ shift_of first → (t : Tree) → flat_of t ≡ flat (aligned_row shift n (Plain head) (Plain (flat_of wide)) (Plain (flat_of aligned))) → IsElements f t
+    pub aligned_elements : (head : List Ins) (shift : ℕ) → head ≡ tail → shift ≡ shift_of first → (t : Tree) → flat_of t ≡ flat (aligned_row shift n (Plain head) (Plain (flat_of wide)) (Plain (flat_of aligned))) → IsElements f at t
     aligned_elements head shift same s t e = (
       tail,
       turn,
       list,
-      record { at = at; good = good f at sizes steps x; one = one; more = more_is; stored = λ y. subst (λ k. IsAlignedTurn f at k list) n_is stored },
+      record { good = good f at sizes steps x; one = one; more = more_is; stored = λ y. subst (λ k. IsAlignedTurn f at k list) n_is stored },
       e
           ∙ ap₂ (λ k h. flat (aligned_row k n (Plain h) (Plain (flat_of wide)) (Plain (flat_of aligned)))) (s ∙ ap shift_of (first_size some_dest)) same
           ∙ ap₂ (λ k w. flat (aligned_row (shift_of size_first) k (Plain tail) (Plain w) (Plain (flat_of aligned)))) n_is wide_flat
@@ -203,20 +203,20 @@ fits_loop : (list : List Ins) → Fits 200000 list → Fits 200012 (loop_code Ns
 fits_loop list h = (let b = h.bytes in record { allowed = loop_fine Ns list (omega (arith, b)) h.allowed; bytes = omega (arith, loop_size Ns list, b) })
 
 -- they are allowed, and are few
-pub fits_elements : (f : FunctionValue) → is_function f ≡ true → (single wide aligned : List Ins) → Turns f single wide aligned → Fits 900000 (flat (elements_of f single wide aligned))
-fits_elements f h single wide aligned t = go (is_filled (count_of kind.Dest f.vars) (lanes f) (size_of_slot f.vars 0)) refl
+pub fits_elements : (f : FunctionValue) → is_function f ≡ true → (at : List ℕ) (single wide aligned : List Ins) → Turns f at single wide aligned → Fits 900000 (flat (elements_of f single wide aligned))
+fits_elements f h at single wide aligned t = go (is_filled (count_of kind.Dest f.vars) (lanes f) (size_of_slot f.vars 0)) refl
   where
     most : lanes f ≤ 64
     most = lanes_few f h (lanes f) refl
 
     fits_one : Fits 200000 single
-    fits_one = record { allowed = all_allowed single (turn_fine f h t.at t.good 1 (one_count f h) single t.one); bytes = turn_size f h t.at t.good 1 (one_count f h) single t.one }
+    fits_one = record { allowed = all_allowed single (turn_fine f h at t.good 1 (one_count f h) single t.one); bytes = turn_size f h at t.good 1 (one_count f h) single t.one }
 
     fits_more : Fits 200000 wide
-    fits_more = record { allowed = all_allowed wide (turn_fine f h t.at t.good (lanes f) (lanes_count f h) wide t.more); bytes = turn_size f h t.at t.good (lanes f) (lanes_count f h) wide t.more }
+    fits_more = record { allowed = all_allowed wide (turn_fine f h at t.good (lanes f) (lanes_count f h) wide t.more); bytes = turn_size f h at t.good (lanes f) (lanes_count f h) wide t.more }
 
-    fits_stored : IsAlignedTurn f t.at (lanes f) aligned → Fits 200000 aligned
-    fits_stored s = record { allowed = all_allowed aligned (aligned_fine f h t.at t.good (lanes f) (lanes_count f h) aligned s); bytes = aligned_size f h t.at t.good (lanes f) (lanes_count f h) aligned s }
+    fits_stored : IsAlignedTurn f at (lanes f) aligned → Fits 200000 aligned
+    fits_stored s = record { allowed = all_allowed aligned (aligned_fine f h at t.good (lanes f) (lanes_count f h) aligned s); bytes = aligned_size f h at t.good (lanes f) (lanes_count f h) aligned s }
 
     go : (b : Bool) → is_filled (count_of kind.Dest f.vars) (lanes f) (size_of_slot f.vars 0) ≡ b → Fits 900000 (flat (elements_of f single wide aligned))
     go true e =
@@ -226,5 +226,5 @@ fits_elements f h single wide aligned t = go (is_filled (count_of kind.Dest f.va
         let fits = fits_plain (Plain single) (Repeat Ns (Plain wide)) (Repeat Ns (Plain wide)) (lanes f) 200000 200012 200012 most (omega arith) (omega arith) (omega arith) fits_one (fits_loop wide fits_more) (fits_loop wide fits_more) in
         subst (λ b. Fits 900000 (flat (elements_flow b (shift_of (size_of_slot f.vars 0)) (lanes f) single wide aligned))) (sym e) (record { allowed = fits.allowed; bytes = (let b = fits.bytes in omega (arith, b)) })
 
-pub elements_few : (f : FunctionValue) → is_function f ≡ true → (t : Tree) → IsElements f t → size (flat_of t) ≤ 900000
-elements_few f h t (single, wide, aligned, turns, e) = (let b = (fits_elements f h single wide aligned turns).bytes in omega (arith, ap size e, b))
+pub elements_few : (f : FunctionValue) → is_function f ≡ true → (at : List ℕ) (t : Tree) → IsElements f at t → size (flat_of t) ≤ 900000
+elements_few f h at t (single, wide, aligned, turns, e) = (let b = (fits_elements f h at single wide aligned turns).bytes in omega (arith, ap size e, b))

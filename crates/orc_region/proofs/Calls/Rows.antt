@@ -61,12 +61,9 @@ most_turn f = cost f + arrays_of f + 1
 besides_fit : (dests lanes size sources : ℕ) → is_filled dests lanes size ≡ true → 19 ≤ 17 + 3 * (dests + sources)
 besides_fit dests lanes size sources e = (let some = ltb-true 0 dests (both (nat_lt 0 dests) (lanes * size == 16) e).0 in omega (arith, some))
 
-module _ (f : FunctionValue) (is : is_function f ≡ true) (single wide aligned : List Ins) (x : Turns f single wide aligned) where
+module _ (f : FunctionValue) (is : is_function f ≡ true) (at : List ℕ) (single wide aligned : List Ins) (x : Turns f at single wide aligned) where
   abbrev known : Arrays f
   known = arrays_known f is
-
-  abbrev at : List ℕ
-  at = x.at
 
   abbrev size : ℕ → ℕ
   size = size_of_slot f.vars
@@ -91,12 +88,12 @@ module _ (f : FunctionValue) (is : is_function f ≡ true) (single wide aligned 
     abbrev low : ℕ
     low = lowered s.core
 
-    module _ (e : State) (come : HasCome f args s.core.memory r 0 e) (c : Core) (h : Holds f s.core args e c) (points : PointsAt f args r 0 c) (counter : c.gpr 1 ≡ args.n) where
+    module _ (e : State) (come : HasCome f args s.core.memory r 0 e) (c : Core) (h : Holds f at s.core args e c) (points : PointsAt f args r 0 c) (counter : c.gpr 1 ≡ args.n) where
       abbrev Emulates : ℕ → Memory → (ℕ → ℕ) → Type 0
       Emulates = Emul f is known code s args back good r row come.0
 
-      set : (count : ℕ) (actions : List Action) → AreActions at count (steps_of f) actions → Setting args.n Base Slots (numbers f is known code s args back good) low (plan_with f actions) Emulates (InFrame low)
-      set count actions are = setting f is known code s args back good r row at (stand_is f is at x.good) come.0 count actions are
+      set : (count : ℕ) (actions : List Action) → AreActions at count (steps_of f) actions → Setting args.n Base Slots (numbers f is known code s args back good at) low (plan_with f actions) Emulates (InFrame low)
+      set count actions are = setting f is known code s args back good r row at x.good come.0 count actions are
 
       abbrev one : List Action
       one = x.one.0
@@ -107,29 +104,29 @@ module _ (f : FunctionValue) (is : is_function f ≡ true) (single wide aligned 
       abbrev plan : Plan
       plan = plan_with f one
 
-      first : Setting args.n Base Slots (numbers f is known code s args back good) low plan Emulates (InFrame low)
+      first : Setting args.n Base Slots (numbers f is known code s args back good at) low plan Emulates (InFrame low)
       first = set 1 one x.one.1
 
       abbrev Within : ℕ → Memory → (ℕ → ℕ) → Core → Type 0
-      Within = Inside args.n Base Slots (numbers f is known code s args back good) low plan Emulates (InFrame low) first (s.core.gpr 7) c.memory
+      Within = Inside args.n Base Slots (numbers f is known code s args back good at) low plan Emulates (InFrame low) first (s.core.gpr 7) c.memory
 
       abbrev IsRowCell : ℕ → Type 0
-      IsRowCell = IsCell args.n Base Slots (numbers f is known code s args back good) low plan Emulates (InFrame low) first
+      IsRowCell = IsCell args.n Base Slots (numbers f is known code s args back good at) low plan Emulates (InFrame low) first
 
       abbrev IsRowDest : ℕ → Type 0
-      IsRowDest = IsDestCell args.n Base Slots (numbers f is known code s args back good) low plan Emulates (InFrame low) first
+      IsRowDest = IsDestCell args.n Base Slots (numbers f is known code s args back good at) low plan Emulates (InFrame low) first
 
       row_cell : (a : ℕ) → IsRowCell a → IsCellByte f (meant f is known code s args back good) a
       row_cell a w = subst (IsCellByte f (meant f is known code s args back good)) (sym w.6) (cell_cells f known code s args back good r row w.0 w.1 w.2 w.3 w.4 w.5)
 
-      begins : Within 0 e.memory (totals_in f is known code s args back good e c h) c
+      begins : Within 0 e.memory (totals_in f is known code s args back good at e c h) c
       begins = record {
         pointers = λ k hk. points k hk ∙ from_row (args.base k + r * args.stride k) (0 * size k);
         block = h.block;
         calm = record { stack = h.stack; quiet = λ a m n. refl };
         agree = h.agree;
         mapped = λ a w. let m = row_cell a w in subst (λ o. is_some o ≡ true) (h.agree a (cell_frame f known code s args back good a m)) (h.mapped a (mapped f known code s args back good a m));
-        framed = framed_in f is known code s args back good e c h;
+        framed = framed_in f is known code s args back good at e c h;
         bounded = h.bounded;
       }
 
@@ -168,10 +165,10 @@ module _ (f : FunctionValue) (is : is_function f ≡ true) (single wide aligned 
       Q = OnWay f code s args back good r 0 args.n Wanted c
 
       abbrev Calm : Core → Type 0
-      Calm = Outside args.n Base Slots (numbers f is known code s args back good) low plan Emulates (InFrame low) first (s.core.gpr 7) c.memory Q (stack_room f known code s args back good) in_frame
+      Calm = Outside args.n Base Slots (numbers f is known code s args back good at) low plan Emulates (InFrame low) first (s.core.gpr 7) c.memory Q (stack_room f known code s args back good) in_frame
 
-      quietly : (u : Core) → ((a : ℕ) → (IsRowDest a → ⊥) → (InChanged low (numbers f is known code s args back good).sums a → ⊥) → (InFree a → ⊥) → u.memory a ≡ c.memory a) → IsQuiet f s.core args r 0 args.n c u
-      quietly u w a nd nf = w a (λ t. nd (row_dests a t)) (λ t. nf (changed_frame f is known code s args back good a t)) (λ t. nf (free_frame a t))
+      quietly : (u : Core) → ((a : ℕ) → (IsRowDest a → ⊥) → (InChanged low (numbers f is known code s args back good at).sums a → ⊥) → (InFree a → ⊥) → u.memory a ≡ c.memory a) → IsQuiet f s.core args r 0 args.n c u
+      quietly u w a nd nf = w a (λ t. nd (row_dests a t)) (λ t. nf (changed_frame f is known code s args back good at a t)) (λ t. nf (free_frame a t))
 
       touched : (u : Core) (ins : Ins) → TouchesPart args.n Base size Slots low Free u ins → (a : ℕ) → Touches ins u a → These (IsArray (subject_of f)) a ⊎ InFrame low a
       touched u ins (inl g) a t = inr (g a t)
@@ -186,16 +183,16 @@ module _ (f : FunctionValue) (is : is_function f ≡ true) (single wide aligned 
       }
 
       abbrev Place : ℕ → Core → Type 0
-      Place = At args.n Base Slots (numbers f is known code s args back good) low plan Emulates (InFrame low) first (s.core.gpr 7) c.memory Q (stack_room f known code s args back good) in_frame
+      Place = At args.n Base Slots (numbers f is known code s args back good at) low plan Emulates (InFrame low) first (s.core.gpr 7) c.memory Q (stack_room f known code s args back good) in_frame
 
       place_first : Place 0 c
       place_first = record {
         e = e.memory;
-        totals = totals_in f is known code s args back good e c h;
+        totals = totals_in f is known code s args back good at e c h;
         mem = c.memory;
         near = λ a k t w. refl;
         inside = begins;
-        emulated = record { temps = e.temps; sums = e.sums; is = come.2; agrees = agrees_in f is known code s args back good e c h };
+        emulated = record { temps = e.temps; sums = e.sums; is = come.2; agrees = agrees_in f is known code s args back good at e c h };
         there = λ a w. h.mapped a (good.frame a (free_frame a w));
       }
 
@@ -233,7 +230,7 @@ module _ (f : FunctionValue) (is : is_function f ≡ true) (single wide aligned 
       none_filled empty w = true≢false (sym (filled_is (count_of kind.Dest f.vars) (lanes f) (size 0) w.2.0 w.0) ∙ empty)
 
       plain : fills f ≡ false → Goes (plain_row (lanes f) by_one by_more) 4
-      plain empty = plain_done args.n Base Slots (numbers f is known code s args back good) low plan Emulates (InFrame low) first (s.core.gpr 7) c.memory Q (stack_room f known code s args back good) in_frame Free calmly by_pointer refl more (set (lanes f) more x.more.1) (lanes f) (lanes_count f is).some (lanes_count f is).most
+      plain empty = plain_done args.n Base Slots (numbers f is known code s args back good at) low plan Emulates (InFrame low) first (s.core.gpr 7) c.memory Q (stack_room f known code s args back good) in_frame Free calmly by_pointer refl more (set (lanes f) more x.more.1) (lanes f) (lanes_count f is).some (lanes_count f is).most
           able_one.fit able_one.turn able_more.fit able_more.turn each some few_one few_more light_one light_more (none_filled empty) c place_first counter
 
       -- where some element of the first dest begins at a multiple of 16, it does so by the row's base
@@ -244,7 +241,7 @@ module _ (f : FunctionValue) (is : is_function f ≡ true) (single wide aligned 
 
       filled : (acts : List Action) → Stored f at (lanes f) acts → length (blocks_turn_code (plan_with f acts) (aligned_first true) (lanes f) 1) ≤ each → weigh cell_weight (blocks_turn_code (plan_with f acts) (aligned_first true) (lanes f) 1) ≤ some
           → Goes (aligned_row (shift_of (size 0)) (lanes f) by_one by_more (Repeat Ns (Plain (blocks_turn_code (plan_with f acts) (aligned_first true) (lanes f) 1)))) 19
-      filled acts y short light = aligned_done args.n Base Slots (numbers f is known code s args back good) low plan Emulates (InFrame low) first (s.core.gpr 7) c.memory Q (stack_room f known code s args back good) in_frame Free calmly by_pointer refl more (set (lanes f) more x.more.1) (lanes f) (lanes_count f is).some (lanes_count f is).most
+      filled acts y short light = aligned_done args.n Base Slots (numbers f is known code s args back good at) low plan Emulates (InFrame low) first (s.core.gpr 7) c.memory Q (stack_room f known code s args back good) in_frame Free calmly by_pointer refl more (set (lanes f) more x.more.1) (lanes f) (lanes_count f is).some (lanes_count f is).most
           able_one.fit able_one.turn able_more.fit able_more.turn each some few_one few_more light_one light_more
           acts (set (lanes f) acts y.able.are) y.able.fit y.able.turn (shift_of (size 0)) y.shift y.full y.some y.size y.block y.turn short light (some_reached (shift_of (size 0)) y.size) c place_first counter
 
@@ -268,7 +265,7 @@ module _ (f : FunctionValue) (is : is_function f ≡ true) (single wide aligned 
       -- ---- what they leave
 
       abbrev Left : ℕ → List Ins → Core → Type 0
-      Left steps = Leaves f code s args back good r 0 args.n Wanted c steps (turns (lanes f) args.n * some)
+      Left steps = Leaves f code s args back good r 0 args.n Wanted c at steps (turns (lanes f) args.n * some)
 
       pub row_does : (done : List Ins) × (d : Core) × Does Q (elements_of f single wide aligned) c done d × Left (regions_of (most_besides f) (lanes f) each args.n) done d
       row_does =
@@ -277,7 +274,7 @@ module _ (f : FunctionValue) (is : is_function f ≡ true) (single wide aligned 
           let p = y.3 in
           let w = p.inside in
           let t : State = state p.e p.emulated.temps p.emulated.sums in
-          let only : (a : ℕ) → (IsRowDest a → ⊥) → (InChanged low (numbers f is known code s args back good).sums a → ⊥) → (InFree a → ⊥) → d.memory a ≡ c.memory a = λ a k t z. w.calm.quiet a k t ∙ p.near a k t z in (
+          let only : (a : ℕ) → (IsRowDest a → ⊥) → (InChanged low (numbers f is known code s args back good at).sums a → ⊥) → (InFree a → ⊥) → d.memory a ≡ c.memory a = λ a k t z. w.calm.quiet a k t ∙ p.near a k t z in (
             y.0,
             d,
             y.2,
@@ -287,7 +284,7 @@ module _ (f : FunctionValue) (is : is_function f ≡ true) (single wide aligned 
               short = (let b = few_besides (fills f) refl in omega (arith, y.4, b));
               light = y.5;
               quiet = quietly d only;
-              holds = holds_again f is known code s args back good t d p.totals w.framed p.emulated.agrees w.calm.stack w.block w.agree (λ a m. does_keeps Q a (elements_of f single wide aligned) c y.0 d y.2 (h.mapped a m)) w.bounded;
+              holds = holds_again f is known code s args back good at t d p.totals w.framed p.emulated.agrees w.calm.stack w.block w.agree (λ a m. does_keeps Q a (elements_of f single wide aligned) c y.0 d y.2 (h.mapped a m)) w.bounded;
               words = λ a q. only a (λ t. dest_frame a t (words_frame low a q)) (words_kept low (count_of kind.Accumulator f.vars) a known.few.accs q) (λ z. omega (arith, q.1, z.0));
             },
           )
@@ -297,15 +294,15 @@ module _ (f : FunctionValue) (is : is_function f ≡ true) (single wide aligned 
   more_steps : (besides t turn : ℕ) → besides + t * (2 + (turn + 1)) ≤ besides + t * (turn + 6)
   more_steps besides t turn = (let m : t * (2 + (turn + 1)) ≤ t * (turn + 6) = mul-le-mul_left t (omega arith) in omega (arith, m))
 
-  pub does_flow : DoesRow f (flat (elements_of f single wide aligned))
+  pub does_flow : DoesRow f at (flat (elements_of f single wide aligned))
   does_flow code s args back good from stands r row e come c h points counter =
       let y = row_does code s args back good r row e come c h points counter in
       let l = y.3 in
       let steps = more_steps (most_besides f) (turns (lanes f) args.n) (cost f + arrays_of f) in
-      let z = doing f code s args back good r 0 args.n (Wanted code s args back good r row) c (elements_of f single wide aligned) (fits_elements f is single wide aligned x).allowed from stands
+      let z = doing f code s args back good r 0 args.n (Wanted code s args back good r row) c at (elements_of f single wide aligned) (fits_elements f is at single wide aligned x).allowed from stands
       (most_besides f + turns (lanes f) args.n * (cost f + arrays_of f + 6)) (turns (lanes f) args.n * some) y.0 y.1 y.2 (record { e = l.e; come = l.come; short = omega (arith, l.short, steps); light = l.light; quiet = l.quiet; holds = l.holds; words = l.words }) in
       (z.0, λ full reached alone. z.2 (full, reached, alone))
 
 -- as the tree is built
-pub does_tree : (f : FunctionValue) → is_function f ≡ true → (tree : Tree) → IsElements f tree → DoesRow f (flat_of tree)
-does_tree f is tree (single, wide, aligned, turns, e) = subst (DoesRow f) (sym e) (does_flow f is single wide aligned turns)
+pub does_tree : (f : FunctionValue) → is_function f ≡ true → (at : List ℕ) (tree : Tree) → IsElements f at tree → DoesRow f at (flat_of tree)
+does_tree f is at tree (single, wide, aligned, turns, e) = subst (DoesRow f at) (sym e) (does_flow f is at single wide aligned turns)
