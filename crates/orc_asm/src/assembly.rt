@@ -15,7 +15,7 @@ use orc_frame::{epilogue, layout, prologue};
 use orc_plan::{Placed, lower, place};
 use orc_program::variables::count_of;
 use orc_program::{Function, VarKind};
-use orc_region::row_flow;
+use orc_region::{row_flow, sum_loads, sum_stores};
 use std::alloc::{AllocError, Global};
 
 /// Code that does in every good call what the function means, in at most as many steps as are stated. It does so inside any larger memory
@@ -79,9 +79,11 @@ fn code_of(alloc: Global, f: &Function, placed: &Placed) -> Result<Code, AllocEr
 {
     let counts = counts_of(f);
     let layout = layout(f);
-    let first = prologue(alloc, &layout)?;
+    let mut first = prologue(alloc, &layout)?;
+    first.append(sum_loads(alloc, placed, &layout)?)?;
     let elements = row_flow(alloc, placed, &layout)?;
-    let last = epilogue(alloc, &layout)?;
+    let mut last = sum_stores(alloc, placed, &layout)?;
+    last.append(epilogue(alloc, &layout)?)?;
     whole_code(
         alloc,
         &layout,

@@ -1,13 +1,12 @@
 -- The lines of a code.
-use Rattle.std.proofs.Common.{◌≡◌, ℕ, zero, suc, ◌+◌, ◌<◌, ◌≤◌, ◌/◌, ◌%◌, List, [], ◌∷◌, ◌++◌, length, take, drop, get_or, length-take, refl, sym, ap, ap₂, ◌∙◌, subst, append_assoc, add_assoc, arith, ◌⊎◌, inl, inr}
-use Rattle.std.proofs.lemmas.List.{append-nil, take_at, take_more, take-append-drop}
+use Rattle.std.proofs.Common.{◌≡◌, ℕ, zero, suc, ◌+◌, ◌<◌, ◌/◌, ◌%◌, List, [], ◌∷◌, ◌++◌, length, take, drop, get_or, length-take, refl, sym, ap, ◌∙◌, subst, append_assoc, add_assoc, arith, inr}
+use Rattle.std.proofs.lemmas.List.{append-nil, take_more, take-append-drop}
 use Rattle.std.specs.Prelude.{codes}
 use Rattle.x86_ins.specs.declared.ins.Ins.{Ins}
 use Rattle.x86_ins.specs.declared.ins.Ins.TheVariants.{Ret}
-use Rattle.x86_ins.specs.Spelling.{Decode, Begins, spelling}
+use Rattle.x86_ins.specs.Spelling.{Decode, spelling}
 use Rattle.x86_decode.proofs.Unique.{one_decoding}
-use Rattle.orc_image.specs.Mnemonics.{mnemonic}
-use Rattle.orc_image.specs.Listing.{Line, IsLine, IsKnown, IsBad, AreLines, line_text, lines_text, ListsCode, ListsFunctions, function_line, hex, hex_digit}
+use Rattle.orc_image.specs.Listing.{Line, IsLine, AreLines, line_text, lines_text, ListsCode, ListsFunctions, function_line, hex, hex_digit}
 use Rattle.orc_image.specs.Spelling.{FunctionValue}
 
 -- how many bytes lines have

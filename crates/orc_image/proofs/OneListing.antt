@@ -1,11 +1,10 @@
 -- An image has one listing.
-use Rattle.std.proofs.Common.{◌≡◌, ℕ, ◌+◌, ◌<◌, List, [], ◌∷◌, ◌++◌, length, take, drop, refl, sym, ap, ap₂, ◌∙◌, subst, arith, ◌⊎◌, inl, inr, length-append}
+use Rattle.std.proofs.Common.{◌≡◌, ℕ, ◌+◌, List, [], ◌∷◌, ◌++◌, length, take, drop, refl, sym, ap, ap₂, ◌∙◌, subst, arith, ◌⊎◌, inl, inr, length-append}
 use Rattle.std.proofs.lemmas.List.{take_at}
-use Rattle.x86_ins.specs.declared.ins.Ins.{Ins}
-use Rattle.x86_ins.specs.Spelling.{Decode, Begins}
+use Rattle.x86_ins.specs.Spelling.{Begins}
 use Rattle.x86_decode.proofs.Unique.{one_decoding}
 use Rattle.orc_image.specs.Mnemonics.{mnemonic}
-use Rattle.orc_image.specs.Spelling.{FunctionValue, ImageValue}
+use Rattle.orc_image.specs.Spelling.{FunctionValue}
 use Rattle.orc_image.specs.Listing.{Line, IsLine, IsKnown, IsBad, AreLines, lines_text, function_line, ListsCode, ListsFunctions, OneListing}
 use Rattle.orc_image.proofs.Lines.{some_bytes}
 

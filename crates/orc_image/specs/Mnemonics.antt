@@ -1,5 +1,5 @@
 -- The mnemonics of instructions (the instructions' pages of the Intel SDM, volumes 2A and 2B), in lower case.
-use Rattle.std.specs.Prelude.{ℕ, List, true, false, Bool, if◌then◌else◌, codes}
+use Rattle.std.specs.Prelude.{ℕ, List, true, false, Bool, codes}
 use Rattle.x86_ins.specs.declared.ins.VecOp.{VecOp}
 use Rattle.x86_ins.specs.declared.ins.VecOp.TheVariants as vec
 use Rattle.x86_ins.specs.declared.ins.VecImmOp.{VecImmOp}

@@ -1,8 +1,11 @@
 -- What a call's answer says of a field.
-use Rattle.std.specs.Prelude.{◌≡◌, Result, Ok, Err}
+use Rattle.std.specs.Prelude.{◌≡◌, ℕ, ◌+◌, ◌*◌, true, List, ◌++◌, length, Result, Ok, Err}
+use Rattle.std.specs.List.{list_all}
+use Rattle.orc_program.specs.Facts.{is_align_value}
 use Rattle.orc_image.specs.declared.error.ImageError.{ImageError}
 use Rattle.orc_image.specs.declared.error.ImageError.TheVariants.{BadMagic, BadVersion, Short, BadField, Memory}
-use Rattle.orc_image.specs.Fields.{Cursor, Field}
+use Rattle.orc_image.specs.Spelling.{slots_bytes}
+use Rattle.orc_image.specs.Fields.{Cursor, Field, ◌>>=◌}
 
 -- the answer, seen by `view`, and what is left are those of the field
 abbrev pub Gives : {X Y : Type 0} → (X → Y) → Result X ImageError → Cursor → Field Y → Type 0
@@ -17,3 +20,18 @@ UnlessMemory (Err BadMagic) P = P
 UnlessMemory (Err BadVersion) P = P
 UnlessMemory (Err (Short need)) P = P
 UnlessMemory (Err (BadField at)) P = P
+
+-- aligns that were read behind earlier ones
+abbrev pub with_aligns : List ℕ → Field (List ℕ) → Field (List ℕ)
+with_aligns earlier read = do
+  aligns ← read
+  Ok (earlier ++ aligns.0, aligns.1)
+
+-- so many slots spell the aligns that were added, as many as are used
+pub record HasAligns (slots used : ℕ) (before after : Cursor) (earlier all : List ℕ) : Type 0 where
+  pub added : List ℕ
+  pub behind : all ≡ earlier ++ added
+  pub rest : before.rest ≡ slots_bytes slots added ++ after.rest
+  pub at : after.at ≡ before.at + 2 * slots
+  pub count : length added ≡ used
+  pub allowed : list_all is_align_value added ≡ true

@@ -5,7 +5,7 @@
 pub enum ImageError {
     /// The first four bytes are not `ORCI`.
     BadMagic,
-    /// The version is not 1.
+    /// The version is neither 1 nor 2.
     BadVersion,
     /// The bytes end within a field, whose end is at this offset.
     Short {

@@ -1,12 +1,13 @@
 //! Images and their functions.
 
-ghost use Rattle.std.specs.Prelude.{◌≡◌, ◌<◌, ◌++◌, ◌∷◌, [], false, nat_eq, length, OnOk, OnErr};
+ghost use Rattle.std.specs.Prelude.{◌≡◌, ◌<◌, ◌++◌, ◌∷◌, [], true, false, nat_eq, length, OnOk, OnErr};
 ghost use Rattle.std.specs.Str.{bytes_eq};
 ghost use Rattle.std.specs.List.{list_any};
-ghost use Rattle.orc_image.specs.Spelling.{IsFunction, IsImage, is_among, names};
+ghost use Rattle.orc_program.specs.Facts.{is_free};
+ghost use Rattle.orc_image.specs.Spelling.{IsFunction, IsImage, is_version, is_among, names};
 
 use orc_bits::Code;
-use orc_program::Name;
+use orc_program::{Facts, Name};
 use sqlite_items::Items;
 use std::alloc::{AllocError, Global};
 use std::marker::Model;
@@ -26,6 +27,8 @@ pub struct ImageFunction {
     pub params: u8,
     /// How many accumulators it has, at most 4.
     pub accs: u8,
+    /// What every call of it meets, with an align for each array.
+    pub facts: Facts,
     /// Its machine code, of 1 to 1,048,576 bytes.
     pub code: Code,
 }
@@ -42,6 +45,7 @@ impl Model for ImageFunction {
       sources = f.sources;
       params = f.params;
       accs = f.accs;
+      facts = f.facts;
       code = f.code;
     } };
 
@@ -52,6 +56,7 @@ impl Model for ImageFunction {
       sources = f.sources;
       params = f.params;
       accs = f.accs;
+      facts = f.facts;
       code = f.code;
     } };
 }
@@ -59,9 +64,11 @@ impl Model for ImageFunction {
 /// The functions of an image, in order.
 pub type ImageFunctions = Items<ImageFunction>;
 
-/// An image: at most 64 functions of different names.
+/// An image: at most 64 functions of different names. Version 1 has no facts.
 #[derive(Debug, Drop)]
 pub struct Image {
+    /// The version of its spelling, 1 or 2.
+    pub version: u8,
     /// The functions, in the order in which they stand.
     pub functions: ImageFunctions,
 }
@@ -71,9 +78,9 @@ impl Model for Image {
 
     ghost Value = { ImageValue };
 
-    ghost view = { λ i. record { functions = i.functions } };
+    ghost view = { λ i. record { version = i.version; functions = i.functions } };
 
-    ghost invariant = { λ i. IsImage record { functions = i.functions } };
+    ghost invariant = { λ i. IsImage record { version = i.version; functions = i.functions } };
 }
 
 impl ImageFunction {
@@ -109,12 +116,14 @@ fn any_has_name(functions: &[ImageFunction], name: &[u8]) -> bool
 }
 
 impl Image {
-    /// An image without functions.
-    pub fn new(alloc: Global) -> Image
-        ensures empty { result ≡ record { functions = [] } }
+    /// An image without functions, of version 1 or 2.
+    pub fn new(alloc: Global, version: u8) -> Image
+        requires { is_version version ≡ true }
+        ensures empty { result ≡ record { version = version; functions = [] } }
         ensures kept { IsImage result }
     {
         Image {
+            version,
             functions: Items::new(alloc),
         }
     }
@@ -142,11 +151,12 @@ impl Image {
         any_has_name(self.functions.as_slice(), name)
     }
 
-    /// Adds a function, whose name is new, behind the others.
+    /// Adds a function, whose name is new, behind the others. Version 1 takes functions without facts.
     pub fn push(&mut self, f: ImageFunction) -> Result<(), AllocError>
         requires room { length self.old.functions < 64 }
         requires new { is_among (names self.old.functions) f.name ≡ false }
-        ensures ok { OnOk result (self.new ≡ record { functions = self.old.functions ++ f ∷ [] }) }
+        requires free { self.old.version ≡ 1 → is_free f.facts ≡ true }
+        ensures ok { OnOk result (self.new ≡ record { version = self.old.version; functions = self.old.functions ++ f ∷ [] }) }
         ensures err { OnErr result (self.new ≡ self.old) }
         ensures kept { IsImage self.new }
     {

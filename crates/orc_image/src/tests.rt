@@ -18,6 +18,13 @@ const TWICE: [u8; 30] = [
     1, 0, 0, 0, 0xc3,
 ];
 
+// A function f over a dest and two sources in version 2: n is a multiple of 16, and so are the dest's addresses.
+const STATED: [u8; 74] = [
+    0x4f, 0x52, 0x43, 0x49, 2, 1, 1, 0x66, 0, 1, 2, 0, 0, 0, 0, 0, 0, 16, 0, 0, 0, 0, 0, 0, 0,
+    0xff, 0xff, 0xff, 0x7f, 0, 0, 0, 0, 1, 0, 0, 0, 0, 0, 0, 0, 0xff, 0xff, 0xff, 0x7f, 16, 0, 1,
+    0, 1, 0, 1, 0, 1, 0, 1, 0, 1, 0, 1, 0, 1, 0, 1, 0, 1, 0, 1, 0, 1, 0, 0, 0, 0xc3,
+];
+
 fn refusal(alloc: Global, bytes: &[u8]) -> Option<ImageError> {
     match read_image(alloc, bytes) {
         Ok(_) => None,
@@ -30,8 +37,9 @@ fn images_read_back_and_listed(rt: HostRuntime) -> Result<(), Fail> {
     one_image();
     one_listing();
     let alloc = rt.alloc();
-    let listings: [(&[u8], &str); 2] = [
+    let listings: [(&[u8], &str); 3] = [
         (&EMPTY, ""),
+        (&STATED, "function f\n00000000 c3 ret\n"),
         (
             &PAIR,
             "function a\n\
@@ -67,7 +75,7 @@ fn refusals(rt: HostRuntime) -> Result<(), Fail> {
     );
     let changes = [
         (3, 0x4a, ImageError::BadMagic),
-        (4, 2, ImageError::BadVersion),
+        (4, 3, ImageError::BadVersion),
         (7, 0x31, ImageError::BadField { at: 7 }),
         (15, 0x10, ImageError::BadField { at: 13 }),
     ];
@@ -76,6 +84,32 @@ fn refusals(rt: HostRuntime) -> Result<(), Fail> {
         assert!(rt; at < bytes.len());
         bytes[at] = byte;
         assert_eq!(rt; refusal(alloc, &bytes), Some(want), "{at}");
+    }
+    // Each field of the facts: a byte that is changed, and the first byte of the field that is refused.
+    let facts = [
+        (16, 0x80, 13),
+        (13, 32, 17),
+        (17, 0, 17),
+        (24, 0x80, 21),
+        (28, 0xff, 25),
+        (29, 1, 29),
+        (33, 2, 33),
+        (37, 1, 37),
+        (41, 0xfe, 41),
+        (45, 17, 45),
+        (47, 2, 47),
+        (53, 3, 53),
+        (57, 2, 57),
+    ];
+    for (at, byte, field) in facts {
+        let mut bytes = STATED;
+        assert!(rt; at < bytes.len());
+        bytes[at] = byte;
+        assert_eq!(rt;
+            refusal(alloc, &bytes),
+            Some(ImageError::BadField { at: field }),
+            "{at}"
+        );
     }
     Ok(())
 }

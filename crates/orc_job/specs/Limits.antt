@@ -1,7 +1,10 @@
 -- The limits of a job in the order of checks, and the first that is passed.
-use Rattle.std.specs.Prelude.{ℕ, ◌*◌, not, ◌==◌, List, length, sum_by, Result, Ok, Err, nat_lt, if◌then◌else◌}
+use Rattle.std.specs.Prelude.{ℕ, ◌*◌, not, ◌==◌, ◌||◌, Bool, List, length, sum_by, Result, Ok, Err, nat_lt, if◌then◌else◌}
 use Rattle.serde_json.specs.Data.{Data}
 use Rattle.orc_bits.specs.declared.parts.Part.{Part}
+use Rattle.orc_program.specs.declared.call.Call.{Call}
+use Rattle.orc_program.specs.declared.known.Facts.{Facts}
+use Rattle.orc_program.specs.Facts.{meets, are_aligned}
 use Rattle.orc_job.specs.declared.error.Field.TheVariants as field
 use Rattle.orc_job.specs.declared.error.JobError.{JobError}
 use Rattle.orc_job.specs.declared.error.JobError.TheVariants as refusal
@@ -31,4 +34,12 @@ abbrev pub fitting : Job → ℕ → ℕ → Result (Unit {0}) JobError
 fitting j arrays params =
     if not (length j.call.arrays.items == arrays) then Err (refusal.BadField field.Arrays)
     else if not (length j.call.params.items == params) then Err (refusal.BadField field.Params)
+    else Ok tt
+
+-- the first part of a call that doesn't meet the facts of its function: n, then m where there are rows, then the arrays
+abbrev pub meeting : Facts → Bool → Call → Result (Unit {0}) JobError
+meeting facts two_d call =
+    if not (meets facts.n call.n) then Err (refusal.BadField field.N)
+    else if not (not two_d || meets facts.m call.m) then Err (refusal.BadField field.M)
+    else if not (are_aligned two_d facts.aligns.items call.arrays.items) then Err (refusal.BadField field.Arrays)
     else Ok tt

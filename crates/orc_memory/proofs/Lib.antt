@@ -1,3 +1,4 @@
 pub mod Counts
 pub mod Gathered
 pub mod Places
+pub mod Slices

@@ -1,5 +1,5 @@
 -- Parts in the order of their addresses.
-use Rattle.std.specs.Prelude.{◌≡◌, ℕ, ◌+◌, ◌<◌, ◌≤◌, List, length, map, sum_by, All}
+use Rattle.std.specs.Prelude.{◌≡◌, ℕ, ◌+◌, ◌<◌, ◌≤◌, ◌^◌, List, length, map, sum_by, All}
 use Rattle.orc_bits.specs.Parts.{Span, span_at}
 use Rattle.orc_memory.specs.declared.extents.Extent.{Extent}
 
@@ -30,3 +30,10 @@ pub record AreExtents (ss : List Span) (es : List Extent) : Type 0 where
 pub record IsIndex (ss : List Span) (es : List Extent) : Type 0 where
   pub extents : AreExtents ss es
   pub apart : AreApart (spans es)
+
+-- the span at place k has n bytes from the address on, side by side, from its byte `first` on, and none passes the last address
+pub record IsSpot (ss : List Span) (a n k first : ℕ) : Type 0 where
+  pub within : k < length ss
+  pub low : a + n ≤ 2 ^ 64
+  pub at : (span_at ss k).at + first ≡ a
+  pub high : first + n ≤ (span_at ss k).count

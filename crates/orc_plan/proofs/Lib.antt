@@ -1,4 +1,6 @@
 pub mod Values
+pub mod Ending
+pub mod Counted
 pub mod Holding
 pub mod Room
 pub mod SlotSizes

@@ -1,5 +1,5 @@
 -- Places for what steps make, step by step.
-use Rattle.std.proofs.Common.{◌≡◌, ℕ, zero, suc, ◌+◌, ◌<◌, ◌≤◌, Bool, true, false, ◌||◌, ◌&&◌, ◌==◌, List, [], ◌∷◌, ◌++◌, refl, sym, ap, ◌∙◌, subst, arith, length, filter, take, drop, nat_lt, ◌-◌, get_or, if◌then◌else◌, length-append, append_assoc, append-nil, true≢false}
+use Rattle.std.proofs.Common.{◌≡◌, ℕ, zero, suc, ◌+◌, ◌<◌, ◌≤◌, Bool, true, false, ◌||◌, ◌&&◌, ◌==◌, List, [], ◌∷◌, ◌++◌, refl, sym, ap, ◌∙◌, subst, arith, length, filter, take, drop, nat_lt, ◌-◌, get_or, slice_index, if◌then◌else◌, length-append, append_assoc, append-nil, true≢false}
 use Rattle.std.specs.List.{list_any, list_all}
 use Rattle.std.proofs.lemmas.List.{take_all}
 use Rattle.std.proofs.lemmas.List.Elements.{filter-append}
@@ -9,9 +9,10 @@ use Rattle.orc_plan.specs.declared.steps.Item.{Item}
 use Rattle.orc_plan.specs.declared.steps.Item.TheVariants as item
 use Rattle.orc_plan.specs.Core.{values_among, made_by, read_by, made_in, counts_from, is_numbered}
 use Rattle.orc_plan.specs.Need.{is_read_in, made_at, need_in, widest}
+use Rattle.orc_plan.specs.Ending.{AreEnds}
 use Rattle.orc_plan.specs.Places.{Apart, GoodPlaces}
 use Rattle.orc_plan.specs.Placing.{counted_from, NeedAtMost, Holds, Extends, HasRoom, PlacesAll}
-use Rattle.orc_plan.proofs.Holding.{extends_both}
+use Rattle.orc_plan.proofs.Holding.{extends_both, is_same}
 
 both : (a b : Bool) → (a && b) ≡ true → (a ≡ true) × (b ≡ true)
 both true b h = (refl, h)
@@ -158,6 +159,41 @@ placed_later {most = most} held live made new at after end steps s rest e l m n 
     (placed_after held at after end s rest (subst (λ (vs : List ℕ). Holds most vs after) same holds) (subst (λ (vs : List ℕ). Extends at after (length vs)) m more)
     (subst (λ (vs : List ℕ). PlacesAll most vs after end rest) same placed))
 
+-- ---- what is read later, by when values are read for the last time
+
+kept_same : (p q : ℕ → Bool) (vs : List ℕ) → ((v : ℕ) → is_in v vs ≡ true → p v ≡ q v) → filter p vs ≡ filter q vs
+kept_same p q [] h = refl
+kept_same p q (v ∷ vs) h =
+    ap (λ b. if b then v ∷ filter p vs else filter p vs) (h v (here (v == v) (is_same v v refl)))
+    ∙ ap (λ (xs : List ℕ). if q v then v ∷ xs else xs) (kept_same p q vs (λ w l. h w (there w (w == v) l)))
+  where
+    here : (b : Bool) → b ≡ true → (b || is_in v vs) ≡ true
+    here true e = refl
+    here false e = absurd (true≢false (sym e))
+
+    there : (w : ℕ) (b : Bool) → is_in w vs ≡ true → (b || is_in w vs) ≡ true
+    there w true e = refl
+    there w false e = e
+
+-- the values that are held on are those that one of the steps reads
+pub held_on : {most : ℕ} (held given kept ends at : List ℕ) (j : ℕ) (steps : List Step) → given ≡ held → kept ≡ filter (λ v. nat_lt j (slice_index ends v)) given → AreEnds ends j steps → HasRoom most held at steps → kept ≡ filter (is_read_in steps) held
+held_on held given kept ends at j steps g k are room =
+    k ∙ ap (filter (λ v. nat_lt j (slice_index ends v))) g
+    ∙ kept_same (λ v. nat_lt j (slice_index ends v)) (is_read_in steps) held
+    (λ v h. ap (λ n. nat_lt n (slice_index ends v)) (let e : j ≡ j + 0 = omega arith in e) ∙ sym (are v (omega (arith, room.holds.made v h, room.room)) 0))
+
+pub few_after : {most : ℕ} (held live made at : List ℕ) (steps : List Step) (s : Step) (rest : List Step) → steps ≡ s ∷ rest → live ≡ filter (is_read_in steps) held → made ≡ made_by s → HasRoom most held at steps → length live + length made ≤ most
+few_after {most = most} held live made at steps s rest e l m h =
+    let first = first_few held at s rest (subst (λ (ss : List Step). HasRoom most held at ss) e h) in
+    omega (arith, first, ap length (l ∙ ap (λ (ss : List Step). filter (is_read_in ss) held) e), ap length m)
+
+pub ends_later : (ends : List ℕ) (j : ℕ) (steps : List Step) (s : Step) (rest : List Step) → steps ≡ s ∷ rest → AreEnds ends j steps → AreEnds ends (j + 1) rest
+ends_later ends j steps s rest e are v l i =
+    subst (λ (ss : List Step). is_read_in (drop (suc i) ss) v ≡ nat_lt (j + suc i) (slice_index ends v)) e (are v l (suc i)) ∙ ap (λ n. nat_lt n (slice_index ends v)) (let z : j + suc i ≡ j + 1 + i = omega arith in z)
+
+pub ends_at_first : (ends : List ℕ) (given core : List Step) → given ≡ core → AreEnds ends 0 given → AreEnds ends 0 core
+ends_at_first ends given core e are = subst (λ (ss : List Step). AreEnds ends 0 ss) e are
+
 -- ---- the whole
 
 pub room_at_first : (most : ℕ) (steps : List Step) → is_numbered 0 steps ≡ true → length steps ≤ 100 → NeedAtMost most steps → HasRoom most [] [] steps
@@ -177,8 +213,8 @@ good_at_last most steps at low near h = record {
   apart = λ j l. h.apart j l;
 }
 
-pub live_holds : {most : ℕ} (held given live at : List ℕ) (steps : List Step) → given ≡ held → live ≡ filter (is_read_in steps) given → Holds most held at → Holds most live at
-live_holds {most = most} held given live at steps g l h = subst (λ (vs : List ℕ). Holds most vs at) (sym (l ∙ ap (filter (is_read_in steps)) g)) (holds_kept (is_read_in steps) held at h)
+pub live_holds : {most : ℕ} (held live at : List ℕ) (steps : List Step) → live ≡ filter (is_read_in steps) held → Holds most held at → Holds most live at
+live_holds {most = most} held live at steps l h = subst (λ (vs : List ℕ). Holds most vs at) (sym l) (holds_kept (is_read_in steps) held at h)
 
 pub room_of : (most : ℕ) (core steps : List Step) (held at : List ℕ) → held ≡ [] → at ≡ [] → steps ≡ core → is_numbered 0 core ≡ true → length steps ≤ 100 → NeedAtMost most core → HasRoom most held at steps
 room_of most core steps held at h a e n l few =

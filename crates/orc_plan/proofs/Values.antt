@@ -1,29 +1,9 @@
--- Values of steps, and how many of them count.
-use Rattle.std.proofs.Common.{◌≡◌, ℕ, zero, suc, ◌+◌, ◌<◌, ◌≤◌, ◌⊎◌, inl, inr, Bool, List, [], ◌∷◌, sym, ap, ◌∙◌, arith, length, take, drop, filter, map, max, get_or, length-append}
+-- The largest of some numbers.
+use Rattle.std.proofs.Common.{◌≡◌, ℕ, zero, suc, ◌+◌, ◌<◌, ◌≤◌, ◌⊎◌, inl, inr, [], ◌∷◌, ap, ◌∙◌, arith, map, max}
 use Rattle.std.specs.List.{fold, range_with_len}
 use Rattle.std.proofs.lemmas.Bool.{cases_lt}
-use Rattle.std.proofs.lemmas.List.Elements.{filter-append}
 use Rattle.std.proofs.lemmas.List.FromFn.{map-range_with_len_more}
 use Rattle.std.proofs.lemmas.List.Sums.{fold-append}
-use Rattle.orc_plan.specs.declared.steps.Step.{Step}
-use Rattle.orc_plan.specs.Core.{made_by, made_in}
-use Rattle.orc_plan.specs.Need.{is_read_in, made_at, need_in}
-
--- what passes of the values that a step and those after it make
-pub kept_of_two : (p : ℕ → Bool) (s : Step) (ss : List Step) → length (filter p (made_in (s ∷ ss))) ≡ length (filter p (made_by s)) + length (filter p (made_in ss))
-kept_of_two p s ss = ap length (filter-append p (made_by s) (made_in ss)) ∙ length-append (filter p (made_by s)) (filter p (made_in ss))
-
--- the values that step j makes are those of the first of the steps from j on
-pub made_here : (steps : List Step) (j : ℕ) (s : Step) → j < length steps → s ≡ get_or (drop j steps) 0 s → made_at steps j ≡ made_by s
-made_here [] j s h e = absurd (omega arith)
-made_here (x ∷ xs) zero s h e = ap made_by (sym e)
-made_here (x ∷ xs) (suc j) s h e = made_here xs j s (omega arith) e
-
--- Need from its two parts
-pub need_by_parts : (steps : List Step) (j live made : ℕ) (s : Step) → j < length steps → s ≡ get_or (drop j steps) 0 s → live ≡ length (filter (is_read_in (drop j steps)) (made_in (take j steps))) → made ≡ length (made_by s) → live + made ≡ need_in steps j
-unfolding need_in
-need_by_parts steps j live made s h e l m =
-    omega (arith, ap length (made_here steps j s h e), length-append (filter (is_read_in (drop j steps)) (made_in (take j steps))) (made_at steps j))
 
 -- the largest of one more
 pub widest_more : (f : ℕ → ℕ) (n : ℕ) → fold max 0 (map f (range_with_len 0 (n + 1))) ≡ max (fold max 0 (map f (range_with_len 0 n))) (f n)

@@ -1,5 +1,6 @@
 pub mod Core
 pub mod Need
+pub mod Ending
 pub mod Places
 pub mod Placing
 pub mod Lowered

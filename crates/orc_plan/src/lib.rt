@@ -16,6 +16,7 @@ mod items;
 mod laws;
 mod lowering;
 mod placing;
+mod reads;
 mod spilling;
 mod steps;
 mod variables;

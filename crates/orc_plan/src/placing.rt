@@ -1,14 +1,16 @@
 //! Places for values: a step frees the places of values that neither it nor a later step reads, and gives free ones to the values that it makes.
 
-ghost use Rattle.std.specs.Prelude.{◌≡◌, ◌+◌, ◌*◌, ◌<◌, ◌≤◌, ◌++◌, ◌∷◌, ℕ, [], true, false, length, filter, slice_index, MatchOption, MatchResult};
+ghost use Rattle.std.specs.Prelude.{◌≡◌, ◌+◌, ◌*◌, ◌<◌, ◌≤◌, ◌++◌, ◌∷◌, ℕ, [], true, false, nat_lt, length, filter, slice_index, MatchOption, MatchResult};
 ghost use Rattle.orc_program.specs.Need.{is_in, places, registers};
 ghost use Rattle.orc_plan.specs.Core.{values_among, counts_from};
-ghost use Rattle.orc_plan.specs.Need.{is_read_in, widest};
+ghost use Rattle.orc_plan.specs.Need.{widest};
+ghost use Rattle.orc_plan.specs.Ending.{AreEnds};
 ghost use Rattle.orc_plan.specs.Places.{NeedsFew, IsPressure};
 ghost use Rattle.orc_plan.specs.Placing.{is_taken, NeedAtMost, Holds, Extends, HasRoom, PlacesAll};
 
 use crate::copying::copy_of;
-use crate::counting::{is_read_in, need, widest_need};
+use crate::counting::{needs, widest_need};
+use crate::reads::{Ends, ends_of, is_read_from};
 use crate::spilling::{Spilled, spilled_values};
 use crate::steps::{Core, Item, Placed, Pressure, Step};
 use arrayvec::ArrayVec;
@@ -24,6 +26,17 @@ pub(crate) type Held = ArrayVec<u16, PLACES>;
 
 /// The place of each value, by its number.
 type Places = ArrayVec<u8, 200>;
+
+/// What decides which place a value gets, and until when.
+#[derive(Drop)]
+struct Choice {
+    /// When values are read for the last time.
+    ends: Ends,
+    /// The values that are better held in the frame.
+    spilled: Spilled,
+    /// How many of the places are given.
+    most: u8,
+}
 
 /// Whether one of the held values is in this place.
 #[tactic(auto, unfolding(crate::specs::Placing::is_taken))]
@@ -83,48 +96,48 @@ fn wished_place(value: u16, spilled: &Spilled) -> u8 {
     }
 }
 
-/// The held values that one of the steps reads.
-pub(crate) fn still_held(held: &[u16], steps: &[Step]) -> Held
+/// The held values that step `j` or a later one reads.
+pub(crate) fn still_held(held: &[u16], ends: &Ends, j: usize) -> Held
     requires { length held.now ≤ places }
-    ensures { result.items ≡ filter (is_read_in steps.now) held.now }
+    ensures { result.items ≡ filter (λ v. nat_lt j (slice_index ends.now v)) held.now }
 {
     let mut kept = ArrayVec::new();
     for value in held {
-        if is_read_in(steps, *value) {
+        if is_read_from(ends, j, usize::from(*value)) {
             kept.push(*value);
         }
     }
     kept
 }
 
-/// Gives a free place below `most` to the next value.
+/// Gives a free place to the next value.
 #[tactic(auto, using(crate::proofs::Holding::holds_more, crate::proofs::Holding::extends_one))]
-fn hold_value(value: u16, spilled: &Spilled, most: u8, held: &mut Held, at: &mut Places)
-    requires holds { Holds most held.old.items at.old.items }
+fn hold_value(value: u16, choice: &Choice, held: &mut Held, at: &mut Places)
+    requires holds { Holds choice.now.most held.old.items at.old.items }
     requires next { value ≡ length at.old.items }
-    requires few { length held.old.items < most }
-    requires places { most ≤ places }
+    requires few { length held.old.items < choice.now.most }
+    requires places { choice.now.most ≤ places }
     requires room { length at.old.items < 200 }
     ensures held { held.new.items ≡ held.old.items ++ value ∷ [] }
-    ensures holds { Holds most held.new.items at.new.items }
+    ensures holds { Holds choice.now.most held.new.items at.new.items }
     ensures extends { Extends at.old.items at.new.items 1 }
 {
-    let from = wished_place(value, spilled);
-    let place = free_place(held.as_slice(), at.as_slice(), from, most);
+    let from = wished_place(value, &choice.spilled);
+    let place = free_place(held.as_slice(), at.as_slice(), from, choice.most);
     held.push(value);
     at.push(place);
 }
 
-/// Gives a free place below `most` to each value among the items.
+/// Gives a free place to each value among the items.
 #[tactic(auto, using(crate::proofs::Holding::extends_none, crate::proofs::Holding::extends_both))]
-fn hold(items: &[Item], spilled: &Spilled, most: u8, held: &mut Held, at: &mut Places)
-    requires holds { Holds most held.old.items at.old.items }
+fn hold(items: &[Item], choice: &Choice, held: &mut Held, at: &mut Places)
+    requires holds { Holds choice.now.most held.old.items at.old.items }
     requires numbered { counts_from (length at.old.items) (values_among items.now) ≡ true }
-    requires few { length held.old.items + length (values_among items.now) ≤ most }
-    requires places { most ≤ places }
+    requires few { length held.old.items + length (values_among items.now) ≤ choice.now.most }
+    requires places { choice.now.most ≤ places }
     requires room { length at.old.items + length (values_among items.now) ≤ 200 }
     ensures held { held.new.items ≡ held.old.items ++ values_among items.now }
-    ensures holds { Holds most held.new.items at.new.items }
+    ensures holds { Holds choice.now.most held.new.items at.new.items }
     ensures extends { Extends at.old.items at.new.items (length (values_among items.now)) }
 {
     let [item, rest @ ..] = items else {
@@ -132,35 +145,36 @@ fn hold(items: &[Item], spilled: &Spilled, most: u8, held: &mut Held, at: &mut P
     };
     match item {
         Item::Value(value) => {
-            hold_value(*value, spilled, most, held, at);
-            hold(rest, spilled, most, held, at);
+            hold_value(*value, choice, held, at);
+            hold(rest, choice, held, at);
         }
-        Item::Array(_) | Item::Acc { .. } | Item::Pattern(_) => {
-            hold(rest, spilled, most, held, at)
-        }
+        Item::Array(_) | Item::Acc { .. } | Item::Pattern(_) => hold(rest, choice, held, at),
     }
 }
 
-/// Gives a place below `most` to each value that the steps make.
-fn place_all(steps: &[Step], spilled: &Spilled, most: u8, held: &Held, at: &mut Places)
-    requires room { HasRoom most held.now.items at.old.items steps.now }
-    requires places { most ≤ places }
-    ensures { PlacesAll most held.now.items at.old.items at.new.items steps.now }
+/// Gives a place to each value that the steps make, of which the first has the number `j`.
+fn place_all(steps: &[Step], j: usize, choice: &Choice, held: &Held, at: &mut Places)
+    requires room { HasRoom choice.now.most held.now.items at.old.items steps.now }
+    requires places { choice.now.most ≤ places }
+    requires ends { AreEnds choice.now.ends j steps.now }
+    requires few { j + length steps.now ≤ 100 }
+    ensures { PlacesAll choice.now.most held.now.items at.old.items at.new.items steps.now }
 {
     let [step, rest @ ..] = steps else {
         return;
     };
-    let mut held = still_held(held.as_slice(), steps);
-    hold(step.results.as_slice(), spilled, most, &mut held, at);
-    place_all(rest, spilled, most, &held, at);
+    let mut held = still_held(held.as_slice(), &choice.ends, j);
+    hold(step.results.as_slice(), choice, &mut held, at);
+    place_all(rest, j + 1, choice, &held, at);
 }
 
 /// The first step that needs more values than there are places.
 fn first_pressure(core: &Core) -> Option<Pressure>
     ensures { MatchOption result (NeedsFew core.now.steps) (IsPressure core.now.steps) }
 {
+    let needs = needs(core);
     for (j, step) in core.steps.as_slice().iter().enumerate() {
-        let need = need(core, j);
+        let need = needs.as_slice()[j];
         if need > PLACES as u32 {
             return Some(Pressure {
                 line: step.line,
@@ -197,14 +211,14 @@ pub fn place(core: &Core) -> Result<Placed, Pressure>
         return Err(pressure);
     }
     let steps = core.steps.as_slice();
+    let ends = ends_of(steps);
+    let choice = Choice {
+        spilled: spilled_values(steps, &ends),
+        ends,
+        most: places_used(core),
+    };
     let mut places = ArrayVec::new();
-    place_all(
-        steps,
-        &spilled_values(steps),
-        places_used(core),
-        &ArrayVec::new(),
-        &mut places,
-    );
+    place_all(steps, 0, &choice, &ArrayVec::new(), &mut places);
     Ok(Placed {
         core: copy_of(core),
         places,

@@ -4,6 +4,7 @@
 
 use crate::counting::has_value;
 use crate::placing::{Held, REGISTERS, still_held};
+use crate::reads::Ends;
 use crate::steps::{Item, Step};
 use arrayvec::ArrayVec;
 
@@ -27,9 +28,12 @@ fn hold_near(value: u16, steps: &[Step], near: &mut Held, spilled: &mut Spilled)
         return;
     }
     let mut farthest = value;
+    let mut distance = next_use(steps, value);
     for held in near.as_mut_slice() {
-        if next_use(steps, *held) > next_use(steps, farthest) {
+        let other = next_use(steps, *held);
+        if other > distance {
             std::mem::swap(held, &mut farthest);
+            distance = other;
         }
     }
     if let Some(entry) = spilled.get_mut(usize::from(farthest)) {
@@ -39,18 +43,16 @@ fn hold_near(value: u16, steps: &[Step], near: &mut Held, spilled: &mut Spilled)
 
 /// The values that are better held in the frame: from step to step, where more than ten of the others are held, that of them whose next
 /// use is farthest.
-pub(crate) fn spilled_values(steps: &[Step]) -> Spilled {
+pub(crate) fn spilled_values(steps: &[Step], ends: &Ends) -> Spilled {
     let mut spilled = [false; 200];
     let mut near = ArrayVec::new();
-    let mut left = steps;
-    while let [step, rest @ ..] = left {
-        near = still_held(near.as_slice(), left);
+    for (j, step) in steps.iter().enumerate() {
+        near = still_held(near.as_slice(), ends, j);
         for item in step.results.as_slice() {
             if let Item::Value(value) = item {
-                hold_near(*value, left, &mut near, &mut spilled);
+                hold_near(*value, &steps[j..], &mut near, &mut spilled);
             }
         }
-        left = rest;
     }
     spilled
 }

@@ -1,5 +1,7 @@
 //! Steps over values, and their places.
 
+ghost use Rattle.std.specs.Prelude.{◌≡◌};
+
 use arrayvec::ArrayVec;
 use orc_ops::Op;
 use std::marker::Model;
@@ -19,7 +21,9 @@ pub enum Item {
 
 /// The first pattern, which fills unused room.
 impl Default for Item {
-    fn default() -> Self {
+    fn default() -> Self
+        ensures { result ≡ Item.Pattern 0 }
+    {
         Item::Pattern(0)
     }
 }

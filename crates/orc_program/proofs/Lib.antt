@@ -16,3 +16,5 @@ pub mod Places
 pub mod Nth
 pub mod KnownPatterns
 pub mod Lanes
+pub mod Shortened
+pub mod FactLaws

@@ -5,6 +5,7 @@ pub mod Notes
 pub mod Kept
 pub mod Meaning
 pub mod Good
+pub mod Facts
 pub mod Need
 pub mod Slots
 pub mod Laws

@@ -8,12 +8,7 @@ ghost use Rattle.orc_program.specs.Kept.{is_function, most_of, is_size_for};
 
 use crate::program::{Function, Program, Var, VarKind};
 use crate::variables;
-
-fn is_same(a: &[u8], b: &[u8]) -> bool
-    ensures { result ≡ bytes_eq a.now b.now }
-{
-    a == b
-}
+use crate::words::is_same;
 
 /// The first variable of a name, counted from a place.
 fn find_from(vars: &[Var], name: &[u8], place: u16) -> Option<u16>

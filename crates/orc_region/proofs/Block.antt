@@ -7,6 +7,7 @@ pub mod Frames
 pub mod Keeping
 pub mod Names
 pub mod Places
+pub mod Sums
 pub mod Registers
 pub mod RuleRegisters
 pub mod Touched

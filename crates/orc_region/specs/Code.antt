@@ -1,5 +1,5 @@
 -- The code of a function: the compiler's plan.
-use Rattle.std.specs.Prelude.{◌≡◌, ℕ, zero, suc, ◌+◌, ◌-◌, ◌*◌, ◌/◌, ◌<◌, ◌≤◌, ◌==◌, ◌&&◌, nat_lt, Bool, true, false, if◌then◌else◌, pos, List, [], ◌∷◌, ◌++◌, length, map, slice_index}
+use Rattle.std.specs.Prelude.{◌≡◌, ℕ, zero, suc, ◌+◌, ◌-◌, ◌*◌, ◌/◌, ◌<◌, ◌≤◌, ◌==◌, ◌&&◌, nat_lt, Bool, true, false, if◌then◌else◌, pos, List, [], ◌∷◌, ◌++◌, length, map, slice_index, max}
 use Rattle.x86_ins.specs.declared.ins.AluOp.TheVariants.{Add, Sub}
 use Rattle.x86_ins.specs.declared.ins.Ins.{Ins}
 use Rattle.x86_ins.specs.declared.ins.Ins.TheVariants.{AluImm, Vec, VecLoad, VecStore}
@@ -39,10 +39,11 @@ pub data Source : Type 0 where
   FromPlace : ℕ → Source
   FromSlot : ℕ → Source
 
--- where a result goes: the elements of an array's slot, a running sum, or a value, to the register of its place or to a spill slot
+-- where a result goes: the elements of an array's slot, a running sum that stands in the frame or in a register, or a value, to the register of its place or to a spill slot
 pub data Target : Type 0 where
   ToArray : ℕ → Target
   ToSum : ℕ → Target
+  ToResident : ℕ → Target
   ToPlace : ℕ → Target
   ToSlot : ℕ → Target
 
@@ -92,6 +93,10 @@ pointer (suc (suc (suc (suc k)))) = 8 + k
 abbrev pub place_register : ℕ → ℕ
 place_register p = 6 + p
 
+-- the vector register of a running sum that stands in one: that of the last place, XMM15, for the first sum, and so on downwards
+abbrev pub sum_register : ℕ → ℕ
+sum_register g = place_register (registers - (g + 1))
+
 -- the place of a spill slot
 abbrev pub slot_place : ℕ → ℕ
 slot_place k = registers + k
@@ -100,6 +105,7 @@ slot_place k = registers + k
 abbrev pub made_in : ℕ → Target → ℕ
 made_in x (ToArray k) = x
 made_in x (ToSum g) = x
+made_in x (ToResident g) = x
 made_in x (ToPlace p) = place_register p
 made_in x (ToSlot k) = x
 
@@ -114,13 +120,25 @@ second_register [] = 1
 second_register (t ∷ []) = 1
 second_register (t ∷ u ∷ more) = made_in 1 u
 
+-- the register in which the rule adds to a running sum: XMM2, or the sum's own
+abbrev pub sum_home : Target → ℕ
+sum_home (ToArray k) = 2
+sum_home (ToSum g) = 2
+sum_home (ToResident g) = sum_register g
+sum_home (ToPlace p) = 2
+sum_home (ToSlot k) = 2
+
+abbrev pub third_register : List Target → ℕ
+third_register [] = 2
+third_register (t ∷ more) = sum_home t
+
 -- a and b change places
 abbrev pub exchange : ℕ → ℕ → ℕ → ℕ
 exchange a b r = if r == a then b else (if r == b then a else r)
 
--- the register that stands for register r of a rule: results are made where they go
+-- the register that stands for register r of a rule: results are made where they go, and a running sum grows where it stands
 abbrev pub rule_register : List Target → ℕ → ℕ
-rule_register ts r = exchange 0 (first_register ts) (exchange 1 (second_register ts) r)
+rule_register ts r = exchange 0 (first_register ts) (exchange 1 (second_register ts) (exchange 2 (third_register ts) r))
 
 -- ---- so many elements at once
 
@@ -137,7 +155,7 @@ sources_far_code count size far x y [] = []
 sources_far_code count size far x y (s ∷ []) = source_far_code count size far x s
 sources_far_code count size far x y (s ∷ t ∷ more) = source_far_code count size far x s ++ source_far_code count size far y t
 
--- a running sum goes to XMM2
+-- a running sum that stands in the frame goes to XMM2
 abbrev pub sum_code : List Target → List Ins
 sum_code (ToSum g ∷ more) = VecLoad Movdqu 2 (away 4 (sum_slot g)) ∷ []
 sum_code other = []
@@ -146,10 +164,11 @@ sum_code other = []
 abbrev pub rule_code : Action → List Ins
 rule_code a = map (renamed (rule_register a.to)) a.rule
 
--- a result comes from a vector register, for some slots by aligned stores, and a running sum from XMM2; what goes to a place's register is there
+-- a result comes from a vector register, for some slots by aligned stores, and a running sum of the frame from XMM2; what goes to a register of its own is there
 abbrev pub result_far_code : ℕ → (ℕ → ℕ) → (ℕ → ℕ) → (ℕ → Bool) → ℕ → Target → List Ins
 result_far_code count size far aligned x (ToArray k) = store_either_code (aligned k) (count * size k) x (pointer k) (far k)
 result_far_code count size far aligned x (ToSum g) = VecStore Movdqu 2 (away 4 (sum_slot g)) ∷ []
+result_far_code count size far aligned x (ToResident g) = []
 result_far_code count size far aligned x (ToPlace p) = []
 result_far_code count size far aligned x (ToSlot k) = VecStore Movdqu x (away 4 (spill_slot k)) ∷ []
 
@@ -202,6 +221,18 @@ from_place p = if nat_lt p registers then FromPlace p else FromSlot (p - registe
 abbrev pub to_place : ℕ → Target
 to_place p = if nat_lt p registers then ToPlace p else ToSlot (p - registers)
 
+-- the last place of these, 0 where there is none
+abbrev pub last_place : List ℕ → ℕ
+last_place [] = 0
+last_place (p ∷ ps) = max p (last_place ps)
+
+-- a running sum stands in a register where no value has the register's place or one past it; values have places up to the last one
+abbrev pub is_resident : ℕ → ℕ → Bool
+is_resident last g = nat_lt (last + g + 1) registers
+
+abbrev pub to_sum : List ℕ → ℕ → Target
+to_sum at g = if is_resident (last_place at) g then ToResident g else ToSum g
+
 -- where an item of a step comes from as a source; no source is a sum
 abbrev pub source_of : List ℕ → Item → Source
 source_of at (item.Value v) = from_place (slice_index at v)
@@ -213,7 +244,7 @@ source_of at (item.Pattern j) = FromPattern j
 abbrev pub target_of : List ℕ → Item → Target
 target_of at (item.Value v) = to_place (slice_index at v)
 target_of at (item.Array slot) = ToArray slot
-target_of at (item.Acc slot size) = ToSum slot
+target_of at (item.Acc slot size) = to_sum at slot
 target_of at (item.Pattern j) = ToArray j
 
 -- the action is the step's, by some list that computes its opcode; `at` are the places of values
@@ -241,6 +272,23 @@ plan_with f actions = record {
   size = size_of_slot f.vars;
   actions = actions;
 }
+
+-- ---- around the rows of a call
+
+-- the running sums that stand in registers go there from their slots of the frame, and back
+abbrev pub sum_load_code : List ℕ → ℕ → List Ins
+sum_load_code at g = if is_resident (last_place at) g then VecLoad Movdqu (sum_register g) (away 4 (sum_slot g)) ∷ [] else []
+
+abbrev pub sum_loads_code : List ℕ → ℕ → List Ins
+sum_loads_code at zero = []
+sum_loads_code at (suc n) = sum_loads_code at n ++ sum_load_code at n
+
+abbrev pub sum_store_code : List ℕ → ℕ → List Ins
+sum_store_code at g = if is_resident (last_place at) g then VecStore Movdqu (sum_register g) (away 4 (sum_slot g)) ∷ [] else []
+
+abbrev pub sum_stores_code : List ℕ → ℕ → List Ins
+sum_stores_code at zero = []
+sum_stores_code at (suc n) = sum_stores_code at n ++ sum_store_code at n
 
 -- ---- code by some lists that compute the opcodes
 
@@ -324,9 +372,8 @@ elements_flow false shift lanes b single wide aligned large = plain_row lanes (P
 abbrev pub fills : FunctionValue → Bool
 fills f = is_filled (count_of kind.Dest f.vars) (lanes f) (size_of_slot f.vars 0)
 
--- the turns of a function's code by some good places of its values
-pub record Turns (f : FunctionValue) (single wide aligned large : List Ins) : Type 0 where
-  pub at : List ℕ
+-- the turns of a function's code by good places of its values
+pub record Turns (f : FunctionValue) (at : List ℕ) (single wide aligned large : List Ins) : Type 0 where
   pub good : GoodPlaces (steps_of f) at
   pub one : IsTurnOf f at 1 false 1 single
   pub more : IsTurnOf f at (lanes f) false 1 wide
@@ -337,10 +384,10 @@ pub record Turns (f : FunctionValue) (single wide aligned large : List Ins) : Ty
 abbrev pub elements_of : FunctionValue → List Ins → List Ins → List Ins → List Ins → Flow
 elements_of f single wide aligned large = elements_flow (fills f) (shift_of (size_of_slot f.vars 0)) (lanes f) (blocks_of (length wide)) single wide aligned large
 
--- the tree does the elements of a row
-abbrev pub IsElements : FunctionValue → Tree → Type 0
-IsElements f tree =
-    (single : List Ins) × (wide : List Ins) × (aligned : List Ins) × (large : List Ins) × Turns f single wide aligned large × (flat_of tree ≡ flat (elements_of f single wide aligned large))
+-- the tree does the elements of a row, by these places of values
+abbrev pub IsElements : FunctionValue → List ℕ → Tree → Type 0
+IsElements f at tree =
+    (single : List Ins) × (wide : List Ins) × (aligned : List Ins) × (large : List Ins) × Turns f at single wide aligned large × (flat_of tree ≡ flat (elements_of f single wide aligned large))
 
 -- ---- steps whose code can be given for so many elements
 
@@ -352,6 +399,7 @@ IsMoved size count k = (k < 12) × IsWidth (count * size k)
 abbrev pub InPlaces : Target → Type 0
 InPlaces (ToArray k) = Unit {0}
 InPlaces (ToSum g) = Unit {0}
+InPlaces (ToResident g) = Unit {0}
 InPlaces (ToPlace p) = p < registers
 InPlaces (ToSlot k) = Unit {0}
 
@@ -366,6 +414,7 @@ IsLoaded l size count (FromSlot k) = k < spill_slots
 abbrev pub IsStored : Layout → (ℕ → ℕ) → ℕ → Target → Type 0
 IsStored l size count (ToArray k) = IsMoved size count k
 IsStored l size count (ToSum g) = g < length l.acc_sizes.items
+IsStored l size count (ToResident g) = g < length l.acc_sizes.items
 IsStored l size count (ToPlace p) = p < registers
 IsStored l size count (ToSlot k) = k < spill_slots
 

@@ -1,5 +1,5 @@
 -- What the code of a function's elements does in a good call: so many elements of a row, as emulation does them.
-use Rattle.std.specs.Prelude.{◌≡◌, ◌≢◌, ℕ, ◌+◌, ◌*◌, ◌%◌, ◌<◌, ◌≤◌, ◌⊎◌, Bool, true, List, ◌++◌, length, get_or, slice_index, Some, Ok}
+use Rattle.std.specs.Prelude.{◌≡◌, ◌≢◌, ℕ, ◌+◌, ◌*◌, ◌%◌, ◌<◌, ◌≤◌, ◌⊎◌, Bool, true, List, ◌++◌, length, get_or, slice_index, if◌then◌else◌, Option, Some, Ok}
 use Rattle.orc_bits.specs.Numbers.{cut}
 use Rattle.orc_bits.specs.Lanes.{AreBytes}
 use Rattle.orc_bits.specs.Memory.{Memory, IsMapped}
@@ -24,11 +24,10 @@ use Rattle.orc_frame.specs.Function.{subject_of}
 use Rattle.orc_frame.specs.GoodCall.{GoodCall, lowered}
 use Rattle.orc_frame.specs.Parts.{Between, InFrame}
 use Rattle.orc_frame.specs.Subject.{Call, IsArray, VerySame, cell, rows}
-use Rattle.orc_region.specs.Code.{pointer}
+use Rattle.orc_region.specs.Code.{pointer, last_place, is_resident, sum_register}
 use Rattle.orc_region.specs.Stores.{TouchesCell, StoresFirst}
 
--- ---- of which function placed steps and a layout are
-
+-- placed steps and a layout are of this function
 pub record AreOf (f : FunctionValue) (p : PlacedValue) (l : Layout) : Type 0 where
   pub kept : is_function f ≡ true
   pub steps : p.core.steps ≡ steps_of f
@@ -52,10 +51,15 @@ HasCome f args mem r i e = (before : State) × (rows_of f (meant_call f args) r 
 abbrev pub PointsAt : FunctionValue → Call → ℕ → ℕ → Core → Type 0
 PointsAt f args r i c = (k : ℕ) → IsArray (subject_of f) k → c.gpr (pointer k) ≡ cell (subject_of f) args k r i 0
 
--- where emulation has the state e: RSP is lowered, RDI has the block's address, memory outside the frame is emulation's, and the frame holds what the layout says
-pub record Holds (f : FunctionValue) (s : Core) (args : Call) (e : State) (c : Core) : Type 0 where
+-- byte b of running sum g, where values have places up to the last one and RSP is `rsp`: of its register, or of its slot of the frame
+abbrev pub sum_byte : ℕ → ℕ → Core → ℕ → ℕ → Option ℕ
+sum_byte last rsp c g b = if is_resident last g then Some (get_or (c.xmm (sum_register g)) b 0) else c.memory (rsp + sum_slot g + b)
+
+-- where emulation has the state e, and values have these places: RSP is lowered, and RDI has the block's address
+pub record Holds (f : FunctionValue) (at : List ℕ) (s : Core) (args : Call) (e : State) (c : Core) : Type 0 where
   pub stack : c.gpr 4 ≡ lowered s
   pub block : c.gpr 7 ≡ s.gpr 7
+  -- outside the frame memory is emulation's, and no byte was unmapped
   pub agree : (a : ℕ) → (InFrame (lowered s) a → ⊥) → c.memory a ≡ e.memory a
   pub mapped : (a : ℕ) → IsMapped s.memory a → IsMapped c.memory a
   -- each pattern's bytes are in its slot
@@ -64,7 +68,7 @@ pub record Holds (f : FunctionValue) (s : Core) (args : Call) (e : State) (c : C
   -- the lanes of each running sum add up to emulation's sum, modulo what its bytes hold
   pub running : ℕ → List ℕ
   pub bytes : (g : ℕ) → AreBytes (running g)
-  pub sums : (g : ℕ) → g < length (layout_of f).acc_sizes.items → (q : ℕ) → q < 16 → c.memory (lowered s + sum_slot g + q) ≡ Some (get_or (running g) q 0)
+  pub sums : (g : ℕ) → g < length (layout_of f).acc_sizes.items → (q : ℕ) → q < 16 → sum_byte (last_place at) (lowered s) c g q ≡ Some (get_or (running g) q 0)
   pub totals : (g : ℕ) → g < length (layout_of f).acc_sizes.items →
       cut (8 * acc_size (layout_of f) g) (sum_of (acc_size (layout_of f) g) (running g)) ≡ e.sums (slice_index (places_of kind.Accumulator f.vars) g)
   pub bounded : Bounded c
@@ -102,7 +106,7 @@ abbrev pub Stands : Placed → ℕ → List Ins → Type 0
 Stands code from list = (front : List ℕ) × (back : List ℕ) × (code.bytes ≡ front ++ (spell_all list ++ back)) × (length front ≡ from)
 
 -- from core c, in a good call that began with core s, the list does so many elements of row r from element i on, in at most so many steps, of which so many touch cells
-pub record Done (f : FunctionValue) (code : Placed) (s : Core) (args : Call) (r i count : ℕ) (steps touches : ℕ) (from : ℕ) (list : List Ins) (c : Core) : Type 0 where
+pub record Done (f : FunctionValue) (at : List ℕ) (code : Placed) (s : Core) (args : Call) (r i count : ℕ) (steps touches : ℕ) (from : ℕ) (list : List Ins) (c : Core) : Type 0 where
   pub e : State
   pub come : HasCome f args s.memory r (i + count) e
   pub way : List Moment
@@ -115,17 +119,17 @@ pub record Done (f : FunctionValue) (code : Placed) (s : Core) (args : Call) (r 
   pub quiet_end : IsQuiet f s args r i count c d
   pub inside : Each (TouchesThese f s args r i count) way
   pub light : AtMost touches (TouchesCell (subject_of f) args) way
-  pub holds : Holds f s args e d
+  pub holds : Holds f at s args e d
   pub words : (a : ℕ) → InWords (lowered s) a → d.memory a ≡ c.memory a
 
--- wherever this list stands in code, in each good call it does `count` elements from element i of a row on, where as many are left, and leaves all general registers but RAX; where `aligned` is true, from an element at which the first dest's cell is at a multiple of 16, and then a whole register of the first dest is stored by no movdqu, unless another dest is the very same array
-abbrev pub DoesElements : FunctionValue → ℕ → Bool → List Ins → Type 0
-DoesElements f count aligned list =
+-- wherever this list stands in code that has values at these places, in each good call it does `count` elements from element i of a row on, where as many are left, and leaves all general registers but RAX; where `aligned` is true, from an element at which the first dest's cell is at a multiple of 16, and then a whole register of the first dest is stored by no movdqu, unless another dest is the very same array
+abbrev pub DoesElements : FunctionValue → List ℕ → ℕ → Bool → List Ins → Type 0
+DoesElements f at count aligned list =
     (code : Placed) (s : Point) (args : Call) (back : ℕ) → GoodCall (subject_of f) code s args back → (from : ℕ) → Stands code from list
     → (r : ℕ) → r < rows (subject_of f) args → (i : ℕ) → i + count ≤ args.n
     → (aligned ≡ true → IsDest f 0 → cell (subject_of f) args 0 r i 0 % 16 ≡ 0)
-    → (e : State) → HasCome f args s.core.memory r i e → (c : Core) → Holds f s.core args e c → PointsAt f args r i c
-    → (done : Done f code s.core args r i count (cost f) (subject_of f).operands from list c)
+    → (e : State) → HasCome f args s.core.memory r i e → (c : Core) → Holds f at s.core args e c → PointsAt f args r i c
+    → (done : Done f at code s.core args r i count (cost f) (subject_of f).operands from list c)
     × ((x : ℕ) → x ≢ 0 → done.d.gpr x ≡ c.gpr x)
     × (aligned ≡ true → count * size_of_slot f.vars 0 ≡ 16 → IsAlone f args → Each (λ m. StoresFirst (subject_of f) args m → ⊥) done.way)
 
@@ -133,11 +137,11 @@ DoesElements f count aligned list =
 abbrev pub arrays_of : FunctionValue → ℕ
 arrays_of f = count_of kind.Dest f.vars + count_of kind.Source f.vars
 
--- wherever this list stands in code, in each good call it does all elements of a row whose number RCX has, in so many steps a turn and few besides; where some element from which on a register is filled has the first dest's cell at a multiple of 16, a whole register of the first dest is stored by no movdqu, unless another dest is the very same array
-abbrev pub DoesRow : FunctionValue → List Ins → Type 0
-DoesRow f list =
+-- wherever this list stands in code that has values at these places, in each good call it does all elements of a row whose number RCX has, in so many steps a turn and few besides; where some element from which on a register is filled has the first dest's cell at a multiple of 16, a whole register of the first dest is stored by no movdqu, unless another dest is the very same array
+abbrev pub DoesRow : FunctionValue → List ℕ → List Ins → Type 0
+DoesRow f at list =
     (code : Placed) (s : Point) (args : Call) (back : ℕ) → GoodCall (subject_of f) code s args back → (from : ℕ) → Stands code from list
     → (r : ℕ) → r < rows (subject_of f) args
-    → (e : State) → HasCome f args s.core.memory r 0 e → (c : Core) → Holds f s.core args e c → PointsAt f args r 0 c → c.gpr 1 ≡ args.n
-    → (done : Done f code s.core args r 0 args.n (17 + 3 * arrays_of f + turns (lanes f) args.n * (cost f + arrays_of f + 6)) (turns (lanes f) args.n * (subject_of f).operands) from list c)
+    → (e : State) → HasCome f args s.core.memory r 0 e → (c : Core) → Holds f at s.core args e c → PointsAt f args r 0 c → c.gpr 1 ≡ args.n
+    → (done : Done f at code s.core args r 0 args.n (17 + 3 * arrays_of f + turns (lanes f) args.n * (cost f + arrays_of f + 6)) (turns (lanes f) args.n * (subject_of f).operands) from list c)
     × (lanes f * size_of_slot f.vars 0 ≡ 16 → ((h : ℕ) × (h + lanes f ≤ args.n) × (cell (subject_of f) args 0 r h 0 % 16 ≡ 0)) → IsAlone f args → Each (λ m. StoresFirst (subject_of f) args m → ⊥) done.way)

@@ -4,21 +4,27 @@ ghost use Rattle.std.specs.Prelude.{◌≡◌, ◌≢◌, ◌<◌, ◌≤◌, �
 ghost use Rattle.x86_ins.specs.Way.{Each};
 ghost use Rattle.x86_ins.specs.Renaming.{IsPermutation, renaming};
 ghost use Rattle.orc_program.specs.Need.{registers};
-ghost use Rattle.orc_region.specs.Code.{target_of, place_register, made_in, first_register, second_register, exchange, InPlaces};
+ghost use Rattle.orc_region.specs.Code.{target_of, place_register, made_in, first_register, second_register, third_register, sum_home, to_sum, exchange, InPlaces};
 
+use crate::sums::{is_resident, sum_register};
 use orc_plan::{Item, place_of};
 use x86_ins::Xmm;
 
 /// The number of places that are vector registers. Each place past them is a slot of the frame.
 pub const REGISTERS: u8 = 10;
 
-/// The registers in which an instruction's results are made, which are also those of its sources.
+/// Holds a running sum while it is added to, where it stands in the frame: XMM2.
+pub const SUM: Xmm = Xmm { number: 2 };
+
+/// The registers in which an instruction's results are made, which are also those of its sources, and the one with a running sum.
 #[derive(Clone, Copy)]
 pub struct Homes {
     /// Of the first source and result.
     pub first: Xmm,
     /// Of the second ones.
     pub second: Xmm,
+    /// Of the running sum that is added to.
+    pub sum: Xmm,
 }
 
 /// The register of a place: XMM6 to XMM15.
@@ -48,11 +54,23 @@ fn made_in(at: &[u8], number: u8, item: Item) -> Xmm
     }
 }
 
+/// The register in which a running sum is added to.
+fn sum_home(at: &[u8], sum: u8) -> Xmm
+    ensures { result ≡ sum_home (to_sum at.now sum) }
+{
+    if is_resident(at, sum) {
+        sum_register(sum)
+    } else {
+        SUM
+    }
+}
+
 /// The registers of an instruction with these results.
 pub fn homes_of(at: &[u8], results: &[Item]) -> Homes
     requires { Each InPlaces (map (target_of at.now) results.now) }
     ensures first { result.first ≡ first_register (map (target_of at.now) results.now) }
     ensures second { result.second ≡ second_register (map (target_of at.now) results.now) }
+    ensures sum { result.sum ≡ third_register (map (target_of at.now) results.now) }
 {
     let first = match results {
         [item, ..] => made_in(at, 0, *item),
@@ -62,7 +80,11 @@ pub fn homes_of(at: &[u8], results: &[Item]) -> Homes
         [_, item, ..] => made_in(at, 1, *item),
         _ => Xmm { number: 1 },
     };
-    Homes { first, second }
+    let sum = match results {
+        [Item::Acc { slot, .. }, ..] => sum_home(at, *slot),
+        _ => SUM,
+    };
+    Homes { first, second, sum }
 }
 
 /// Register `r` where registers `a` and `b` change places.
@@ -78,24 +100,25 @@ fn exchange(a: u8, b: u8, r: u8) -> u8
     }
 }
 
-/// The names of a rule's registers where XMM0 and XMM1 change places with registers `first` and `second`.
-fn names(first: u8, second: u8) -> [u8; 16]
+/// The names of a rule's registers where XMM0, XMM1 and XMM2 change places with registers `first`, `second` and `sum`.
+fn names(first: u8, second: u8, sum: u8) -> [u8; 16]
     requires first { first < 16 }
     requires second { second < 16 }
-    ensures is { (r : ℕ) → r < 16 → renaming result r ≡ exchange 0 first (exchange 1 second r) }
+    requires sum { sum < 16 }
+    ensures is { (r : ℕ) → r < 16 → renaming result r ≡ exchange 0 first (exchange 1 second (exchange 2 sum r)) }
     ensures permutation { IsPermutation result }
 {
     let mut names = [0; 16];
     for r in 0..16 {
-        names[r] = exchange(0, first, exchange(1, second, r as u8));
+        names[r] = exchange(0, first, exchange(1, second, exchange(2, sum, r as u8)));
     }
     names
 }
 
-/// The names of a rule's registers where XMM0 and XMM1 change places with those of the results.
+/// The names of a rule's registers where XMM0 and XMM1 change places with those of the results, and XMM2 with that of the running sum.
 pub fn names_of(homes: &Homes) -> [u8; 16]
-    ensures is { (r : ℕ) → r < 16 → renaming result r ≡ exchange 0 homes.now.first (exchange 1 homes.now.second r) }
+    ensures is { (r : ℕ) → r < 16 → renaming result r ≡ exchange 0 homes.now.first (exchange 1 homes.now.second (exchange 2 homes.now.sum r)) }
     ensures permutation { IsPermutation result }
 {
-    names(homes.first.number, homes.second.number)
+    names(homes.first.number, homes.second.number, homes.sum.number)
 }

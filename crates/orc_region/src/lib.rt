@@ -10,7 +10,9 @@ mod lists;
 mod loops;
 mod rules;
 mod span;
+mod sums;
 mod turns;
 
 pub use lists::{COUNTER, pointer};
+pub use sums::{sum_loads, sum_stores};
 pub use turns::{region, row_flow};

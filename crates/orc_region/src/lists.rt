@@ -11,11 +11,12 @@ ghost use Rattle.x86_flow.specs.Moves.{IsWidth, away, load_far_code, store_eithe
 ghost use Rattle.orc_frame.specs.Frame.{IsLayout};
 ghost use Rattle.orc_frame.specs.Layout.{pattern_slot, sum_slot, spill_slot};
 ghost use Rattle.orc_program.specs.Need.{places, registers};
-ghost use Rattle.orc_region.specs.Code.{HasRule, pointer, place_register, aligned_first, far_by, source_of, target_of, source_far_code, sources_far_code, sum_code, result_far_code, results_far_code, advance_code, first_register, second_register, AddsRule, AddsAction, AddsActions, IsMoved, IsLoaded, IsStored, IsReady};
+ghost use Rattle.orc_region.specs.Code.{HasRule, pointer, place_register, aligned_first, far_by, source_of, target_of, source_far_code, sources_far_code, sum_code, result_far_code, results_far_code, advance_code, first_register, second_register, third_register, AddsRule, AddsAction, AddsActions, IsMoved, IsLoaded, IsStored, IsReady};
 
-use crate::homes::{Homes, REGISTERS, homes_of, names_of, place_register};
+use crate::homes::{Homes, REGISTERS, SUM, homes_of, names_of, place_register};
 use crate::rules::rule;
 use crate::span::Span;
+use crate::sums::is_resident;
 use orc_frame::{Layout, STACK, pattern_at, spill_slot_at, sum_at};
 use orc_ops::Op;
 use orc_plan::{Item, Step, place_of};
@@ -31,9 +32,6 @@ const FIRST: Xmm = Xmm { number: 0 };
 
 /// Holds a second result that is stored: XMM1.
 const SECOND: Xmm = Xmm { number: 1 };
-
-/// Holds a running sum: XMM2.
-const SUM: Xmm = Xmm { number: 2 };
 
 /// The register that points at the next element of an array slot: RDX, RBX, RBP, RSI, R8 to R15.
 pub fn pointer(slot: usize) -> Gpr
@@ -184,7 +182,7 @@ fn push_sources(
     }
 }
 
-/// Adds what loads the running sum that the first result is, if it is one.
+/// Adds what loads the running sum that the first result is, if it is one and stands in the frame.
 fn push_sum(
     list: &mut InsList,
     at: &[u8],
@@ -198,13 +196,19 @@ fn push_sum(
     ensures { OnOk result (list.new ≡ list.old ++ sum_code (map (target_of at.now) results.now)) }
 {
     match results {
-        [Item::Acc { slot, .. }, ..] => load_slot(list, SUM, sum_at(layout, *slot as usize)),
+        [Item::Acc { slot, .. }, ..] => {
+            if is_resident(at, *slot) {
+                Ok(())
+            } else {
+                load_slot(list, SUM, sum_at(layout, *slot as usize))
+            }
+        }
         _ => Ok(()),
     }
 }
 
-/// Adds what stores a result: elements of an array, a running sum, or a value whose place is a slot of the frame. One whose place is a register
-/// is there already.
+/// Adds what stores a result: elements of an array, or a running sum or a value that stands in the frame. One that stands in a register is
+/// there already.
 fn push_result(
     list: &mut InsList,
     at: &[u8],
@@ -230,7 +234,13 @@ fn push_result(
         }
         Item::Array(slot) => store_cells(list, sizes, slot as usize, src, span),
         Item::Pattern(slot) => store_cells(list, sizes, slot as usize, src, span),
-        Item::Acc { slot, .. } => store_slot(list, SUM, sum_at(layout, slot as usize)),
+        Item::Acc { slot, .. } => {
+            if is_resident(at, slot) {
+                Ok(())
+            } else {
+                store_slot(list, SUM, sum_at(layout, slot as usize))
+            }
+        }
     }
 }
 
@@ -291,6 +301,7 @@ fn push_rule(
     requires rule { HasRule count op }
     requires first { homes.now.first ≡ first_register (map (target_of at.now) results.now) }
     requires second { homes.now.second ≡ second_register (map (target_of at.now) results.now) }
+    requires sum { homes.now.sum ≡ third_register (map (target_of at.now) results.now) }
     ensures { OnOk result (AddsRule count op (map (target_of at.now) results.now) list.old list.new) }
 {
     let rule = rule(op, count);

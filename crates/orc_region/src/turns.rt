@@ -190,7 +190,7 @@ pub fn region(
 ) -> Result<Block, AllocError>
     requires of { (f : FunctionValue) × AreOf f p.now l.now }
     requires count { (count ≡ 1) ⊎ (count ≡ p.now.core.lanes) }
-    ensures { IfOk result (λ block. (f : FunctionValue) → AreOf f p.now l.now → DoesElements f count aligned block.list) }
+    ensures { IfOk result (λ block. (f : FunctionValue) → AreOf f p.now l.now → DoesElements f p.now.places count aligned block.list) }
 {
     let aligned = aligned & fills(&p.core, count);
     block(
@@ -220,8 +220,8 @@ fn shift_of(size: usize) -> u8
 /// has the number of elements. Where elements of the first dest fill a register, several elements at once are stored to it at multiples of 16.
 pub fn row_flow(alloc: Global, p: &Placed, l: &Layout) -> Result<Flow, AllocError>
     requires of { (f : FunctionValue) × AreOf f p.now l.now }
-    ensures is { IfOk result (λ flow. (f : FunctionValue) → AreOf f p.now l.now → IsElements f flow) }
-    ensures does { IfOk result (λ flow. (f : FunctionValue) → AreOf f p.now l.now → DoesRow f (flat_of flow)) }
+    ensures is { IfOk result (λ flow. (f : FunctionValue) → AreOf f p.now l.now → IsElements f p.now.places flow) }
+    ensures does { IfOk result (λ flow. (f : FunctionValue) → AreOf f p.now l.now → DoesRow f p.now.places (flat_of flow)) }
 {
     elements(alloc, &p.core, p.places.as_slice(), l)
 }
@@ -275,7 +275,7 @@ fn whole_turns(
 fn elements(alloc: Global, core: &Core, places: &[u8], layout: &Layout) -> Result<Flow, AllocError>
     requires of { (f : FunctionValue) × AreOf f (record { core = core.now; places = places.now }) layout.now }
     requires places { GoodPlaces core.now.steps places.now }
-    ensures { IfOk result (λ flow. (f : FunctionValue) → AreOf f (record { core = core.now; places = places.now }) layout.now → IsElements f flow) }
+    ensures { IfOk result (λ flow. (f : FunctionValue) → AreOf f (record { core = core.now; places = places.now }) layout.now → IsElements f places.now flow) }
 {
     let lanes = core.lanes as usize;
     let size = core.sizes[0] as usize;

@@ -35,7 +35,7 @@ swapped (x ∷ xs) (y ∷ ys) = ap (λ b. b && bytes_eq xs ys) (same x y) ∙ ap
     same : (m n : ℕ) → nat_eq m n ≡ nat_eq n m
     same m n = grind (arith, nat_tests)
 
-all_swapped : (w : Word) (ws : List Word) → list_any (λ x. bytes_eq x w) ws ≡ list_any (bytes_eq w) ws
+pub all_swapped : (w : Word) (ws : List Word) → list_any (λ x. bytes_eq x w) ws ≡ list_any (bytes_eq w) ws
 all_swapped w [] = refl
 all_swapped w (x ∷ ws) = ap (λ b. b || list_any (λ y. bytes_eq y w) ws) (swapped x w) ∙ ap (λ b. bytes_eq w x || b) (all_swapped w ws)
 

@@ -134,12 +134,13 @@ size_there : (k : VarKind) (x : Option ℕ) → is_size_word k x ≡ true → is
 size_there k None h = absurd (true≢false (sym h))
 size_there k (Some n) h = h
 
-record FineVariable (k : VarKind) (ws : List Word) : Type 0 where
-  size : is_size_for k (unwrap_or (size_of (word ws 1)) 0) ≡ true
-  name : is_name (word ws 2) ≡ true
-  numbers : has_bad_number k ws ≡ false
+pub record FineVariable (k : VarKind) (ws : List Word) : Type 0 where
+  pub size_word : is_size_word k (size_of (word ws 1)) ≡ true
+  pub size : is_size_for k (unwrap_or (size_of (word ws 1)) 0) ≡ true
+  pub name : is_name (word ws 2) ≡ true
+  pub numbers : has_bad_number k ws ≡ false
 
-fine_variable : (said : Said) (k : VarKind) (ws : List Word) → directive_fault said ws (Some (directive.Variable k)) ≡ None → FineVariable k ws
+pub fine_variable : (said : Said) (k : VarKind) (ws : List Word) → directive_fault said ws (Some (directive.Variable k)) ≡ None → FineVariable k ws
 fine_variable said k ws h =
     let size = is_size_word k (size_of (word ws 1)) in
     let name = is_name (word ws 2) in
@@ -147,8 +148,10 @@ fine_variable said k ws h =
     let a = or_none (check (not size) fault.BadSize) (or_else (check (not name) fault.BadName) number) (passed said (directive.Variable k) ws h).by_word in
     let b = or_none (check (not name) fault.BadName) number a.1 in
     let c = or_none (check (has_bad_number k ws) fault.BadNumber) None b.1 in
+    let there = not_false size (check_none (not size) fault.BadSize a.0) in
     record {
-      size = size_there k (size_of (word ws 1)) (not_false size (check_none (not size) fault.BadSize a.0));
+      size_word = there;
+      size = size_there k (size_of (word ws 1)) there;
       name = not_false name (check_none (not name) fault.BadName b.0);
       numbers = check_none (has_bad_number k ws) fault.BadNumber c.0;
     }

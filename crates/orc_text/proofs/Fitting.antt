@@ -78,12 +78,12 @@ sources_fine vars earlier op prefix k (w ∷ ws) h =
 
 -- ---- an opcode and the words behind it
 
-record FineOpcode (vars : List Var) (op : Op) (ws : List Word) : Type 0 where
-  count : (length ws == result_count op + source_count op) ≡ true
-  results : AreFine vars (result_words op ws)
-  sources : AreFine vars (source_words op ws)
+pub record FineOpcode (vars : List Var) (op : Op) (ws : List Word) : Type 0 where
+  pub count : (length ws == result_count op + source_count op) ≡ true
+  pub results : AreFine vars (result_words op ws)
+  pub sources : AreFine vars (source_words op ws)
 
-fine_opcode : (vars : List Var) (earlier : List Insn) (line : ℕ) (op : Op) (prefix : ℕ) (ws : List Word) → opcode_fault vars earlier line op prefix ws ≡ None → FineOpcode vars op ws
+pub fine_opcode : (vars : List Var) (earlier : List Insn) (line : ℕ) (op : Op) (prefix : ℕ) (ws : List Word) → opcode_fault vars earlier line op prefix ws ≡ None → FineOpcode vars op ws
 fine_opcode vars earlier line op prefix ws h =
     let many = or_else (check (is_too_many vars earlier (insn_of vars line op prefix ws)) fault.TooMany) None in
     let sources = source_words_fault vars earlier op prefix 0 (source_words op ws) in

@@ -21,3 +21,12 @@ pub mod KeptVars
 pub mod InsnLines
 pub mod Functions
 pub mod Reread
+pub mod Each
+pub mod OneName
+pub mod MoreLines
+pub mod LineSteps
+pub mod Segmented
+pub mod OneProgram
+pub mod LeastLine
+pub mod Setting
+pub mod Looking

@@ -6,3 +6,6 @@ pub mod Held
 pub mod Line
 pub mod Shown
 pub mod Again
+pub mod Each
+pub mod Segments
+pub mod FirstFault

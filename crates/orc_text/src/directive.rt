@@ -4,7 +4,7 @@ ghost use Rattle.std.specs.Prelude.{◌≡◌, map};
 ghost use Rattle.orc_text.specs.Said.{directive_among, directive_of};
 
 use orc_program::VarKind;
-use orc_words::is_same;
+use orc_program::words::is_same;
 
 /// What a word with a dot says that its line is. A parameter of a float or double is refused.
 #[derive(Clone, Copy, Debug, PartialEq, Eq)]

@@ -13,8 +13,9 @@ use crate::directive::Directive;
 use crate::fault::{check, has_wrong_words, is_duplicate, is_full, stands_anywhere};
 use crate::line::{Declared, Line, Part};
 use crate::state::State;
+use orc_program::words::number_of;
 use orc_program::{Fault, Name, VarKind, is_size_for};
-use orc_words::{after, has_bad_align, has_bad_count, number_of, size_of, word};
+use orc_words::{after, has_bad_align, has_bad_count, size_of, word};
 
 /// The name that a word is.
 fn name_of(word: &[u8]) -> Result<Name, Fault>

@@ -16,9 +16,10 @@ ghost use Rattle.orc_text.specs.Held.{said_of, function_in, Holds};
 
 use crate::directive::Directive;
 use crate::state::{Current, State};
+use orc_program::words::is_same;
 use orc_program::{Fault, MOST_FUNCTIONS, VarKind, count_of, most_of};
 use orc_words::{
-    after, ends_in_align, ends_in_count_word, has_exactly, has_fewer, has_strange, is_same, word,
+    after, ends_in_align, ends_in_count_word, has_exactly, has_fewer, has_strange, word,
 };
 
 /// The fault, where the condition holds.

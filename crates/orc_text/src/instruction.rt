@@ -16,11 +16,12 @@ use crate::line::{Line, Part};
 use crate::state::{Current, State};
 use arrayvec::ArrayVec;
 use orc_ops::{Found, Op, find};
+use orc_program::words::number_of;
 use orc_program::{
     Fault, Function, Insn, Operand, check_result, check_source, is_bad_prefix, is_name,
     is_too_many, result_count, source_count,
 };
-use orc_words::{after, has_exactly, looks_like_number, next_word, number_of, prefix_of, word};
+use orc_words::{after, has_exactly, looks_like_number, next_word, prefix_of, word};
 
 /// The variable at a place, as an operand.
 fn operand_at(f: &Function, place: usize) -> Operand

@@ -6,12 +6,14 @@ mod directive;
 mod directive_line;
 mod fault;
 mod instruction;
+mod laws;
 mod line;
 mod reading;
 mod showing;
 mod state;
 
 pub use directive::Directive;
+pub use laws::{checks_look, least_line_faults, one_fault, reads_are_segments, says_one};
 pub use reading::{TextError, read};
 pub use showing::show;
 

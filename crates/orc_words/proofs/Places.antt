@@ -1,11 +1,10 @@
 -- What the scanner's places say of lines and words.
-use Rattle.std.proofs.Common.{◌≡◌, ℕ, suc, ◌+◌, ◌-◌, ◌<◌, Bool, true, false, not, List, [], ◌∷◌, length, get_or, take, drop, Some, None, position, refl, sym, ap, ◌∙◌, subst, arith, inl, inr, add-zero}
+use Rattle.std.proofs.Common.{◌≡◌, ℕ, ◌+◌, ◌<◌, Bool, true, false, not, List, [], ◌∷◌, length, get_or, take, drop, Some, None, position, refl, sym, ap, ◌∙◌, subst, arith, inl, inr, add-zero}
 use Rattle.std.specs.List.{before_first, position_or_len}
-use Rattle.std.proofs.lemmas.Bool.{cases_lt, lt-ltb, le-ltb, eq-eqb, ne_eqb, not-true}
+use Rattle.std.proofs.lemmas.Bool.{cases_lt, lt-ltb, le-ltb, not-true}
 use Rattle.std.proofs.lemmas.List.{get_or-drop, drop_all, take_all, length-drop}
 use Rattle.std.proofs.lemmas.List.Sums.{passes_at_first, prefix_len-le-length}
 use Rattle.orc_words.specs.Text.{lines, words, parts_words}
-use Rattle.orc_program.specs.Words.{without}
 use Rattle.orc_words.proofs.Split.{ends_line, in_word, lines_more, lines_end, skip_parts, words_more}
 
 -- the place that `position` gives, and what it says where it gives none
@@ -39,21 +38,6 @@ line_at bytes i h =
 
 pub last_line : (bytes : List ℕ) → position ends_line bytes ≡ None → 0 < length bytes → lines bytes ≡ bytes ∷ []
 last_line bytes h some = lines_end bytes some (place_none ends_line bytes h)
-
-pub without_yes : (x : ℕ) (bytes : List ℕ) → 0 < length bytes → get_or bytes (length bytes - 1) 0 ≡ x → without x bytes ≡ take (length bytes - 1) bytes
-without_yes x [] some h = absurd (omega arith)
-without_yes x (b ∷ []) some h = rw (eq-eqb b x h) refl
-without_yes x (b ∷ c ∷ bytes) some h =
-    let e : length (b ∷ c ∷ bytes) - 1 ≡ suc (length (c ∷ bytes) - 1) = omega arith in
-    let h' : get_or (c ∷ bytes) (length (c ∷ bytes) - 1) 0 ≡ x = rw e at h in
-    rw e (ap (λ (ys : List ℕ). b ∷ ys) (without_yes x (c ∷ bytes) (omega arith) h'))
-
-pub without_no : (x : ℕ) (bytes : List ℕ) → (0 < length bytes → get_or bytes (length bytes - 1) 0 ≡ x → ⊥) → without x bytes ≡ bytes
-without_no x [] h = refl
-without_no x (b ∷ []) h = rw (ne_eqb b x (h (omega arith))) refl
-without_no x (b ∷ c ∷ bytes) h =
-    let e : length (b ∷ c ∷ bytes) - 1 ≡ suc (length (c ∷ bytes) - 1) = omega arith in
-    ap (λ (ys : List ℕ). b ∷ ys) (without_no x (c ∷ bytes) (λ some same. h (omega arith) (rw e same)))
 
 pub before_at : (p : ℕ → Bool) (xs : List ℕ) (i : ℕ) → position p xs ≡ Some i → (before_first p xs ≡ take i xs) × (i < length xs)
 before_at p xs i h = let q = place_some p xs i h in (ap (λ (k : ℕ). take k xs) q.0, q.1)

@@ -1,9 +1,8 @@
-//! Lines of a text, words of a line, number words, the words that notes can have, and names in an order.
+//! Lines of a text, words of a line, the words that notes can have, and names in an order.
 #![tactic(auto)]
 
 mod names;
 mod notes;
-mod number;
 mod scan;
 mod words;
 
@@ -11,9 +10,7 @@ pub use names::Names;
 pub use notes::{
     ends_in_align, ends_in_count_word, has_bad_align, has_bad_count, has_strange, is_number,
 };
-pub use number::number_of;
 pub use scan::{content, has_bad_byte, next_line, next_word};
 pub use words::{
-    after, has_exactly, has_fewer, is_same, looks_like_number, prefix_of, size_of, starts_with_dot,
-    word,
+    after, has_exactly, has_fewer, looks_like_number, prefix_of, size_of, starts_with_dot, word,
 };

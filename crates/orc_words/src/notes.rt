@@ -6,26 +6,8 @@ ghost use Rattle.orc_program.specs.Words.{is_align, is_count_word, is_alphabetic
 ghost use Rattle.orc_program.specs.Notes.{is_align_number, ends_in_align, has_bad_align, ends_in_count_word, starts_alphabetic, is_strange, is_number, has_bad_count};
 ghost use Rattle.orc_words.specs.Text.{words};
 
-use crate::number::number_of;
 use crate::scan::next_word;
-use crate::words::is_same;
-
-/// The word `align`.
-fn is_align(word: &[u8]) -> bool
-    ensures { result ≡ is_align word.now }
-{
-    is_same(word, b"align")
-}
-
-/// Whether a number is a power of two from 1 to 4096.
-fn is_align_number(number: Option<u64>) -> bool
-    ensures { result ≡ is_align_number number }
-{
-    matches!(
-        number,
-        Some(1 | 2 | 4 | 8 | 16 | 32 | 64 | 128 | 256 | 512 | 1024 | 2048 | 4096)
-    )
-}
+use orc_program::words::{is_align, is_align_number, is_count_word, number_of};
 
 /// Whether the last word is `align`.
 #[tactic(auto, using(crate::proofs::Passing::ends_align))]
@@ -60,13 +42,6 @@ pub fn has_bad_align(line: &[u8]) -> bool
         }
     }
     false
-}
-
-/// `mult`, `min` or `max`.
-fn is_count_word(word: &[u8]) -> bool
-    ensures { result ≡ is_count_word word.now }
-{
-    is_same(word, b"mult") || is_same(word, b"min") || is_same(word, b"max")
 }
 
 /// Whether the last word is `mult`, `min` or `max`.

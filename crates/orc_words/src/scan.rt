@@ -5,6 +5,8 @@ ghost use Rattle.std.specs.List.{list_any, before_first};
 ghost use Rattle.orc_program.specs.Words.{without};
 ghost use Rattle.orc_words.specs.Text.{lines, content, words, parts_words, is_bad_byte, is_hash};
 
+use orc_program::words::without;
+
 /// The place of the first byte 10.
 fn line_end(bytes: &[u8]) -> Option<usize>
     ensures { result ≡ position (λ b. b == 10) bytes.now }
@@ -30,18 +32,6 @@ fn comment_start(line: &[u8]) -> Option<usize>
     ensures { result ≡ position (λ b. b == 35) line.now }
 {
     line.iter().position(|b| *b == b'#')
-}
-
-/// The bytes without one `last` at their end.
-#[tactic(auto, using(crate::proofs::Places::without_yes, crate::proofs::Places::without_no))]
-pub fn without(last: u8, bytes: &[u8]) -> &[u8]
-    ensures { result.now ≡ without last bytes.now }
-{
-    let n = bytes.len();
-    if n > 0 && bytes[n - 1] == last {
-        return &bytes[..n - 1];
-    }
-    bytes
 }
 
 /// The bytes before the first `#`.

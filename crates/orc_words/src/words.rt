@@ -5,15 +5,8 @@ ghost use Rattle.std.specs.Str.{bytes_eq};
 ghost use Rattle.orc_program.specs.Words.{size_of};
 ghost use Rattle.orc_words.specs.Text.{words, word, prefix_of, looks_like_number, starts_with_dot};
 
-use crate::number::is_digit;
 use crate::scan::next_word;
-
-/// Whether two words are one.
-pub fn is_same(a: &[u8], b: &[u8]) -> bool
-    ensures { result ≡ bytes_eq a.now b.now }
-{
-    a == b
-}
+use orc_program::words::{is_digit, is_same};
 
 /// The word at a place, counted from 0; empty past the end.
 #[tactic(auto, using(crate::proofs::Taking::word_next, crate::proofs::Taking::word_none))]

@@ -39,14 +39,14 @@ pub all_kept : (before after : Memory) (ps : List Part) → Keeps before after �
 all_kept before after [] k h = tt
 all_kept before after (p ∷ ps) k h = (record { low = h.0.low; mapped = λ i lt. k (p.at + i) (h.0.mapped i lt) }, all_kept before after ps k h.1)
 
-one_more_keeps : (q : Part) (ps : List Part) → Keeps (memory_of ps) (memory_of (q ∷ ps))
+pub one_more_keeps : (q : Part) (ps : List Part) → Keeps (memory_of ps) (memory_of (q ∷ ps))
 one_more_keeps q ps a m = go (covers (span q) a) refl
   where
     go : (b : Bool) → covers (span q) a ≡ b → IsMapped (memory_of (q ∷ ps)) a
     go true e = rw e refl
     go false e = rw e m
 
-first_covers : (p : Part) (ps : List Part) (i : ℕ) → i < length p.bytes → IsMapped (memory_of (p ∷ ps)) (p.at + i)
+pub first_covers : (p : Part) (ps : List Part) (i : ℕ) → i < length p.bytes → IsMapped (memory_of (p ∷ ps)) (p.at + i)
 first_covers p ps i lt =
     let there : covers (span p) (p.at + i) ≡ true = grind (arith, nat_tests, lt) in
     rw there refl

@@ -1,3 +1,6 @@
+pub mod BlockWords
+pub mod GoodPlaced
+pub mod GoodEnds
 pub mod Padding
 pub mod Leaving
 pub mod Begins
@@ -5,3 +8,4 @@ pub mod Started
 pub mod Keeping
 pub mod Placed
 pub mod Wholly
+pub mod Meet

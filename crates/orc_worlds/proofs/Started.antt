@@ -12,9 +12,12 @@ use Rattle.orc_image.specs.Spelling.{FunctionValue}
 use Rattle.orc_frame.specs.Parts.{block_size}
 use Rattle.orc_job.specs.declared.job.Job.{Job}
 use Rattle.orc_job.specs.Kept.{IsJob}
-use Rattle.orc_jobs.specs.World.{Stand, no_stand, stand_at}
+use Rattle.orc_jobs.specs.World.{Stand, no_stand, stand_at, no_memory}
+use Rattle.x86_ins.specs.declared.state.State.{State}
+use Rattle.x86_ins.specs.Machine.{point_of}
 use Rattle.orc_worlds.specs.Mapped.{AreMapped}
-use Rattle.orc_worlds.specs.Worlds.{block_of, call_of_part, own_parts, first_own, part_stand, first_stands, placed_world}
+use Rattle.orc_worlds.specs.Placement.{code_at, return_to, state_at}
+use Rattle.orc_worlds.specs.Worlds.{block_of, stack_of, call_of_part, own_parts, first_own, part_stand, first_stands, placed_world}
 use Rattle.orc_worlds.proofs.Leaving.{all_mapped, behind_covers, block_long}
 
 -- ---- runners
@@ -40,6 +43,19 @@ placed_stand f job sizes workers k l = stand_is f workers k l
 
 pub stands_more : (f : FunctionValue) (stands : List Stand) (k : ℕ) (r : Stand) → stands ≡ first_stands f k → r ≡ part_stand f k → stands ++ r ∷ [] ≡ first_stands f (k + 1)
 stands_more f stands k r e q = let s : k + 1 ≡ suc k = omega arith in ap (λ (l : List Stand). l ++ r ∷ []) e ∙ ap (λ (x : Stand). first_stands f k ++ x ∷ []) q ∙ ap (first_stands f) (sym s)
+
+-- a runner of this state, with this code and this RSP at its entry
+abbrev stand_with : State → List ℕ → ℕ → Stand
+stand_with state code rsp = record {
+  code = record { bytes = code; start = code_at };
+  stop = record { rip = return_to; rsp = rsp + 8 };
+  point = point_of state no_memory;
+  steps = 0;
+}
+
+pub stand_placed : (f : FunctionValue) (k : ℕ) (state : State) (code : List ℕ) (rsp : ℕ) → state ≡ state_at (block_of k) (stack_of k) → code ≡ f.code → rsp ≡ stack_of k → stand_with state code rsp ≡ part_stand f k
+stand_placed f k state code rsp a b c =
+    ap (λ (x : State). stand_with x code rsp) a ∙ ap (λ (x : List ℕ). stand_with (state_at (block_of k) (stack_of k)) x rsp) b ∙ ap (stand_with (state_at (block_of k) (stack_of k)) f.code) c
 
 -- ---- mapped bytes
 

@@ -6,6 +6,7 @@ use Rattle.orc_program.specs.declared.program.VarKind.TheVariants as kind
 use Rattle.orc_program.specs.declared.call.Call.{Call}
 use Rattle.orc_program.specs.declared.call.Place.{Place}
 use Rattle.orc_program.specs.Program.{FunctionValue, array_number, count_of, var_at}
+use Rattle.orc_program.specs.Facts.{facts_of}
 use Rattle.orc_program.specs.Kept.{is_function}
 use Rattle.orc_program.specs.Meaning.{emulate, no_place}
 use Rattle.orc_program.specs.Good.{IsArray}
@@ -28,7 +29,7 @@ use Rattle.orc_worlds.specs.Worlds.{call_of_part, part_stand, placed_world}
 
 -- ---- the function
 
--- an image's function has the form and the counts of a function of the language, whose arrays have elements of these sizes, and its code runs as that function means and changes nothing on the way but dests' cells, accumulators' words and the frame
+-- an image's function has the form, the counts and the facts of a function of the language, whose arrays have elements of these sizes, and its code runs as that function means and changes nothing on the way but dests' cells, accumulators' words and the frame
 pub record IsCompiled (f : FunctionValue) (entry : image.FunctionValue) (sizes : List ℕ) : Type 0 where
   pub kept : is_function f ≡ true
   pub two_d : entry.two_d ≡ f.two_d
@@ -36,6 +37,7 @@ pub record IsCompiled (f : FunctionValue) (entry : image.FunctionValue) (sizes :
   pub sources : entry.sources ≡ count_of kind.Source f.vars
   pub params : entry.params ≡ count_of kind.Param f.vars
   pub accs : entry.accs ≡ count_of kind.Accumulator f.vars
+  pub facts : entry.facts ≡ facts_of f
   pub sized : (p : ℕ) → IsArray f p → slice_index sizes (array_number f.vars p) ≡ (var_at f.vars p).size
   pub runs : RunsQuietly f entry.code
 

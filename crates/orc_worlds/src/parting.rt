@@ -1,19 +1,20 @@
 //! The parts of a job's call, and their world.
-ghost use Rattle.std.specs.Prelude.{◌≡◌, ◌<◌, ◌≤◌, ◌++◌, length, OnOk, IfOk};
+ghost use Rattle.std.specs.Prelude.{◌≡◌, ◌<◌, ◌≤◌, ◌+◌, ◌++◌, length, OnOk, IfOk};
 ghost use Rattle.std.specs.Int.{w64, cast_unsigned};
 ghost use Rattle.std.specs.Int.RustNames.{FitsSigned};
 ghost use Rattle.orc_image.specs.Spelling.{IsFunction};
 ghost use Rattle.orc_jobs.specs.World.{seen, stand_of};
 ghost use Rattle.orc_parts.specs.Even.{begin_of, even_part};
+ghost use Rattle.orc_worlds.specs.Meeting.{part_meeting, first_meeting, parts_meeting};
 ghost use Rattle.orc_worlds.specs.Worlds.{block_of, stack_of, moved_place, moved_places, AreSigned, part_call, own_parts, part_stand, placed_world};
 
 use crate::placing::{BLOCK, CODE, RETURN, block_bytes_of, copy_of, frame_of, state_at, word_of};
 use orc_bits::{Part, Parts};
 use orc_frame::FRAME_SIZE;
 use orc_image::ImageFunction;
-use orc_job::Job;
+use orc_job::{Job, JobError, meets};
 use orc_jobs::{Runner, World};
-use orc_program::{Call, Place, Places, Rect};
+use orc_program::{Call, Params, Place, Places, Rect};
 use sqlite_items::Items;
 use std::alloc::{AllocError, Global};
 
@@ -120,6 +121,47 @@ fn part_call(call: &Call, sizes: &[u8], q: Rect) -> Result<Call, AllocError>
         arrays: moved_places(q, call.arrays.as_slice(), sizes),
         params: call.params.clone()?,
     })
+}
+
+/// Whether the call of part `k` meets the facts of its function.
+fn part_meets(
+    f: &ImageFunction,
+    job: &Job,
+    sizes: &[u8],
+    workers: u8,
+    k: u8,
+) -> Result<(), JobError>
+    requires arrays { length job.now.call.arrays.items ≡ f.now.dests + f.now.sources }
+    requires sized { length sizes.now ≡ length job.now.call.arrays.items }
+    requires within { k < workers }
+    ensures { result ≡ part_meeting f.now job.now sizes.now workers k }
+{
+    let q = rect_of(f.two_d, &job.call, workers, k);
+    // no fact speaks of parameters
+    let call = Call {
+        n: q.elements,
+        m: q.rows,
+        arrays: moved_places(q, job.call.arrays.as_slice(), sizes),
+        params: Params::new(),
+    };
+    meets(&f.facts, f.two_d, &call)
+}
+
+/// Whether the call of each part meets the facts of its function. The parts are asked in order.
+///
+/// # Errors
+///
+/// `BadField` of the first that doesn't, as [`meets`] answers for its call.
+#[tactic(auto, using(crate::proofs::Meet::one_met, crate::proofs::Meet::all_met))]
+pub fn parts_meet(f: &ImageFunction, job: &Job, sizes: &[u8], workers: u8) -> Result<(), JobError>
+    requires arrays { length job.now.call.arrays.items ≡ f.now.dests + f.now.sources }
+    requires sized { length sizes.now ≡ length job.now.call.arrays.items }
+    ensures { result ≡ parts_meeting f.now job.now sizes.now workers }
+{
+    for k in 0..workers {
+        part_meets(f, job, sizes, workers, k)?;
+    }
+    Ok(())
 }
 
 /// Appends the mapped bytes that are part `k`'s alone.

@@ -9,7 +9,7 @@ use Rattle.orcc_top.specs.declared.refusal.Refusal.TheVariants.{TooLong}
 use Rattle.orcc_top.specs.declared.workers.Workers.{Workers}
 use Rattle.orcc_top.specs.Commands.{Word, words_of}
 use Rattle.orcc_top.specs.Answer.{limit_of, refusal_of, Refuses}
-use Rattle.orcc_top.specs.Runs.{Takes, IsAccepted}
+use Rattle.orcc_top.specs.Runs.{Takes, IsAccepted, IsRefused}
 use Rattle.orcc_top.proofs.Numbered.{same_workers}
 
 -- the first two bytes tell the command, but for the numbers of workers
@@ -96,3 +96,27 @@ not_accepted Q words (Some text) (Some left) command taken line asked (cut, inl 
     λ a. whole_refused a.0 command text taken left line (one_command a.0 command (sym a.1 ∙ asked)) cut end.0 refuses a.2
 not_accepted Q words (Some text) (Some left) command taken line asked (cut, inr long) refuses =
     λ a. part_refused a.0 command text taken left (one_command a.0 command (sym a.1 ∙ asked)) cut long a.2
+
+-- ---- an input of which what was taken is accepted is not refused
+
+whole_accepted : {Q : Type 0} (c command : Command) (r : Refusal) (text taken left : List ℕ) → c ≡ command → text ≡ taken ++ left → left ≡ [] → refusal_of command taken ≡ None → refusal_of c text ≡ Some r → Q
+whole_accepted c command r text taken left same cut none accepted refused =
+    let whole : text ≡ taken = cut ∙ ap (λ l. taken ++ l) none ∙ nil_behind taken in
+    refused_none (refusal_of c text) r refused (ap (λ k. refusal_of k text) same ∙ ap (refusal_of command) whole ∙ accepted)
+  where
+    nil_behind : (l : List ℕ) → l ++ [] ≡ l
+    nil_behind [] = refl
+    nil_behind (x ∷ l) = ap (λ (m : List ℕ). x ∷ m) (nil_behind l)
+
+long_accepted : {Q : Type 0} (command : Command) (taken : List ℕ) → length taken ≡ limit_of command + 1 → refusal_of command taken ≡ None → Q
+long_accepted command taken long accepted =
+    let more : ltb (limit_of command) (length taken) ≡ true = lt-ltb _ _ (omega (arith, long)) in
+    refused_none (refusal_of command taken) TooLong (rw more refl) accepted
+
+pub not_rejected : (Q : Type 0) (words : List Word) (old new : Option (List ℕ)) (command : Command) (taken : List ℕ) → words ≡ words_of command
+    → Takes (limit_of command) old new taken → refusal_of command taken ≡ None → IfSome old (λ text. IsRefused words text → Q)
+not_rejected Q words None new command taken asked takes accepted = tt
+not_rejected Q words (Some text) None command taken asked takes accepted = absurd takes.0
+not_rejected Q words (Some text) (Some left) command taken asked (cut, inl end) accepted =
+    λ r. whole_accepted r.0 command r.1 text taken left (one_command r.0 command (sym r.2 ∙ asked)) cut end.0 accepted r.3
+not_rejected Q words (Some text) (Some left) command taken asked (cut, inr long) accepted = λ r. long_accepted command taken long accepted

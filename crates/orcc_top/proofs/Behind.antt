@@ -30,6 +30,6 @@ pub refused_image : (on_image : List FunctionValue → List ℕ → Option JobEr
     → refusal_behind on_image (image_at record { at = 0; rest = bytes }) ≡ Some (refusal.Image e)
 refused_image on_image bytes e h = go (image_at record { at = 0; rest = bytes }) h
   where
-    go : (r : Field (List FunctionValue)) → Some e ≡ refusal_in r → refusal_behind on_image r ≡ Some (refusal.Image e)
+    go : (r : Field ImageValue) → Some e ≡ refusal_in r → refusal_behind on_image r ≡ Some (refusal.Image e)
     go (Ok x) q = cc
     go (Err f) q = ap (option_map (λ x. refusal.Image x)) (sym q)

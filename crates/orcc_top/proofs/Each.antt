@@ -8,7 +8,8 @@ use Rattle.std.proofs.lemmas.Slice.Eq.{bytes_eq-Decides}
 use Rattle.std.proofs.Math.Seq.{drop-cons}
 use Rattle.orc_program.specs.Kept.{all_distinct}
 use Rattle.orc_image.specs.Spelling.{is_among}
-use Rattle.orcc_top.specs.Each.{OneForEach}
+use Rattle.orc_text.specs.Each.{OneForEach}
+use Rattle.orc_text.proofs.Each.{each_appended, count_kept}
 
 -- ---- lists
 
@@ -32,16 +33,7 @@ none_before (x ∷ seen) w ws d =
 -- ---- one for each
 
 pub each_and_one : {A B : Type 0} (R : A → B → Type 0) (xs : List A) (ys : List B) (x : A) (y : B) → OneForEach R xs ys → R x y → OneForEach R (xs ++ x ∷ []) (ys ++ y ∷ [])
-each_and_one R [] [] x y all one = (one, tt)
-each_and_one R [] (b ∷ ys) x y all one = absurd all
-each_and_one R (a ∷ xs) [] x y all one = absurd all
-each_and_one R (a ∷ xs) (b ∷ ys) x y all one = (all.0, each_and_one R xs ys x y all.1 one)
-
-count_kept : {A B : Type 0} (R : A → B → Type 0) (xs : List A) (ys : List B) → OneForEach R xs ys → length ys ≡ length xs
-count_kept R [] [] all = refl
-count_kept R [] (b ∷ ys) all = absurd all
-count_kept R (a ∷ xs) [] all = absurd all
-count_kept R (a ∷ xs) (b ∷ ys) all = ap suc (count_kept R xs ys all.1)
+each_and_one R xs ys x y all one = each_appended R xs (x ∷ []) ys (y ∷ []) all (one, tt)
 
 -- what belongs to each other has one name
 abbrev pub AreNamed : {A B : Type 0} → (A → B → Type 0) → (A → List ℕ) → (B → List ℕ) → Type 0

@@ -1,10 +1,12 @@
 -- Entries of an image or an object, one after the other.
-use Rattle.std.proofs.Common.{◌≡◌, ℕ, suc, ◌+◌, ◌<◌, ◌≤◌, Bool, true, List, [], ◌∷◌, ◌++◌, length, map, take, drop, get_or, Option, Some, None, refl, sym, ap, ◌∙◌, arith}
+use Rattle.std.proofs.Common.{◌≡◌, ℕ, zero, suc, inl, inr, ◌+◌, ◌<◌, ◌≤◌, Bool, true, List, [], ◌∷◌, ◌++◌, length, map, take, drop, get_or, Option, Some, None, refl, sym, ap, ◌∙◌, arith}
+use Rattle.std.specs.List.{list_all}
 use Rattle.std.specs.Option.{option_or}
-use Rattle.std.proofs.lemmas.Bool.{leb-true}
+use Rattle.std.proofs.lemmas.Bool.{cases_Bool, leb-true}
 use Rattle.orc_program.specs.declared.program.VarKind.{VarKind}
 use Rattle.orc_program.specs.declared.program.VarKind.TheVariants as kind
 use Rattle.orc_program.specs.Program.{FunctionValue, ProgramValue, count_of}
+use Rattle.orc_program.specs.Facts.{facts_of, is_free}
 use Rattle.orc_program.specs.Kept.{is_function, is_program, all_distinct, has_few, most_of}
 use Rattle.orc_program.proofs.Sizes.{both, kept_of}
 use Rattle.orc_plan.specs.declared.steps.Pressure.{Pressure}
@@ -13,7 +15,7 @@ use Rattle.orc_asm.specs.declared.refusal.AsmError.TheVariants as refusal
 use Rattle.orc_asm.specs.Function.{first_pressure, IsRefusal}
 use Rattle.orc_elf.specs.Entries.{EntryValue}
 use Rattle.orc_image.specs.Spelling as image
-use Rattle.orcc_top.specs.Assembly.{EntryOf, first_pressure_in, TellsPressure}
+use Rattle.orcc_top.specs.Assembly.{EntryOf, version_of, first_pressure_in, TellsPressure}
 use Rattle.orcc_top.specs.Objects.{CompiledOf, uncounted}
 use Rattle.orcc_top.proofs.Each.{AreNamed, parted, one_further}
 
@@ -64,6 +66,22 @@ Uncounts e f = f ≡ uncounted e
 
 pub uncounted_named : AreNamed Uncounts (λ e. e.name) (λ f. f.name)
 uncounted_named e f one = ap (λ (f : image.FunctionValue). f.name) one
+
+-- in an image of version 1 nothing is stated of any function
+all_free : (fs : List FunctionValue) → version_of fs ≡ 1 → list_all (λ f. is_free (facts_of f)) fs ≡ true
+all_free fs one =
+    elim (cases_Bool (list_all (λ f. is_free (facts_of f)) fs)) [
+      | inl t ↦ t
+      | inr f ↦ absurd (let two : version_of fs ≡ 2 = rw f refl in omega (arith, one, two))
+    ]
+
+one_free : (fs : List FunctionValue) (i : ℕ) (d : FunctionValue) → i < length fs → list_all (λ f. is_free (facts_of f)) fs ≡ true → is_free (facts_of (get_or fs i d)) ≡ true
+one_free [] i d lt h = absurd (omega (arith, lt))
+one_free (f ∷ fs) zero d lt h = (both (is_free (facts_of f)) (list_all (λ g. is_free (facts_of g)) fs) h).0
+one_free (f ∷ fs) (suc i) d lt h = one_free fs i d (omega (arith, lt)) (both (is_free (facts_of f)) (list_all (λ g. is_free (facts_of g)) fs) h).1
+
+pub free_at : (fs : List FunctionValue) (i : ℕ) (f : FunctionValue) → i < length fs → f ≡ get_or fs i f → version_of fs ≡ 1 → is_free (facts_of f) ≡ true
+free_at fs i f lt is one = ap (λ g. is_free (facts_of g)) is ∙ one_free fs i f lt (all_free fs one)
 
 -- ---- what needs too many values
 

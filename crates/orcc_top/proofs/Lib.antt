@@ -12,7 +12,6 @@ pub mod Accepting
 pub mod Calls
 pub mod Behind
 pub mod Refused
-pub mod Widest
 pub mod Numbered
 pub mod Sizing
 pub mod Numerals

@@ -44,7 +44,7 @@ refusal_within Run input = run_refusal input
 refusal_within Dis input = dis_refusal input
 refusal_within Emulate input = emulate_refusal input
 refusal_within Obj input = option_or (fault_refusal input) (pressure_refusal input)
-refusal_within (Jobs w) input = jobs_refusal input
+refusal_within (Jobs w) input = jobs_refusal w.count input
 
 -- why a command refuses an input, if it does: for its length, or else for what it says
 abbrev pub refusal_of : Command → List ℕ → Option Refusal

@@ -1,21 +1,23 @@
 -- The image of a text, and why a text without a fault has none.
-use Rattle.std.specs.Prelude.{◌≡◌, ℕ, List, [], ◌∷◌, Option, Some, None, option_map}
+use Rattle.std.specs.Prelude.{◌≡◌, ℕ, List, [], ◌∷◌, Option, Some, None, option_map, if◌then◌else◌}
+use Rattle.std.specs.List.{list_all}
 use Rattle.std.specs.Option.{option_or}
 use Rattle.orc_program.specs.declared.program.VarKind.TheVariants as kind
 use Rattle.orc_program.specs.Program.{FunctionValue, ProgramValue, count_of}
+use Rattle.orc_program.specs.Facts.{facts_of, is_free}
 use Rattle.orc_text.specs.Reads.{Reads, text_program}
 use Rattle.orc_plan.specs.declared.steps.Pressure.{Pressure}
 use Rattle.orc_asm.specs.declared.refusal.AsmError.{AsmError}
 use Rattle.orc_asm.specs.declared.refusal.AsmError.TheVariants as asm
 use Rattle.orc_asm.specs.Function.{RunsAs, RunsFully, first_pressure}
 use Rattle.orc_image.specs.Spelling as spelling
-use Rattle.orcc_top.specs.Each.{OneForEach}
+use Rattle.orc_text.specs.Each.{OneForEach}
 use Rattle.orcc_top.specs.declared.refusal.Refusal.{Refusal}
 use Rattle.orcc_top.specs.declared.refusal.Refusal.TheVariants as refusal
 
 -- ---- the image
 
--- an image's function with the name and the counts of a function of the text, and with code whose good calls do what that function means, inside larger memories too, change nothing on the way but dests' cells, accumulators' words and the frame, touch cells at most once a turn for each operand that is an array, and store the first dest aligned wherever that can be done in every row
+-- an image's function with the name, the counts and the facts of a function of the text, and with code whose good calls do what that function means, inside larger memories too, change nothing on the way but dests' cells, accumulators' words and the frame, touch cells at most once a turn for each operand that is an array, and store the first dest aligned wherever that can be done in every row
 pub record EntryOf (f : FunctionValue) (entry : spelling.FunctionValue) : Type 0 where
   pub name : entry.name ≡ f.name
   pub two_d : entry.two_d ≡ f.two_d
@@ -23,12 +25,17 @@ pub record EntryOf (f : FunctionValue) (entry : spelling.FunctionValue) : Type 0
   pub sources : entry.sources ≡ count_of kind.Source f.vars
   pub params : entry.params ≡ count_of kind.Param f.vars
   pub accs : entry.accs ≡ count_of kind.Accumulator f.vars
+  pub facts : entry.facts ≡ facts_of f
   pub runs : RunsAs f entry.code
   pub inside : RunsFully f entry.code
 
 -- one for each function, in order
 abbrev pub EntriesOf : List FunctionValue → List spelling.FunctionValue → Type 0
 EntriesOf fs entries = OneForEach EntryOf fs entries
+
+-- the version of an image of these functions: 2 where something is stated of calls of some function, and else 1
+abbrev pub version_of : List FunctionValue → ℕ
+version_of fs = if list_all (λ f. is_free (facts_of f)) fs then 1 else 2
 
 -- the bytes are an image of the program that the text reads as
 pub record IsAssembled (text bytes : List ℕ) : Type 0 where
@@ -37,6 +44,7 @@ pub record IsAssembled (text bytes : List ℕ) : Type 0 where
   pub image : spelling.ImageValue
   pub spelled : spelling.ImageOf bytes image
   pub entries : EntriesOf program.functions image.functions
+  pub version : image.version ≡ version_of program.functions
 
 -- ---- refusals
 

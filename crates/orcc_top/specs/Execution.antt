@@ -12,7 +12,7 @@ use Rattle.orc_job.specs.declared.outcome.EndLine.TheVariants as line
 use Rattle.orc_job.specs.declared.outcome.Outcome.{Outcome}
 use Rattle.orc_job.specs.declared.error.JobError.{JobError}
 use Rattle.orc_job.specs.Fields.{◌>>=◌}
-use Rattle.orc_job.specs.Limits.{fitting}
+use Rattle.orc_job.specs.Limits.{fitting, meeting}
 use Rattle.orc_job.specs.Printed.{result_text}
 use Rattle.x86_ins.specs.Machine.{Point}
 use Rattle.x86_machine.specs.declared.machine.End.{End}
@@ -54,6 +54,13 @@ entry_called fs job = do
   _ ← fitting job (f.dests + f.sources) f.params
   Ok f
 
+-- and whose facts the job's call meets
+abbrev pub entry_met : List FunctionValue → Job → Result FunctionValue JobError
+entry_met fs job = do
+  f ← entry_called fs job
+  _ ← meeting f.facts f.two_d job.call
+  Ok f
+
 -- ---- the output
 
 -- the outcome of the job that bytes say, run on the code of the function that it calls
@@ -61,7 +68,7 @@ pub record RunsTo (functions : List FunctionValue) (bytes : List ℕ) (outcome :
   pub job : Job
   pub says : job_read bytes ≡ Ok job
   pub f : FunctionValue
-  pub calls : entry_called functions job ≡ Ok f
+  pub calls : entry_met functions job ≡ Ok f
   pub ran : Ran f job outcome
 
 -- the bytes are the printed outcome of the job behind an image, on the code of the image
@@ -78,12 +85,12 @@ pub record IsRun (input bytes : List ℕ) : Type 0 where
 
 -- why the job that bytes say is refused on the functions of an image, if it is
 abbrev pub refusal_on_image : List FunctionValue → List ℕ → Option JobError
-refusal_on_image functions bytes = job_refusal (job_read bytes >>= entry_called functions)
+refusal_on_image functions bytes = job_refusal (job_read bytes >>= entry_met functions)
 
 -- for the image's first bad field, or else for the job behind it, by what its functions and the job's bytes are refused for
-abbrev pub refusal_behind : (List FunctionValue → List ℕ → Option JobError) → Field (List FunctionValue) → Option Refusal
+abbrev pub refusal_behind : (List FunctionValue → List ℕ → Option JobError) → Field ImageValue → Option Refusal
 refusal_behind on_image (Err e) = Some (refusal.Image e)
-refusal_behind on_image (Ok x) = option_map (λ e. refusal.Job e) (on_image x.0 x.1.rest)
+refusal_behind on_image (Ok x) = option_map (λ e. refusal.Job e) (on_image x.0.functions x.1.rest)
 
 -- why an image and a job are refused, if they are
 abbrev pub run_refusal : List ℕ → Option Refusal

@@ -2,7 +2,7 @@
 use Rattle.std.specs.Prelude.{List, ℕ, length, nat_lt, Ok, Err, Option, Some, None, if◌then◌else◌}
 use Rattle.orc_image.specs.declared.error.ImageError.{ImageError}
 use Rattle.orc_image.specs.declared.error.ImageError.TheVariants.{BadField}
-use Rattle.orc_image.specs.Spelling.{FunctionValue, ImageValue, ImageOf, image_bytes}
+use Rattle.orc_image.specs.Spelling.{ImageValue, ImageOf, image_bytes}
 use Rattle.orc_image.specs.Fields.{Field, image_at}
 use Rattle.orc_image.specs.Listing.{IsListing}
 
@@ -14,9 +14,9 @@ ListsImage bytes text = (image : ImageValue) × ImageOf bytes image × IsListing
 abbrev pub trailing : ℕ → List ℕ → Option ImageError
 trailing size bytes = if nat_lt size (length bytes) then Some (BadField size) else None
 
-abbrev pub refusal_of_read : List ℕ → Field (List FunctionValue) → Option ImageError
+abbrev pub refusal_of_read : List ℕ → Field ImageValue → Option ImageError
 refusal_of_read bytes (Err e) = Some e
-refusal_of_read bytes (Ok x) = trailing (length (image_bytes record { functions = x.0 })) bytes
+refusal_of_read bytes (Ok x) = trailing (length (image_bytes x.0)) bytes
 
 -- the first field that is not all there or not allowed, if there is one; bytes behind the image are such a field
 abbrev pub image_refusal : List ℕ → Option ImageError

@@ -2,13 +2,13 @@ pub mod Answer
 pub mod Assembly
 pub mod Code
 pub mod Commands
-pub mod Each
 pub mod Emulation
 pub mod Execution
 pub mod Figures
 pub mod Images
 pub mod Inputs
 pub mod Jobs
+pub mod Laws
 pub mod Objects
 pub mod Refusals
 pub mod Replies

@@ -11,6 +11,7 @@ use Rattle.orc_job.specs.declared.job.Job.{Job}
 use Rattle.orc_job.specs.Fields.{◌>>=◌, field_at}
 use Rattle.orc_job.specs.Forms.{size_in, few_in}
 use Rattle.orc_worlds.specs.declared.playing.Played.{Played}
+use Rattle.orc_worlds.specs.Meeting.{parts_meeting}
 use Rattle.orc_worlds.specs.Played.{PlayedOut, played_text}
 use Rattle.orc_worlds.specs.Whole.{DoesWhole}
 use Rattle.orcc_top.specs.declared.refusal.Refusal.{Refusal}
@@ -41,6 +42,7 @@ pub record SharedOut (functions : List FunctionValue) (bytes : List ℕ) (worker
   pub sized : sizes_read bytes ≡ Ok sizes
   pub f : FunctionValue
   pub calls : entry_called functions job ≡ Ok f
+  pub met : parts_meeting f job sizes workers.count ≡ Ok tt
   pub played : PlayedOut f job sizes workers.count workers.seed outcome
   -- parts that are separate do the whole call
   pub whole : DoesWhole f job sizes workers.count outcome
@@ -57,17 +59,19 @@ pub record IsShared (workers : Workers) (input bytes : List ℕ) : Type 0 where
 
 -- ---- refusals
 
--- the function that the job calls that bytes say, whose elements they say the sizes of
-abbrev pub sized_call : List FunctionValue → List ℕ → Result FunctionValue JobError
-sized_call functions bytes = do
+-- the function that the job calls that bytes say, whose elements they say the sizes of, and whose facts the calls of so many parts meet
+abbrev pub sized_call : ℕ → List FunctionValue → List ℕ → Result FunctionValue JobError
+sized_call workers functions bytes = do
   job ← job_read bytes
-  _ ← sizes_read bytes
-  entry_called functions job
+  sizes ← sizes_read bytes
+  f ← entry_called functions job
+  _ ← parts_meeting f job sizes workers
+  Ok f
 
--- why the job that bytes say is not shared on the functions of an image, if it is not
-abbrev pub refusal_of_sharing : List FunctionValue → List ℕ → Option JobError
-refusal_of_sharing functions bytes = job_refusal (sized_call functions bytes)
+-- why the job that bytes say is not shared among so many workers on the functions of an image, if it is not
+abbrev pub refusal_of_sharing : ℕ → List FunctionValue → List ℕ → Option JobError
+refusal_of_sharing workers functions bytes = job_refusal (sized_call workers functions bytes)
 
 -- why an image and a job are refused, if they are
-abbrev pub jobs_refusal : List ℕ → Option Refusal
-jobs_refusal input = refusal_behind refusal_of_sharing (image_at record { at = 0; rest = input })
+abbrev pub jobs_refusal : ℕ → List ℕ → Option Refusal
+jobs_refusal workers input = refusal_behind (refusal_of_sharing workers) (image_at record { at = 0; rest = input })

@@ -6,7 +6,7 @@ use Rattle.c_run.specs.declared.tree.CTree.{CTree}
 use Rattle.c_run.specs.Tree.{CFunctionValue}
 use Rattle.c_emit.specs.CAs.{CAs, HasShape}
 use Rattle.c_emit.specs.Spelled.{CText}
-use Rattle.orcc_top.specs.Each.{OneForEach}
+use Rattle.orc_text.specs.Each.{OneForEach}
 
 -- a function of C with the name and the counts of a function of the text, and with its meaning
 pub record MeansAs (f : FunctionValue) (c : CFunctionValue) : Type 0 where

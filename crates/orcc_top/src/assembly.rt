@@ -1,9 +1,12 @@
 //! Assembling a text.
 ghost use Rattle.std.specs.Prelude.{◌≡◌, ◌≤◌, None, true, length, map, IfOk, OnOk, IfErr};
+ghost use Rattle.std.specs.List.{list_all};
 ghost use Rattle.orc_program.specs.Program.{count_of};
 ghost use Rattle.orc_program.specs.Kept.{is_function, all_distinct, most_of};
+ghost use Rattle.orc_program.specs.Facts.{facts_of, is_free};
+ghost use Rattle.orc_image.specs.Spelling.{is_version};
 ghost use Rattle.orc_asm.specs.Function.{first_pressure, IsRefusal};
-ghost use Rattle.orcc_top.specs.Assembly.{EntryOf, EntriesOf, first_pressure_in, TellsPressure};
+ghost use Rattle.orcc_top.specs.Assembly.{EntryOf, EntriesOf, version_of, first_pressure_in, TellsPressure};
 ghost use Rattle.orcc_top.specs.Code.{HoldsCode, command_for};
 ghost use Rattle.orcc_top.specs.Replies.{Replies};
 
@@ -13,7 +16,7 @@ use crate::refusal::{Refusal, line_of};
 use crate::reply::Reply;
 use orc_asm::{AsmError, assemble};
 use orc_image::{Image, ImageFunction, write_image};
-use orc_program::{Function, Name, VarKind, count_of};
+use orc_program::{Function, Name, VarKind, count_of, facts, is_free};
 use std::alloc::{AllocError, Global};
 
 /// What a text's code is written as.
@@ -52,8 +55,30 @@ fn entry_of(alloc: Global, f: &Function) -> Result<ImageFunction, AsmError>
         sources: count(f, VarKind::Source),
         params: count(f, VarKind::Param),
         accs: count(f, VarKind::Accumulator),
+        facts: facts(f),
         code,
     })
+}
+
+/// Whether nothing is stated of calls of a function.
+fn has_no_facts(f: &Function) -> bool
+    ensures { result ≡ is_free (facts_of f.now) }
+{
+    is_free(&facts(f))
+}
+
+fn have_no_facts(functions: &[Function]) -> bool
+    ensures { result ≡ list_all (λ f. is_free (facts_of f)) functions.now }
+{
+    functions.iter().all(|f| has_no_facts(f))
+}
+
+/// The version of an image of these functions.
+fn version_of(functions: &[Function]) -> u8
+    ensures value { result ≡ version_of functions.now }
+    ensures known { is_version result ≡ true }
+{
+    if have_no_facts(functions) { 1 } else { 2 }
 }
 
 /// The image of a program's functions.
@@ -61,10 +86,11 @@ pub fn image_of(alloc: Global, functions: &[Function]) -> Result<Image, AsmError
     requires few { length functions.now ≤ 64 }
     requires distinct { all_distinct (map (λ f. f.name) functions.now) ≡ true }
     ensures entries { IfOk result (λ image. EntriesOf functions.now image.functions) }
+    ensures version { IfOk result (λ image. image.version ≡ version_of functions.now) }
     ensures placed { OnOk result (first_pressure_in functions.now ≡ None) }
     ensures pressure { IfErr result (λ e. TellsPressure (first_pressure_in functions.now) e) }
 {
-    let mut image = Image::new(alloc);
+    let mut image = Image::new(alloc, version_of(functions));
     for f in functions {
         let entry = entry_of(alloc, f)?;
         if image.push(entry).is_err() {

@@ -12,7 +12,7 @@ use orc_program::Function;
 use std::alloc::{AllocError, Global};
 
 /// The largest number of values that an instruction of the function needs at once.
-#[tactic(auto, using(crate::proofs::Widest::largest))]
+#[tactic(auto, using(orc_plan::proofs::SameNeed::widest_is))]
 fn need_of(f: &Function) -> u32
     ensures { result ≡ largest_need f.now }
 {

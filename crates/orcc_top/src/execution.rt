@@ -9,7 +9,7 @@ ghost use Rattle.orc_image.specs.Spelling.{IsFunction, ImageBegins};
 ghost use Rattle.orc_job.specs.Kept.{IsJob};
 ghost use Rattle.orc_job.specs.Told.{UnlessMemory};
 ghost use Rattle.orc_worlds.specs.Placement.{block_at};
-ghost use Rattle.orcc_top.specs.Execution.{AreSums, Ran, RunsTo, end_line, entry_called, refusal_on_image};
+ghost use Rattle.orcc_top.specs.Execution.{AreSums, Ran, RunsTo, end_line, entry_called, entry_met, refusal_on_image};
 ghost use Rattle.orcc_top.specs.Jobs.{job_refusal};
 ghost use Rattle.orcc_top.specs.Replies.{Replies};
 
@@ -20,7 +20,7 @@ use crate::reply::Reply;
 use orc_emul::Accs;
 use orc_frame::sum_word;
 use orc_image::{Image, ImageError, ImageFunction, read_image};
-use orc_job::{EndLine, Field, Job, JobError, Outcome, fit, print_result};
+use orc_job::{EndLine, Field, Job, JobError, Outcome, fit, meets, print_result};
 use orc_worlds::{BLOCK, machine_of, parts_now, word_at};
 use std::alloc::{AllocError, Global};
 use x86_machine::{End, Segments, run};
@@ -103,6 +103,7 @@ pub fn entry_called<'a>(
         (λ e. entry_called functions.now job.now ≡ Err e) }
     ensures counts { IfOk result (λ f. f.now.dests ≤ length job.now.call.arrays.items) }
     ensures arrays { IfOk result (λ f. length job.now.call.arrays.items ≡ f.now.dests + f.now.sources) }
+    ensures kept { IfOk result (λ f. IsFunction f.now) }
 {
     let Some(f) = entry_of(functions, job.function.as_slice()) else {
         return Err(JobError::BadField {
@@ -116,13 +117,27 @@ pub fn entry_called<'a>(
     }
 }
 
+/// The function of an image that the job calls, where the job's call meets its facts.
+fn entry_met<'a>(functions: &'a [ImageFunction], job: &Job) -> Result<&'a ImageFunction, JobError>
+    ensures met { MatchResult result
+        (λ f. entry_met functions.now job.now ≡ Ok f.now)
+        (λ e. entry_met functions.now job.now ≡ Err e) }
+    ensures counts { IfOk result (λ f. f.now.dests ≤ length job.now.call.arrays.items) }
+{
+    let f = entry_called(functions, job)?;
+    match meets(&f.facts, f.two_d, &job.call) {
+        Ok(()) => Ok(f),
+        Err(error) => Err(error),
+    }
+}
+
 /// The outcome of the job that bytes say, run on the code of the function that it calls.
 fn outcome_on(alloc: Global, functions: &[ImageFunction], bytes: &[u8]) -> Result<Outcome, JobError>
     ensures outcome { IfOk result (λ o. RunsTo functions.now bytes.now o) }
     ensures refused { UnlessMemory result (job_refusal result ≡ refusal_on_image functions.now bytes.now) }
 {
     let job = job_of(alloc, bytes)?;
-    let f = entry_called(functions, &job)?;
+    let f = entry_met(functions, &job)?;
     match executed(alloc, f, &job) {
         Ok(outcome) => Ok(outcome),
         Err(AllocError) => Err(JobError::Memory),

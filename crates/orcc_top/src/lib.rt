@@ -10,6 +10,7 @@ mod command;
 mod emulation;
 mod execution;
 mod formatting;
+mod laws;
 mod listing;
 mod number;
 mod objects;
@@ -25,6 +26,7 @@ mod translating;
 mod workers;
 mod writing;
 
+pub use laws::{entries_are_compiled, good_jobs_return};
 pub use orc_parts::play_parts;
 pub use orc_program::Rect;
 pub use status::Status;

@@ -12,7 +12,7 @@ use crate::refusal::{Refusal, line_of};
 use crate::reply::Reply;
 use orc_elf::{ElfCode, ElfEntry, ElfError, read_elf};
 use orc_image::{Image, ImageError, ImageFunction, list, read_image};
-use orc_program::Name;
+use orc_program::{Name, free_facts};
 use sqlite_items::Items;
 use std::alloc::{AllocError, Global};
 
@@ -43,7 +43,7 @@ fn list_image(alloc: Global, input: &[u8]) -> Result<Reply, AllocError>
     }
 }
 
-/// An object's function as one of an image, with all counts 0.
+/// An object's function as one of an image, with all counts 0 and without facts.
 fn function_of(alloc: Global, entry: &ElfEntry) -> Result<ImageFunction, AllocError>
     ensures { IfOk result (λ f. f ≡ uncounted entry.now) }
 {
@@ -58,16 +58,17 @@ fn function_of(alloc: Global, entry: &ElfEntry) -> Result<ImageFunction, AllocEr
         sources: 0,
         params: 0,
         accs: 0,
+        facts: free_facts(0),
         code,
     })
 }
 
 /// The image of an object's functions.
 fn image_of(alloc: Global, object: &ElfCode) -> Result<Image, AllocError>
-    ensures { IfOk result (λ image. image.functions ≡ map uncounted object.now.entries) }
+    ensures { IfOk result (λ image. image ≡ record { version = 1; functions = map uncounted object.now.entries }) }
 {
     let _ = object.len();
-    let mut image = Image::new(alloc);
+    let mut image = Image::new(alloc, 1);
     for entry in object.entries.as_slice() {
         let f = function_of(alloc, entry)?;
         image.push(f)?;

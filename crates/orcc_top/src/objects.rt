@@ -4,7 +4,7 @@ ghost use Rattle.orc_program.specs.Kept.{all_distinct};
 ghost use Rattle.orc_asm.specs.Function.{first_pressure, IsRefusal};
 ghost use Rattle.orcc_top.specs.Assembly.{first_pressure_in, TellsPressure};
 ghost use Rattle.orcc_top.specs.Code.{HoldsCode};
-ghost use Rattle.orcc_top.specs.Each.{OneForEach};
+ghost use Rattle.orc_text.specs.Each.{OneForEach};
 ghost use Rattle.orcc_top.specs.Objects.{CompiledOf};
 
 use crate::assembly::Form;

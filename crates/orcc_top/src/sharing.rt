@@ -15,7 +15,7 @@ use crate::reply::Reply;
 use crate::workers::Workers;
 use orc_image::{Image, ImageError, ImageFunction, read_image};
 use orc_job::{JobError, Sizes, read_sizes};
-use orc_worlds::{Played, play_job, print_played};
+use orc_worlds::{Played, parts_meet, play_job, print_played};
 use std::alloc::{AllocError, Global};
 
 /// The sizes of the elements of the arrays of the job that bytes say.
@@ -33,12 +33,13 @@ fn outcome_on(
     workers: Workers,
 ) -> Result<Played, JobError>
     ensures outcome { IfOk result (λ o. SharedOut functions.now bytes.now workers o) }
-    ensures refused { UnlessMemory result (job_refusal result ≡ refusal_of_sharing functions.now bytes.now) }
+    ensures refused { UnlessMemory result (job_refusal result ≡ refusal_of_sharing workers.count functions.now bytes.now) }
 {
     let job = job_of(alloc, bytes)?;
     let sizes = sizes_of(alloc, bytes)?;
     let f = entry_called(functions, &job)?;
     let Workers { count, seed } = workers;
+    parts_meet(f, &job, sizes.as_slice(), count)?;
     match play_job(alloc, f, &job, sizes.as_slice(), count, seed) {
         Ok(outcome) => Ok(outcome),
         Err(AllocError) => Err(JobError::Memory),

@@ -1,6 +1,7 @@
 mod failures;
 mod hostile;
 mod meaning;
+mod stated;
 
 use crate::{Status, orcc};
 use c_read::read_c;
@@ -14,6 +15,10 @@ use std::process::Abort;
 /// The image of a function `f` without arrays, whose code is `ret`, and a job behind it.
 const RETURNS: &[u8] =
     b"ORCI\x01\x01\x01f\x00\x00\x00\x00\x00\x01\x00\x00\x00\xc3{\"function\":\"f\",\"n\":0,\"m\":0,\"arrays\":[],\"params\":[],\"memory\":[],\"budget\":10}";
+
+/// The same with code that lowers RSP by 1,024, stores a word there, and raises it again.
+const SMALL_FRAME: &[u8] =
+    b"ORCI\x01\x01\x01f\x00\x00\x00\x00\x00\x14\x00\x00\x00\x48\x81\xec\x00\x04\x00\x00\x48\x89\x7c\x24\x08\x48\x81\xc4\x00\x04\x00\x00\xc3{\"function\":\"f\",\"n\":0,\"m\":0,\"arrays\":[],\"params\":[],\"memory\":[],\"budget\":10}";
 
 /// A text that adds rows of bytes.
 const ADD8: &str = ".function add8\n.dest 1 d1\n.source 1 s1\n.source 1 s2\naddb d1, s1, s2\n";
@@ -62,12 +67,13 @@ fn calls_of(alloc: Global, failure: Failure, stream: Stream) -> Result<Vec<u64>,
     Ok(calls)
 }
 
-/// Runs on an input and with an output of so much room, where each call moves seven bytes.
+/// Runs on an input and with an output of so much room, where each call moves at most so many bytes.
 fn run_with(
     alloc: Global,
     words: &[&str],
     bytes: &[u8],
     room: usize,
+    most: usize,
     failure: Failure,
 ) -> Result<Outcome, AllocError> {
     let mut given = Vec::new(alloc);
@@ -77,15 +83,15 @@ fn run_with(
     let mut input = Piece {
         bytes: Vec::from_slice(alloc, bytes)?,
         at: 0,
-        most: 7,
+        most,
         fail: calls_of(alloc, failure, Stream::Input)?,
         calls: 0,
         faults: 0,
     };
     let failing_puts = calls_of(alloc, failure, Stream::Output)?;
-    let mut output = Buffer::with_room(alloc, room, 7, failing_puts)?;
+    let mut output = Buffer::with_room(alloc, room, most, failing_puts)?;
     let failing_notes = calls_of(alloc, failure, Stream::Notes)?;
-    let mut notes = Buffer::with_room(alloc, 100, 7, failing_notes)?;
+    let mut notes = Buffer::with_room(alloc, 100, most, failing_notes)?;
     let status = orcc(alloc, given.as_slice(), &mut input, &mut output, &mut notes);
     Ok(Outcome {
         status,
@@ -97,13 +103,13 @@ fn run_with(
 
 /// Runs where no call fails.
 fn run(alloc: Global, words: &[&str], bytes: &[u8]) -> Result<Outcome, AllocError> {
-    run_with(alloc, words, bytes, 60_000, None)
+    run_with(alloc, words, bytes, 60_000, 7, None)
 }
 
 #[test]
 fn each_command_answers(rt: HostRuntime) -> Result<(), AllocError> {
     // The words, the input, and the status with what is written.
-    let rows: [(&[&str], &[u8], Status, &[u8]); 9] = [
+    let rows: [(&[&str], &[u8], Status, &[u8]); 10] = [
         (&["asm"], b"# nothing", Status::Done, b"ORCI\x01\x00"),
         (&["c"], b"# nothing", Status::Done, b"#include <stdint.h>\n"),
         (
@@ -125,6 +131,7 @@ fn each_command_answers(rt: HostRuntime) -> Result<(), AllocError> {
             b"function f\n00000000 c3 ret\n",
         ),
         (&["run"], RETURNS, Status::Done, b"end returned 1\n"),
+        (&["run"], SMALL_FRAME, Status::Done, b"end returned 4\n"),
         (
             &["emulate"],
             ADDS,
@@ -212,40 +219,61 @@ fn an_object_has_the_code_of_the_image(rt: HostRuntime) -> Result<(), AllocError
     Ok(())
 }
 
-/// A text whose ten temps all have a value that is read late, in parts behind each of which stands a line of the tenth temp.
-const TEMPS: [(&str, &str); 4] = [
-    (
-        ".function p\n.dest 1 d1\n.source 1 s1\n.temp 1 t1\n.temp 1 t2\n.temp 1 t3\n.temp 1 t4\n.temp 1 t5\n.temp 1 t6\n.temp 1 t7\n.temp 1 t8\n.temp 1 t9\n",
-        ".temp 1 t10\n",
-    ),
-    (
-        "loadb t1, s1\nloadb t2, s1\nloadb t3, s1\nloadb t4, s1\nloadb t5, s1\nloadb t6, s1\nloadb t7, s1\nloadb t8, s1\nloadb t9, s1\n",
-        "loadb t10, s1\n",
-    ),
-    (
-        "addb t1, t1, t2\naddb t1, t1, t3\naddb t1, t1, t4\naddb t1, t1, t5\naddb t1, t1, t6\naddb t1, t1, t7\naddb t1, t1, t8\naddb t1, t1, t9\n",
-        "addb t1, t1, t10\n",
-    ),
-    ("copyb d1, t1\n", ""),
-];
+/// The lines of a function that needs eleven values at once: ten temps have a value that is read later where an eleventh is made. It adds ten
+/// times the source.
+const ELEVEN: &str =
+    ".dest 1 d1\n.source 1 s1\n.temp 1 t1\n.temp 1 t2\n.temp 1 t3\n.temp 1 t4\n.temp 1 t5\n.temp 1 t6\n.temp 1 t7\n.temp 1 t8\n.temp 1 t9\n.temp 1 t10\nloadb t1, s1\nloadb t2, s1\nloadb t3, s1\nloadb t4, s1\nloadb t5, s1\nloadb t6, s1\nloadb t7, s1\nloadb t8, s1\nloadb t9, s1\nloadb t10, s1\naddb t1, t1, t2\naddb t1, t1, t3\naddb t1, t1, t4\naddb t1, t1, t5\naddb t1, t1, t6\naddb t1, t1, t7\naddb t1, t1, t8\naddb t1, t1, t9\naddb t1, t1, t10\ncopyb d1, t1\n";
+
+/// A text with 76 temps that splits the source so many times, each time into two of them, and then adds these by twos.
+fn splits(alloc: Global, times: usize) -> Result<Vec<u8>, AllocError> {
+    let mut text = Vec::from_slice(alloc, b".function q\n.dest 1 d1\n.source 2 s1\n")?;
+    for k in 1..77 {
+        text.extend_from_slice(format!(in alloc; ".temp 1 t{k}\n")?.as_bytes())?;
+    }
+    for k in 0..times {
+        let (first, second) = (
+            k.wrapping_mul(2).wrapping_add(1),
+            k.wrapping_mul(2).wrapping_add(2),
+        );
+        text.extend_from_slice(format!(in alloc; "splitwb t{first}, t{second}, s1\n")?.as_bytes())?;
+    }
+    for k in 0..times {
+        let (first, second) = (
+            k.wrapping_mul(2).wrapping_add(1),
+            k.wrapping_mul(2).wrapping_add(2),
+        );
+        text.extend_from_slice(format!(in alloc; "addb d1, t{first}, t{second}\n")?.as_bytes())?;
+    }
+    Ok(text)
+}
 
 #[test]
-fn ten_values_have_places(rt: HostRuntime) -> Result<(), AllocError> {
+fn as_many_values_as_there_are_places(rt: HostRuntime) -> Result<(), AllocError> {
     let alloc = rt.alloc();
-    for (tenth, status, notes) in [
-        (true, Status::Refused, "line 24: Pressure 11\n"),
-        (false, Status::Done, ""),
-    ] {
-        let mut text = Vec::new(alloc);
-        for (part, line) in TEMPS {
-            text.extend_from_slice(part.as_bytes())?;
-            if tenth {
-                text.extend_from_slice(line.as_bytes())?;
-            }
-        }
+    let mut eleven = Vec::from_slice(alloc, b".function p\n")?;
+    eleven.extend_from_slice(ELEVEN.as_bytes())?;
+    // The text, how `asm` ends with what it notes, and what `check` writes.
+    let rows = [
+        (eleven, Status::Done, "", "p need 11 lanes 16 cost 120\n"),
+        (
+            splits(alloc, 37)?,
+            Status::Done,
+            "",
+            "q need 74 lanes 8 cost 999\n",
+        ),
+        (
+            splits(alloc, 38)?,
+            Status::Refused,
+            "line 117: Pressure 76\n",
+            "q need 76 lanes 8 cost 1026\n",
+        ),
+    ];
+    for (text, status, notes, figures) in &rows {
         let ran = run(alloc, &["asm"], text.as_slice())?;
-        assert_eq!(rt; ran.status, status);
+        assert_eq!(rt; ran.status, *status);
         assert!(rt; ran.notes.as_slice() == notes.as_bytes());
+        let checked = run(alloc, &["check"], text.as_slice())?;
+        assert!(rt; checked.output.as_slice() == figures.as_bytes());
         // C has no places.
         let translated = run(alloc, &["c"], text.as_slice())?;
         assert_eq!(rt; translated.status, Status::Done);
@@ -256,7 +284,7 @@ fn ten_values_have_places(rt: HostRuntime) -> Result<(), AllocError> {
 
 /// What the code of a text does with a job: the text of its function `f`, the job but for its function and its budget, and the result but for
 /// the steps.
-const RUNS: [(&str, &str, &str); 14] = [
+const RUNS: [(&str, &str, &str); 15] = [
     (
         ".dest 1 d1\n.source 1 s1\n.source 1 s2\naddb d1, s1, s2\n",
         r#""n":3,"m":1,"arrays":[{"base":4096,"stride":0},{"base":8192,"stride":0},{"base":12288,"stride":0}],"params":[],"memory":[{"at":4096,"bytes":"000000"},{"at":8192,"bytes":"01ff80"},{"at":12288,"bytes":"010180"}]"#,
@@ -328,6 +356,12 @@ const RUNS: [(&str, &str, &str); 14] = [
         ".dest 1 d1\n.source 1 s1\naddb d1, s1, s1\naddb d1, s1, 1\n",
         r#""n":1,"m":1,"arrays":[{"base":4096,"stride":0},{"base":4096,"stride":0}],"params":[],"memory":[{"at":4096,"bytes":"03"}]"#,
         "\nmem 4096 07\n",
+    ),
+    // More values than there are registers, over single elements and a whole register's.
+    (
+        ELEVEN,
+        r#""n":19,"m":1,"arrays":[{"base":4096,"stride":0},{"base":8192,"stride":0}],"params":[],"memory":[{"at":4096,"bytes":"00000000000000000000000000000000000000"},{"at":8192,"bytes":"0001020304050607080910111213141516ff80"}]"#,
+        "\nmem 4096 000a141e28323c46505aa0aab4bec8d2dcf600\nmem 8192 0001020304050607080910111213141516ff80\n",
     ),
     // The volume kernel.
     (

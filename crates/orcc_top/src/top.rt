@@ -22,7 +22,7 @@ const USAGE: &str =
 /// `asm` reads a text of at most 1,048,576 bytes and writes an image. It has an entry for each
 /// function of the text, in order, with the function's name and counts and with code of its own: in
 /// every good call that code returns within the stated steps, and leaves memory and sums as the
-/// function means. There are ten places for values of temps: a text without a fault is refused
+/// function means. There are 74 places for values of temps: a text without a fault is refused
 /// exactly where one of its instructions needs more values at once. `obj` is as `asm`, and writes
 /// an ELF64 object, which has each function's name and code. `c` reads such a text and writes C:
 /// for each function, in order, a function with its name and counts and with its meaning, however

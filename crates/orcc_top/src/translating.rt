@@ -1,6 +1,6 @@
 //! The C of a text.
 ghost use Rattle.std.specs.Prelude.{◌≤◌, length, IfOk};
-ghost use Rattle.orcc_top.specs.Each.{OneForEach};
+ghost use Rattle.orc_text.specs.Each.{OneForEach};
 ghost use Rattle.orcc_top.specs.Replies.{Replies};
 ghost use Rattle.orcc_top.specs.Translation.{MeansAs};
 

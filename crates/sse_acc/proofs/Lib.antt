@@ -2,3 +2,4 @@ pub mod Totals
 mod Moved
 mod Distances
 pub mod Meet
+pub mod Machine

@@ -1,5 +1,5 @@
 -- Each sequence adds its opcode's numbers to the running sums.
-use Rattle.std.proofs.Common.{◌≡◌, ℕ, suc, ◌+◌, ◌-◌, ◌*◌, ◌/◌, ◌%◌, ◌^◌, ◌<◌, ◌≤◌, List, refl, sym, ◌∙◌, ap, ap₂, lit<, lit≤, arith, true}
+use Rattle.std.proofs.Common.{◌≡◌, ℕ, suc, ◌+◌, ◌-◌, ◌*◌, ◌/◌, ◌%◌, ◌^◌, ◌<◌, ◌≤◌, ◌==◌, if◌then◌else◌, Bool, eqb-true, List, [], ◌∷◌, refl, sym, ◌∙◌, ap, ap₂, lit<, lit≤, arith, true, false}
 use Rattle.std.proofs.lemmas.Bool.{false≢true}
 use Rattle.std.proofs.lemmas.Nat.{mul-le}
 use Rattle.orc_bits.specs.Numbers.{cut}
@@ -9,6 +9,8 @@ use Rattle.orc_bits.proofs.Bytewise.{InRange, each_same}
 use Rattle.orc_ops.specs.declared.opcode.Op.{Op}
 use Rattle.orc_ops.specs.Table.{row, size_of_result}
 use Rattle.orc_ops.specs.Formula.{formula}
+use Rattle.x86_ins.specs.declared.ins.Ins.TheVariants.{Vec, VecImm}
+use Rattle.x86_ins.specs.declared.ins.VecImmOp.TheVariants.{Pslldq}
 use Rattle.x86_ins.specs.declared.ins.VecOp.TheVariants.{Paddw, Paddd}
 use Rattle.x86_ins.specs.Vectors.{Registers, after, result_of, each, distances, distance, add_wrap}
 use Rattle.sse_laws.specs.Meets.{is_sum}
@@ -57,19 +59,43 @@ first_distances k n e x y hx hy =
 
 -- ---- the opcodes
 
-accw : (n : ℕ) → n ≤ 8 → (x : ℕ → List ℕ) → Registers x → cut 16 (sum_of 2 (after (rule_of Op.Accw n) x 2)) ≡ cut 16 (sum_of 2 (x 2) + sum_below n (λ q. number_of Op.Accw q x))
+-- words: all lanes, or the first n
+accw : (n : ℕ) → n ≤ 8 → (b : Bool) → (n == 8) ≡ b → AddsUp Op.Accw n (if b then Vec Paddw 2 0 ∷ [] else VecImm Pslldq 0 (16 - 2 * n) ∷ Vec Paddw 2 0 ∷ [])
 unfolding after formula
-accw n h x g =
-    added 2 8 (lit< tt) (lit≤ tt) (good Paddw).1 (x 2) (up (16 - 2 * n) (x 0)) (g 2) (AreBytes-from_lanes 1 _)
-    ∙ ap (λ s. cut 16 (sum_of 2 (x 2) + s)) (first_lanes 2 (8 - n) n 8 (16 - 2 * n) (omega arith) (omega arith) (lit≤ tt) (x 0) (g 0)
-    ∙ sum_below-same n (λ q. lane 2 q (x 0)) (λ q. number_of Op.Accw q x) (λ q l. sym (cut_lane (x 0) (g 0) 2 q)))
+accw n h true e = record {
+  vectors = refl;
+  grows = λ x g.
+      added 2 8 (lit< tt) (lit≤ tt) (good Paddw).1 (x 2) (x 0) (g 2) (g 0)
+      ∙ ap (λ s. cut 16 (sum_of 2 (x 2) + s)) (ap (λ m. sum_below m (λ q. lane 2 q (x 0))) (sym (eqb-true n 8 e)) ∙ sum_below-same n (λ q. lane 2 q (x 0)) (λ q. number_of Op.Accw q x) (λ q l. sym (cut_lane (x 0) (g 0) 2 q)));
+  keeps = run_keeps (Vec Paddw 2 0 ∷ []) refl;
+}
+accw n h false e = record {
+  vectors = refl;
+  grows = λ x g.
+      added 2 8 (lit< tt) (lit≤ tt) (good Paddw).1 (x 2) (up (16 - 2 * n) (x 0)) (g 2) (AreBytes-from_lanes 1 _)
+      ∙ ap (λ s. cut 16 (sum_of 2 (x 2) + s)) (first_lanes 2 (8 - n) n 8 (16 - 2 * n) (omega arith) (omega arith) (lit≤ tt) (x 0) (g 0)
+      ∙ sum_below-same n (λ q. lane 2 q (x 0)) (λ q. number_of Op.Accw q x) (λ q l. sym (cut_lane (x 0) (g 0) 2 q)));
+  keeps = run_keeps (VecImm Pslldq 0 (16 - 2 * n) ∷ Vec Paddw 2 0 ∷ []) refl;
+}
 
-accl : (n : ℕ) → n ≤ 4 → (x : ℕ → List ℕ) → Registers x → cut 32 (sum_of 4 (after (rule_of Op.Accl n) x 2)) ≡ cut 32 (sum_of 4 (x 2) + sum_below n (λ q. number_of Op.Accl q x))
+-- longs
+accl : (n : ℕ) → n ≤ 4 → (b : Bool) → (n == 4) ≡ b → AddsUp Op.Accl n (if b then Vec Paddd 2 0 ∷ [] else VecImm Pslldq 0 (16 - 4 * n) ∷ Vec Paddd 2 0 ∷ [])
 unfolding after formula
-accl n h x g =
-    added 4 4 (lit< tt) (lit≤ tt) (good Paddd).1 (x 2) (up (16 - 4 * n) (x 0)) (g 2) (AreBytes-from_lanes 1 _)
-    ∙ ap (λ s. cut 32 (sum_of 4 (x 2) + s)) (first_lanes 4 (4 - n) n 4 (16 - 4 * n) (omega arith) (omega arith) (lit≤ tt) (x 0) (g 0)
-    ∙ sum_below-same n (λ q. lane 4 q (x 0)) (λ q. number_of Op.Accl q x) (λ q l. sym (cut_lane (x 0) (g 0) 4 q)))
+accl n h true e = record {
+  vectors = refl;
+  grows = λ x g.
+      added 4 4 (lit< tt) (lit≤ tt) (good Paddd).1 (x 2) (x 0) (g 2) (g 0)
+      ∙ ap (λ s. cut 32 (sum_of 4 (x 2) + s)) (ap (λ m. sum_below m (λ q. lane 4 q (x 0))) (sym (eqb-true n 4 e)) ∙ sum_below-same n (λ q. lane 4 q (x 0)) (λ q. number_of Op.Accl q x) (λ q l. sym (cut_lane (x 0) (g 0) 4 q)));
+  keeps = run_keeps (Vec Paddd 2 0 ∷ []) refl;
+}
+accl n h false e = record {
+  vectors = refl;
+  grows = λ x g.
+      added 4 4 (lit< tt) (lit≤ tt) (good Paddd).1 (x 2) (up (16 - 4 * n) (x 0)) (g 2) (AreBytes-from_lanes 1 _)
+      ∙ ap (λ s. cut 32 (sum_of 4 (x 2) + s)) (first_lanes 4 (4 - n) n 4 (16 - 4 * n) (omega arith) (omega arith) (lit≤ tt) (x 0) (g 0)
+      ∙ sum_below-same n (λ q. lane 4 q (x 0)) (λ q. number_of Op.Accl q x) (λ q l. sym (cut_lane (x 0) (g 0) 4 q)));
+  keeps = run_keeps (VecImm Pslldq 0 (16 - 4 * n) ∷ Vec Paddd 2 0 ∷ []) refl;
+}
 
 -- a distance of bytes is what the formula adds
 distance_is : (a b : ℕ) → a < 256 → b < 256 → distance a b ≡ (formula Op.Accsadubl a b).0
@@ -88,7 +114,7 @@ accsadubl n h x g =
     ∙ sum_below-same n (apart (x 0) (x 1)) (λ q. number_of Op.Accsadubl q x) (λ q l. distance_is (lane 1 q (x 0)) (lane 1 q (x 1)) (lane-lt (x 0) (g 0) 1 q) (lane-lt (x 1) (g 1) 1 q)))
 
 pub adds_up : (op : Op) (n : ℕ) → is_sum (row op).kind ≡ true → n ≤ 16 / size_of_result op 0 → AddsUp op n (rule_of op n)
-adds_up Op.Accw n t h = record { vectors = refl; grows = accw n h; keeps = run_keeps (rule_of Op.Accw n) refl }
-adds_up Op.Accl n t h = record { vectors = refl; grows = accl n h; keeps = run_keeps (rule_of Op.Accl n) refl }
+adds_up Op.Accw n t h = accw n h (n == 8) refl
+adds_up Op.Accl n t h = accl n h (n == 4) refl
 adds_up Op.Accsadubl n t h = record { vectors = refl; grows = accsadubl n (omega (arith, h)); keeps = run_keeps (rule_of Op.Accsadubl n) refl }
 adds_up _ n t h = absurd (false≢true t)

@@ -28,14 +28,16 @@ pub fn has_rule(op: Op) -> bool
     matches!(kind_of(op), Kind::Sum)
 }
 
-/// The sequence of an opcode, none where it adds to no accumulator. The lanes beyond the first `lanes` are shifted out.
+/// The sequence of an opcode, none where it adds to no accumulator. The lanes beyond the first `lanes` are shifted out, where there are any.
 fn sequence(op: Op, lanes: u8) -> ArrayVec<Ins, 100>
     requires { lanes ≤ 16 / size_of_result op 0 }
     ensures is { result.items ≡ rule_of op lanes }
     ensures few { length result.items ≤ (row op).class }
 {
     match op {
+        Op::Accw if lanes == 8 => list(&[v!(Paddw, 2, 0)]),
         Op::Accw => list(&[up!(0, 16 - 2 * lanes), v!(Paddw, 2, 0)]),
+        Op::Accl if lanes == 4 => list(&[v!(Paddd, 2, 0)]),
         Op::Accl => list(&[up!(0, 16 - 4 * lanes), v!(Paddd, 2, 0)]),
         Op::Accsadubl => list(&[
             up!(0, 16 - lanes),

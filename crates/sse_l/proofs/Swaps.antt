@@ -2,7 +2,6 @@
 use Rattle.std.proofs.Common.{◌≡◌, ℕ, ◌+◌, ◌*◌, ◌/◌, ◌%◌, ◌^◌, ◌<◌, ◌≤◌, List, [], ◌∷◌, refl, sym, ◌∙◌, ap, arith}
 use Rattle.orc_bits.specs.Numbers.{cut}
 use Rattle.orc_bits.specs.Lanes.{lane}
-use Rattle.orc_bits.proofs.LaneLaws.{lane-lt}
 use Rattle.orc_ops.specs.declared.opcode.Op.{Op}
 use Rattle.orc_ops.specs.Stems.{reversed}
 use Rattle.x86_ins.specs.declared.ins.Ins.{Ins}

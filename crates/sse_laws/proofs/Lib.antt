@@ -6,3 +6,4 @@ pub mod Two
 pub mod Ways
 pub mod Words
 pub mod Formulas
+pub mod Machine

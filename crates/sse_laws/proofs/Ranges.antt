@@ -7,7 +7,7 @@ use Rattle.x86_ins.specs.declared.ins.VecOp.{VecOp}
 use Rattle.x86_ins.specs.declared.ins.VecOp.TheVariants.{Punpcklbw, Punpcklwd, Punpckldq, Packsswb, Pcmpgtb, Pcmpgtw, Pcmpgtd, Packuswb, Punpckhbw, Punpckhwd, Punpckhdq, Packssdw, Punpcklqdq, Punpckhqdq, Movdqa, Pcmpeqb, Pcmpeqw, Pcmpeqd, Psrlw, Psrld, Psrlq, Paddq, Pmullw, Psubusb, Psubusw, Pminub, Pand, Paddusb, Paddusw, Pmaxub, Pandn, Pavgb, Psraw, Psrad, Pavgw, Pmulhuw, Pmulhw, Psubsb, Psubsw, Pminsw, Por, Paddsb, Paddsw, Pmaxsw, Pxor, Psllw, Pslld, Psllq, Pmuludq, Psadbw, Psubb, Psubw, Psubd, Psubq, Paddb, Paddw, Paddd, Pabsb, Pabsw, Pabsd, Pmovsxbw, Pmovsxwd, Pmovsxdq, Pmuldq, Pcmpeqq, Packusdw, Pmovzxbw, Pmovzxwd, Pmovzxdq, Pminsb, Pminsd, Pminuw, Pminud, Pmaxsb, Pmaxsd, Pmaxuw, Pmaxud, Pmulld}
 use Rattle.x86_ins.specs.declared.ins.VecImmOp.{VecImmOp}
 use Rattle.x86_ins.specs.declared.ins.VecImmOp.TheVariants as imm
-use Rattle.x86_ins.specs.Vectors.{Shape, bits, each, counted, interleaved, packed, extended, distances, shape, ImmShape, each_by, bytes_up, bytes_down, imm_shape, mask, mul_high_s, absolute, sign_extended, shl, shr, sar, sar_by}
+use Rattle.x86_ins.specs.Vectors.{Shape, bits, each, counted, interleaved, packed, extended, distances, shape, ImmShape, each_by, bytes_up, bytes_down, imm_shape, mask, mul_high_s, shl, shr, sar, sar_by}
 use Rattle.orc_bits.proofs.Bytewise.{Bytewise, bytewise_right, bytewise_and, bytewise_or, bytewise_xor, bytewise_andn, InRange}
 
 abbrev pub InRangeBy : ℕ → (ℕ → ℕ → ℕ → ℕ) → Type 0

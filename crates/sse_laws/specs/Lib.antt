@@ -1,2 +1,3 @@
 pub mod Line
 pub mod Meets
+pub mod Laws

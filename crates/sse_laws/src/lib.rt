@@ -1,8 +1,10 @@
 //! Lists of instructions on vector registers, and what they compute on each lane.
 #![tactic(auto)]
 
+mod laws;
 mod line;
 mod size;
 
+pub use laws::rules_compute;
 pub use line::{Line, list};
 pub use size::is_of_size;

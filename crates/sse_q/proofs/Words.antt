@@ -7,7 +7,7 @@ use Rattle.orc_ops.specs.declared.opcode.Op.{Op}
 use Rattle.orc_ops.specs.Stems.{ones, reversed}
 use Rattle.x86_ins.specs.declared.ins.Ins.{Ins}
 use Rattle.x86_ins.specs.declared.ins.ShuffleOp.TheVariants.{Pshufhw, Pshuflw}
-use Rattle.x86_ins.specs.Vectors.{after, of_order, simd_effect, Registers}
+use Rattle.x86_ins.specs.Vectors.{after, of_order, simd_effect}
 use Rattle.x86_ins.proofs.Registers.{registers_simd}
 use Rattle.sse_laws.proofs.Ways.{OnLanes, Equation, plain, on_halves, cut_lane, first_result}
 use Rattle.sse_laws.proofs.Words.{ordered, low_word, high_word, words_of}

@@ -7,7 +7,7 @@ use Rattle.orc_bits.specs.Lanes.{from_bytes, lane, number_at}
 use Rattle.x86_ins.specs.declared.state.Trap.{Trap}
 use Rattle.x86_ins.specs.declared.state.Why.TheVariants as why
 use Rattle.orc_bits.proofs.LaneLaws.{from_byte}
-use Rattle.orc_bits.proofs.Memories.{put_same, put_other, none_some, some_one, bind_some}
+use Rattle.orc_bits.proofs.Memories.{put_same, put_other, none_some, some_one, bind_some, all_mapped_there, store_there}
 use Rattle.orc_bits.specs.Memory.{Memory, put, fill, all_mapped, missing, read, bind, number, value, store}
 use Rattle.x86_apply.specs.Access.{absent, byte_or_zero, taken}
 
@@ -174,3 +174,29 @@ unmapped e = ap unmapped_at e
 -- a store writes the first n bytes alone
 pub store_same : (n : ℕ) (mem : Memory) (a : ℕ) (f g : ℕ → ℕ) → ((j : ℕ) → j < n → f j ≡ g j) → store n mem a f ≡ store n mem a g
 store_same n mem a f g h = ap (λ (m : Memory). if all_mapped n mem a then Some m else None) (fill_same n mem a f g h)
+
+-- ---- bytes that the map has side by side
+
+-- the map has these bytes from an address on
+pub record HasSlice (n : ℕ) (mem : Memory) (a : ℕ) (bytes : List ℕ) : Type 0 where
+  pub count : length bytes ≡ n
+  pub each : (j : ℕ) → j < n → mem ((a + j) % 2 ^ 64) ≡ Some (get_or bytes j 0)
+
+pub slice_there : (n : ℕ) (mem : Memory) (a : ℕ) (bytes : List ℕ) → HasSlice n mem a bytes → absent n mem a ≡ None
+slice_there n mem a bytes h = ap (λ t. if t then None else Some (missing n mem a)) (all_mapped_there n mem a (λ j l. ap is_some (h.each j l)))
+
+pub slice_taken : (n : ℕ) (mem : Memory) (a : ℕ) (bytes : List ℕ) → HasSlice n mem a bytes → from_bytes (λ j. if nat_lt j n then get_or bytes j 0 else 0) ≡ from_bytes (taken n mem a)
+slice_taken n mem a bytes h = λ i. from_bytes (λ j. go j (cases_lt j n) i)
+  where
+    go : (j : ℕ) → (j < n) ⊎ (n ≤ j) → (if nat_lt j n then get_or bytes j 0 else 0) ≡ taken n mem a j
+    go j (inl l) = ap (λ b. if nat_lt j n then b else 0) (sym (ap byte_or_zero (h.each j l)))
+    go j (inr l) =
+        let t : nat_lt j n ≡ false = grind (arith) in
+        ap (λ t. if t then get_or bytes j 0 else 0) t ∙ sym (ap (λ t. if t then byte_or_zero (mem ((a + j) % 2 ^ 64)) else 0) t)
+
+-- the first n bytes of a list are stored side by side
+pub slice_stored : (n : ℕ) (mem later : Memory) (a : ℕ) (from low : List ℕ) → length low ≡ n → ((j : ℕ) → j < n → get_or low j 0 ≡ get_or from j 0)
+    → all_mapped (length low) mem a ≡ true → later ≡ fill (length low) mem a (λ j. get_or low j 0) → store n mem a (λ j. get_or from j 0) ≡ Some later
+slice_stored n mem later a from low count same there e =
+    store_there n mem a (λ j. get_or from j 0) (ap (λ k. all_mapped k mem a) (sym count) ∙ there)
+    ∙ ap Some (sym (fill_same n mem a (λ j. get_or low j 0) (λ j. get_or from j 0) same) ∙ ap (λ k. fill k mem a (λ j. get_or low j 0)) (sym count) ∙ sym e)

@@ -1,6 +1,6 @@
 //! Accesses to memory, byte by byte.
 
-ghost use Rattle.std.specs.Prelude.{◌≡◌, ◌≤◌, ◌<◌, ◌+◌, ◌-◌, ◌%◌, ◌^◌, get_or, IsTrue, Some, None, OnOk, OnErr, IfOk, IfErr};
+ghost use Rattle.std.specs.Prelude.{◌≡◌, ◌≤◌, ◌<◌, ◌+◌, ◌-◌, ◌%◌, ◌^◌, if◌then◌else◌, nat_lt, length, get_or, IsTrue, Some, None, OnOk, OnErr, IfOk, IfErr};
 ghost use Rattle.orc_bits.specs.Lanes.{from_bytes, byte_of};
 ghost use Rattle.orc_bits.specs.Memory.{all_mapped, missing, fill, read, store, value};
 ghost use Rattle.x86_apply.specs.Access.{absent, taken, byte_or_zero, IsRead};
@@ -67,6 +67,44 @@ pub fn number_bytes(n: usize, v: u64) -> [u8; 16]
     out
 }
 
+/// So many bytes of a slice, and 0 behind them.
+fn front(bytes: &[u8], n: usize) -> [u8; 16]
+    requires few { n ≤ 16 }
+    requires inside { length bytes.now ≡ n }
+    ensures { result ≡ from_bytes (λ j. if nat_lt j n then get_or bytes.now j 0 else 0) }
+{
+    let mut out = [0; 16];
+    for k in 0..n {
+        out[k] = bytes[k];
+    }
+    out
+}
+
+/// The bytes of an access, and 0 behind them, or the first byte that isn't mapped.
+fn load<B: Bytes>(mem: &B, at: u64, n: usize) -> Result<[u8; 16], u64>
+    requires few { n ≤ 16 }
+    ensures ok { IfOk result (λ v. (absent n (B.bytes mem.now) at ≡ None) × (v ≡ from_bytes (taken n (B.bytes mem.now) at))) }
+    ensures missing { IfErr result (λ a. absent n (B.bytes mem.now) at ≡ Some a) }
+{
+    if let Some(bytes) = mem.slice(at, n) {
+        return Ok(front(bytes, n));
+    }
+    match first_missing(mem, at, n) {
+        Some(a) => Err(a),
+        None => Ok(read_all(mem, at, n)),
+    }
+}
+
+/// The trap of an access whose first byte that isn't mapped stands at an address.
+fn unmapped(at: u64) -> Trap
+    ensures { result ≡ record { at = at; why = Why.Unmapped } }
+{
+    Trap {
+        at,
+        why: Why::Unmapped,
+    }
+}
+
 /// The register that an access reads.
 pub fn load_register<B: Bytes>(n: usize, at: u64, mem: &B) -> Result<[u8; 16], Trap>
     requires few { n ≤ 16 }
@@ -74,12 +112,9 @@ pub fn load_register<B: Bytes>(n: usize, at: u64, mem: &B) -> Result<[u8; 16], T
     ensures trap { IfErr result (λ t. (read n (B.bytes mem.now) at ≡ None)
         × (t ≡ record { at = missing n (B.bytes mem.now) at; why = Why.Unmapped })) }
 {
-    match first_missing(mem, at, n) {
-        Some(a) => Err(Trap {
-            at: a,
-            why: Why::Unmapped,
-        }),
-        None => Ok(read_all(mem, at, n)),
+    match load(mem, at, n) {
+        Ok(v) => Ok(v),
+        Err(a) => Err(unmapped(a)),
     }
 }
 
@@ -90,14 +125,25 @@ pub fn load_number<B: Bytes>(n: usize, at: u64, mem: &B) -> Result<u64, Trap>
     ensures trap { IfErr result (λ t. (value n (B.bytes mem.now) at ≡ None)
         × (t ≡ record { at = missing n (B.bytes mem.now) at; why = Why.Unmapped })) }
 {
+    match load(mem, at, n) {
+        Ok(v) => Ok(lane_at(&v, n, 0)),
+        Err(a) => Err(unmapped(a)),
+    }
+}
+
+/// Writes the low bytes of a register one by one.
+fn save_each<B: Bytes>(n: usize, at: u64, from: &[u8; 16], mem: &mut B) -> Result<(), Trap>
+    requires few { n ≤ 16 }
+    ensures ok { OnOk result (store n (B.bytes mem.old) at (λ j. get_or from.now j 0) ≡ Some (B.bytes mem.new)) }
+    ensures trap { IfErr result (λ t. (store n (B.bytes mem.old) at (λ j. get_or from.now j 0) ≡ None)
+        × (t ≡ record { at = missing n (B.bytes mem.old) at; why = Why.Unmapped })) }
+    ensures kept { OnErr result (B.bytes mem.new ≡ B.bytes mem.old) }
+{
     match first_missing(mem, at, n) {
-        Some(a) => Err(Trap {
-            at: a,
-            why: Why::Unmapped,
-        }),
+        Some(a) => Err(unmapped(a)),
         None => {
-            let bytes = read_all(mem, at, n);
-            Ok(lane_at(&bytes, n, 0))
+            write_all(mem, at, n, from);
+            Ok(())
         }
     }
 }
@@ -110,16 +156,11 @@ pub fn save_register<B: Bytes>(n: usize, at: u64, from: &[u8; 16], mem: &mut B) 
         × (t ≡ record { at = missing n (B.bytes mem.old) at; why = Why.Unmapped })) }
     ensures kept { OnErr result (B.bytes mem.new ≡ B.bytes mem.old) }
 {
-    match first_missing(mem, at, n) {
-        Some(a) => Err(Trap {
-            at: a,
-            why: Why::Unmapped,
-        }),
-        None => {
-            write_all(mem, at, n, from);
-            Ok(())
-        }
+    let (low, _) = from.split_at(n);
+    if mem.set_slice(at, low) {
+        return Ok(());
     }
+    save_each(n, at, from, mem)
 }
 
 /// Writes the low bytes of a number.

@@ -1,5 +1,5 @@
 -- Structured code unmaps no byte.
-use Rattle.std.proofs.Common.{◌≡◌, ℕ, zero, suc, List, [], ◌∷◌, subst, inl, inr}
+use Rattle.std.proofs.Common.{ℕ, zero, suc, List, [], ◌∷◌, subst, inl, inr}
 use Rattle.orc_bits.specs.Memory.{IsMapped}
 use Rattle.x86_ins.specs.declared.ins.Ins.{Ins}
 use Rattle.x86_ins.specs.declared.ins.Cond.{Cond}

@@ -1,7 +1,7 @@
 //! The machine's state.
 
-ghost use Rattle.std.specs.Prelude.{◌≡◌, ℕ, Option, is_some, if◌then◌else◌};
-ghost use Rattle.orc_bits.specs.Memory.{put};
+ghost use Rattle.std.specs.Prelude.{◌≡◌, ◌+◌, ◌<◌, ◌%◌, ◌^◌, ℕ, Option, Some, IfSome, true, length, get_or, is_some, if◌then◌else◌};
+ghost use Rattle.orc_bits.specs.Memory.{put, fill, all_mapped};
 
 /// The flags that conditions read (Intel SDM, volume 1, section 3.4.3.1).
 #[derive(Clone, Copy, Debug, PartialEq, Eq)]
@@ -70,4 +70,22 @@ pub trait Bytes {
     fn set(&mut self, at: u64, b: u8) -> bool
         ensures cases { result ≡ is_some (bytes self.old at) }
         ensures after { bytes self.new ≡ (if result then put (bytes self.old) at b else bytes self.old) };
+
+    /// The n bytes from the address on, at addresses modulo 2^64, where the map has them side by side. A map may have any of
+    /// its bytes so.
+    fn slice(&self, at: u64, n: usize) -> Option<&[u8]>
+        ensures count { IfSome result (λ s. length s.now ≡ n) }
+        ensures bytes { IfSome result (λ s. (j : ℕ) → j < n → bytes self.now ((at + j) % 2 ^ 64) ≡ Some (get_or s.now j 0)) }
+    {
+        None
+    }
+
+    /// Changes the bytes from the address on, at addresses modulo 2^64, where the map has them side by side, and answers
+    /// whether it has. Else nothing changes.
+    fn set_slice(&mut self, at: u64, from: &[u8]) -> bool
+        ensures mapped { result ≡ true → all_mapped (length from.now) (bytes self.old) at ≡ true }
+        ensures after { bytes self.new ≡ (if result then fill (length from.now) (bytes self.old) at (λ j. get_or from.now j 0) else bytes self.old) }
+    {
+        false
+    }
 }

@@ -1,10 +1,12 @@
 -- A run, one step after the other.
-use Rattle.std.proofs.Common.{◌≡◌, ℕ, ◌+◌, ◌<◌, ◌≤◌, List, [], ◌∷◌, ◌++◌, refl, sym, ap, ◌∙◌, subst, length-append}
+use Rattle.std.proofs.Common.{◌≡◌, ℕ, ◌+◌, ◌<◌, ◌≤◌, Option, List, [], ◌∷◌, ◌++◌, refl, sym, ap, ◌∙◌, subst, length-append}
 use Rattle.x86_ins.specs.declared.ins.Ins.{Ins}
 use Rattle.x86_ins.specs.declared.state.Trap.{Trap}
 use Rattle.x86_ins.specs.Machine.{Point}
 use Rattle.x86_ins.specs.Way.{Placed, Step, Stuck, Moment, Way, Each, IsOver, Unfinished, Returned, Trapped, Exhausted}
 use Rattle.x86_machine.specs.declared.machine.Machine.{Machine}
+use Rattle.x86_machine.specs.declared.fetching.Fetched.{Fetched}
+use Rattle.x86_machine.specs.Fetching.{AreFetched}
 use Rattle.x86_machine.specs.Ends.{code_of, point, stop_of, SameCode}
 
 -- ---- ways
@@ -59,3 +61,8 @@ is_stuck m n o budget k trap r over stuck e l =
 pub is_spent : (m n : Machine) (budget k : ℕ) → Reached m n k → (IsOver (stop_of n) (point n) → ⊥) → k ≡ budget → Exhausted (code_of m) (stop_of m) budget (point m) (point n)
 is_spent m n budget k r over e =
     (subst (λ j. Unfinished (code_of m) (stop_of m) (point m) j (point n)) e r.runs, subst (λ stop. IsOver stop (point n) → ⊥) r.same.stop over)
+
+-- the same with a table of the code's instructions
+pub record Going (m n : Machine) (k : ℕ) (table : List (Option Fetched)) : Type 0 where
+  pub reached : Reached m n k
+  pub fetched : AreFetched n.code table

@@ -1,6 +1,7 @@
 //! The machine: code at an address, a memory of segments, and runs of the code within a budget.
 #![tactic(auto)]
 
+mod fetching;
 mod machine;
 mod running;
 mod segments;

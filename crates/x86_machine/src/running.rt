@@ -1,14 +1,16 @@
 //! Steps and runs.
 
-ghost use Rattle.std.specs.Prelude.{◌≡◌, ◌+◌, ◌-◌, ◌≤◌, ◌%◌, ◌^◌, ℕ, true, false, length, drop};
-ghost use Rattle.std.specs.Prelude.{Ok, IsTrue, MatchOption, OnOk, IfErr, OnErr};
+ghost use Rattle.std.specs.Prelude.{◌≡◌, ◌+◌, ◌-◌, ◌<◌, ◌≤◌, ◌%◌, ◌^◌, ℕ, true, false, length, drop};
+ghost use Rattle.std.specs.Prelude.{Ok, IsTrue, IfSome, IfNone, OnOk, IfErr, OnErr};
 ghost use Rattle.x86_ins.specs.declared.ins.Ins.{Ins};
 ghost use Rattle.x86_ins.specs.Spelling.{has_spelling};
 ghost use Rattle.x86_ins.specs.Machine.{effect, point_of};
 ghost use Rattle.orc_bits.specs.Parts.{memory_of};
 ghost use Rattle.x86_ins.specs.Way.{InCode, Step, Stuck, IsOver, told};
+ghost use Rattle.x86_machine.specs.Fetching.{AreFetched};
 ghost use Rattle.x86_machine.specs.Ends.{code_of, point, stop_of, SameCode, EndsAt, OneEnd, IsCause};
 
+use crate::fetching::{Table, empty, fetch};
 use crate::machine::{End, Machine};
 use crate::segments::Segments;
 use x86_apply::apply;
@@ -16,17 +18,18 @@ use x86_decode::decode;
 use x86_ins::ins::Ins;
 use x86_ins::state::{State, Trap, Why};
 
-/// The bytes of the code from an address on, where it is one of the code's.
-fn rest_of(code: &[u8], code_at: u64, rip: u64) -> Option<&[u8]>
+/// The place in the code of an address, where it is one of the code's.
+fn place_of(code: &[u8], code_at: u64, rip: u64) -> Option<usize>
     requires { code_at + length code.now ≤ 2 ^ 64 }
-    ensures { MatchOption result (InCode (record { bytes = code.now; start = code_at }) rip → ⊥)
-        (λ rest. InCode (record { bytes = code.now; start = code_at }) rip × (rest.now ≡ drop (rip - code_at) code.now)) }
+    ensures outside { IfNone result (InCode (record { bytes = code.now; start = code_at }) rip → ⊥) }
+    ensures inside { IfSome result (λ place. InCode (record { bytes = code.now; start = code_at }) rip) }
+    ensures value { IfSome result (λ place. place ≡ rip - code_at) }
+    ensures within { IfSome result (λ place. place < length code.now) }
 {
     if rip < code_at || code.len() as u64 <= rip - code_at {
         return None;
     }
-    let (_, rest) = code.split_at((rip - code_at) as usize);
-    Some(rest)
+    Some((rip - code_at) as usize)
 }
 
 /// A trap as a step tells it: for want of flags its address is the instruction's.
@@ -82,12 +85,13 @@ pub fn step_on(
         (point_of state.new (memory_of memory.new) ≡ point_of state.old (memory_of memory.old)) }
 {
     let at = state.rip;
-    let Some(rest) = rest_of(code, code_at, at) else {
+    let Some(place) = place_of(code, code_at, at) else {
         return Err(Trap {
             at,
             why: Why::NoCode,
         });
     };
+    let (_, rest) = code.split_at(place);
     let Some((ins, size)) = decode(rest) else {
         return Err(Trap {
             at,
@@ -95,6 +99,40 @@ pub fn step_on(
         });
     };
     perform(state, memory, &ins, size)
+}
+
+/// The same with a table of the code's instructions.
+fn step_by(
+    code: &[u8],
+    code_at: u64,
+    state: &mut State,
+    memory: &mut Segments,
+    table: &mut Table,
+) -> Result<(), Trap>
+    requires low { code_at + length code.now ≤ 2 ^ 64 }
+    requires table { AreFetched code.now table.old }
+    ensures table { AreFetched code.now table.new }
+    ensures done { OnOk result ((i : Ins) × Step (record { bytes = code.now; start = code_at })
+        (point_of state.old (memory_of memory.old)) i (point_of state.new (memory_of memory.new))) }
+    ensures stuck { IfErr result (λ trap. Stuck (record { bytes = code.now; start = code_at })
+        (point_of state.old (memory_of memory.old)) trap) }
+    ensures unchanged { OnErr result
+        (point_of state.new (memory_of memory.new) ≡ point_of state.old (memory_of memory.old)) }
+{
+    let at = state.rip;
+    let Some(place) = place_of(code, code_at, at) else {
+        return Err(Trap {
+            at,
+            why: Why::NoCode,
+        });
+    };
+    let Some(fetched) = fetch(code, place, table) else {
+        return Err(Trap {
+            at,
+            why: Why::NoRow,
+        });
+    };
+    perform(state, memory, &fetched.ins, fetched.size)
 }
 
 /// Does the instruction at RIP.
@@ -111,6 +149,24 @@ pub fn step(m: &mut Machine) -> Result<(), Trap>
     ensures unchanged { OnErr result (point m.new ≡ point m.old) }
 {
     step_on(m.code.as_slice(), m.code_at, &mut m.state, &mut m.memory)
+}
+
+/// Does the instruction at RIP, with a table of the code's instructions.
+fn step_with(m: &mut Machine, table: &mut Table) -> Result<(), Trap>
+    requires { AreFetched m.old.code table.old }
+    ensures table { AreFetched m.new.code table.new }
+    ensures same { SameCode m.old m.new }
+    ensures done { OnOk result ((i : Ins) × Step (code_of m.old) (point m.old) i (point m.new)) }
+    ensures stuck { IfErr result (λ trap. Stuck (code_of m.old) (point m.old) trap) }
+    ensures unchanged { OnErr result (point m.new ≡ point m.old) }
+{
+    step_by(
+        m.code.as_slice(),
+        m.code_at,
+        &mut m.state,
+        &mut m.memory,
+        table,
+    )
 }
 
 /// Whether RIP and RSP have the stop values.
@@ -130,11 +186,12 @@ pub fn run(m: &mut Machine, budget: u64) -> End
     ensures ends { EndsAt (code_of m.old) (stop_of m.old) budget (point m.old) result (point m.new) }
     ensures same { SameCode m.old m.new }
 {
+    let mut table = empty();
     for steps in 0..budget {
         if is_over(m) {
             return End::Returned { steps };
         }
-        match step(m) {
+        match step_with(m, &mut table) {
             Ok(()) => {}
             Err(trap) => return End::Trapped { steps, trap },
         }

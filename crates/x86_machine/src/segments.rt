@@ -56,4 +56,12 @@ impl Bytes for Segments {
     fn set(&mut self, at: u64, b: u8) -> bool {
         self.map.set(at, b)
     }
+
+    fn slice(&self, at: u64, n: usize) -> Option<&[u8]> {
+        self.map.slice(at, n)
+    }
+
+    fn set_slice(&mut self, at: u64, from: &[u8]) -> bool {
+        self.map.set_slice(at, from)
+    }
 }

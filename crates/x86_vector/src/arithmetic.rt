@@ -8,14 +8,14 @@ ghost use Rattle.x86_ins.specs.Vectors.{mul_low, mul_high_s, mul_high_u, mul_pai
 ghost use Rattle.x86_vector.specs.Forms.{bytes_of, lane_fn, word_fn, bit_fn};
 
 use crate::forms::{BitFn, LaneFn, WordFn};
-use crate::width::{Width, bits, mask, modulus};
+use crate::width::{Width, bits, low_bits, mask, modulus};
 use orc_bits::{clamp_s, signed};
 
 /// The sum, modulo 2^w for lanes of w bits.
 fn add_wrap(w: Width, a: u64, b: u64) -> u64
     ensures { result ≡ add_wrap (8 * bytes_of w) a b }
 {
-    ((u128::from(a) + u128::from(b)) % modulus(w)) as u64
+    low_bits(w, a.wrapping_add(b))
 }
 
 /// The difference, modulo 2^w for lanes of w bits.
@@ -23,7 +23,7 @@ fn sub_wrap(w: Width, a: u64, b: u64) -> u64
     requires second { b < 2 ^ (8 * bytes_of w) }
     ensures { result ≡ sub_wrap (8 * bytes_of w) a b }
 {
-    ((u128::from(a) + (modulus(w) - u128::from(b))) % modulus(w)) as u64
+    low_bits(w, a.wrapping_sub(b))
 }
 
 /// A lane as a signed number.

@@ -1,6 +1,6 @@
 //! Results, lane by lane.
 
-ghost use Rattle.std.specs.Prelude.{◌≡◌, ℕ, ◌≤◌, ◌<◌, ◌+◌, ◌*◌, ◌/◌, ◌%◌, ◌^◌};
+ghost use Rattle.std.specs.Prelude.{◌≡◌, ℕ, ◌≤◌, ◌<◌, ◌+◌, ◌*◌, ◌/◌, ◌%◌, ◌^◌, get_or};
 ghost use Rattle.x86_ins.specs.Vectors.{shape, result_of, imm_shape, imm_result, shuffle_result};
 ghost use Rattle.x86_vector.specs.Forms.{bytes_of, width_in, lane_in, result_in};
 
@@ -71,14 +71,26 @@ fn lane(f: Form, x: &[u8; 16], y: &[u8; 16], q: usize) -> u64
     }
 }
 
-/// The result, byte by byte.
+/// Writes lane q, of w bytes, and no other byte.
+fn put_lane(out: &mut [u8; 16], w: usize, q: usize, v: u64)
+    requires few { w ≤ 8 }
+    requires inside { q * w + w ≤ 16 }
+    ensures here { (k : ℕ) → k < w → get_or out.new (q * w + k) 0 ≡ v / 256 ^ k % 256 }
+    ensures below { (j : ℕ) → j < q * w → get_or out.new j 0 ≡ get_or out.old j 0 }
+{
+    for k in 0..w {
+        out[q * w + k] = byte_at(v, k);
+    }
+}
+
+/// The result, lane by lane.
 fn build(f: Form, x: &[u8; 16], y: &[u8; 16]) -> [u8; 16]
     ensures { result ≡ result_in f x.now y.now }
 {
     let w = size(width(f));
     let mut out = [0; 16];
-    for i in 0..16 {
-        out[i] = byte_at(lane(f, x, y, i / w), i % w);
+    for q in 0..16 / w {
+        put_lane(&mut out, w, q, lane(f, x, y, q));
     }
     out
 }

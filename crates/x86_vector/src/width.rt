@@ -1,6 +1,6 @@
 //! Widths of lanes.
 
-ghost use Rattle.std.specs.Prelude.{◌≡◌, ℕ, ◌≤◌, ◌<◌, ◌+◌, ◌-◌, ◌*◌, ◌/◌, ◌^◌, Bool, cond};
+ghost use Rattle.std.specs.Prelude.{◌≡◌, ℕ, ◌≤◌, ◌<◌, ◌+◌, ◌-◌, ◌*◌, ◌/◌, ◌%◌, ◌^◌, Bool, cond};
 ghost use Rattle.orc_bits.specs.Widths.{IsWidth};
 ghost use Rattle.x86_ins.specs.Vectors.{mask};
 ghost use Rattle.x86_vector.specs.Forms.{bytes_of};
@@ -19,7 +19,8 @@ pub fn size(w: Width) -> usize
     ensures value { result ≡ bytes_of w }
     ensures some { 0 < result }
     ensures few { result ≤ 8 }
-    ensures fits { (i : ℕ) → i < 16 → i / result * result + result ≤ 16 }
+    ensures whole { 16 / result * result ≡ 16 }
+    ensures fits { (q : ℕ) → q < 16 / result → q * result + result ≤ 16 }
 {
     match w {
         Width::One => 1,
@@ -53,6 +54,18 @@ pub fn modulus(w: Width) -> u128
         Width::Two => 0x1_0000,
         Width::Four => 0x1_0000_0000,
         Width::Eight => 0x1_0000_0000_0000_0000,
+    }
+}
+
+/// A number cut to the bits of a lane.
+pub fn low_bits(w: Width, v: u64) -> u64
+    ensures { result ≡ v % 2 ^ (8 * bytes_of w) }
+{
+    match w {
+        Width::One => v % 0x100,
+        Width::Two => v % 0x1_0000,
+        Width::Four => v % 0x1_0000_0000,
+        Width::Eight => v,
     }
 }
 

@@ -1,5 +1,5 @@
 -- A function's code in a good call: the lists around its rows, and the elements of a row.
-use Rattle.std.proofs.Common.{◌≡◌, ℕ, ◌+◌, ◌*◌, ◌/◌, ◌%◌, ◌^◌, ◌<◌, ◌≤◌, true, List, [], length, get_or, slice_index, Some, is_some, Result, Ok, Err, refl, lit<, sym, ap, ◌∙◌, subst, arith, inl, inr, ⊎_elim}
+use Rattle.std.proofs.Common.{◌≡◌, ℕ, ◌+◌, ◌*◌, ◌/◌, ◌%◌, ◌^◌, ◌<◌, ◌≤◌, true, List, [], length, get_or, Some, is_some, Result, Ok, Err, refl, lit<, sym, ap, ◌∙◌, subst, arith, inl, inr, ⊎_elim, ◌++◌}
 use Rattle.std.proofs.Math.Nat.{zero-mod, zero-div}
 use Rattle.orc_bits.specs.Memory.{Memory, word, IsMapped}
 use Rattle.orc_bits.specs.Numbers.{cut}
@@ -11,7 +11,7 @@ use Rattle.orc_program.specs.Checks.{patterns_of}
 use Rattle.orc_program.specs.Slots.{size_of_slot}
 use Rattle.orc_program.specs.Meaning.{State, row_of, start}
 use Rattle.x86_ins.specs.declared.ins.Ins.{Ins}
-use Rattle.x86_ins.specs.Machine.{Core, Point}
+use Rattle.x86_ins.specs.Machine.{Core, Point, Touches}
 use Rattle.x86_ins.specs.Way.{Placed}
 use Rattle.x86_flow.specs.Does.{Line, Does}
 use Rattle.x86_flow.proofs.Frame.{word_same}
@@ -24,14 +24,14 @@ use Rattle.orc_frame.specs.Layout.{layout_of, pattern_slot, sum_slot, saved_slot
 use Rattle.orc_frame.specs.Frame.{Prepares, Finishes, Enters, Prepared, Ends, AfterEntry, AfterRows, acc_size, pattern_byte, saved}
 use Rattle.orc_program.proofs.Places.{length-places_of}
 use Rattle.orc_frame.specs.Subject.{Call as Arguments, InDests, rows}
-use Rattle.orc_frame.specs.Parts.{InFrame, InChanged, InBlock, InReturn, InSums, param_word, sum_word, block_size}
+use Rattle.orc_frame.specs.Parts.{InFrame, InChanged, InBlock, InReturn, InSums, param_word, sum_word, block_size, InRunning}
 use Rattle.orc_frame.specs.GoodCall.{GoodCall}
 use Rattle.orc_frame.specs.Function.{IsCellByte, subject_of}
 use Rattle.orc_program.specs.Need.{lanes, turns}
-use Rattle.orc_region.specs.Code.{Turns, pointer, elements_of}
+use Rattle.orc_region.specs.Code.{Turns, pointer, elements_of, sum_register, sum_loads_code, sum_stores_code}
 use Rattle.orc_region.specs.Elements.{HasCome, Holds, PointsAt, InElements, InWords, IsDest, IsQuiet}
 use Rattle.orc_region.proofs.Block.Cells.{Numbers}
-use Rattle.orc_region.proofs.Block.Frames.{Framed, framed_below, no_sum}
+use Rattle.orc_region.proofs.Block.Frames.{Framed, framed_below, no_sum, IsFrame}
 use Rattle.orc_region.proofs.Block.Elements.{Agrees}
 use Rattle.orc_region.proofs.Sizes.Steps.{regions_of}
 use Rattle.orc_region.proofs.Checked.Direct.{pattern_of}
@@ -45,6 +45,9 @@ use Rattle.orc_region.proofs.Calls.Wide.{cell_weight}
 use Rattle.orc_region.proofs.Calls.Doing.{OnWay}
 use Rattle.orc_region.proofs.Calls.Blocks.{arrays_known}
 use Rattle.orc_region.proofs.Calls.Rows.{most_besides, most_turn, Wanted, row_does}
+use Rattle.orc_region.proofs.Block.Keeping.{line_bounded, ins_of}
+use Rattle.orc_region.proofs.Calls.Sums.{Stored, fine_loads, loads_line, stores_line}
+use Rattle.x86_flow.proofs.Moves.{line_append}
 use Rattle.orc_asm.proofs.Row.Emulated.{end_with, sum_of_end}
 use Rattle.orc_asm.proofs.Row.Lines.{InRows}
 use Rattle.orc_asm.proofs.Row.Loop.{rsp, stack_low, Steady, Ready, Ended}
@@ -70,7 +73,7 @@ ok_same x y r a b = ap (ok_value x) (sym a ∙ b)
 is_mapped : (m e : Memory) (a : ℕ) → m a ≡ e a → IsMapped m a → IsMapped e a
 is_mapped m e a q h = subst (λ o. is_some o ≡ true) q h
 
-module _ (f : FunctionValue) (is : is_function f ≡ true) (single wide aligned large : List Ins) (turns_are : Turns f single wide aligned large) (code : Placed) (s : Point) (args : Arguments) (back : ℕ) (good : GoodCall (subject_of f) code s args back) where
+module _ (f : FunctionValue) (is : is_function f ≡ true) (at : List ℕ) (single wide aligned large : List Ins) (turns_are : Turns f at single wide aligned large) (code : Placed) (s : Point) (args : Arguments) (back : ℕ) (good : GoodCall (subject_of f) code s args back) where
   abbrev known : Arrays f
   known = arrays_known f is
 
@@ -78,7 +81,7 @@ module _ (f : FunctionValue) (is : is_function f ≡ true) (single wide aligned 
   Args = call f known code s args back good
 
   abbrev numbers : Numbers
-  numbers = numbers_in f is known code s args back good
+  numbers = numbers_in f is known code s args back good at
 
   abbrev lowered : ℕ
   lowered = rsp f known code s args back good
@@ -93,7 +96,7 @@ module _ (f : FunctionValue) (is : is_function f ≡ true) (single wide aligned 
   pub record Kept (e : State) (c : Core) : Type 0 where
     pub saved_words : (j : ℕ) → j < 6 → word c.memory (lowered + saved_slot j) ≡ Some (s.core.gpr (saved j))
     pub totals : ℕ → ℕ
-    pub framed : Framed numbers lowered c.memory totals
+    pub framed : Framed numbers lowered c totals
     pub agrees : Agrees f e.sums totals
 
   stack_room : lowered + (frame_size + 8) ≤ 2 ^ 47
@@ -102,18 +105,21 @@ module _ (f : FunctionValue) (is : is_function f ≡ true) (single wide aligned 
   frame_low : s.core.gpr 4 ≡ lowered + frame_size
   frame_low = (let w = good.frame_room in omega (arith, w))
 
+  is_framed : IsFrame numbers lowered
+  is_framed = is_frame f is known code s args back good at turns_are.good
+
   -- the frame's slots stay
   module _ (c d : Core) (same : (x : ℕ) → lowered ≤ x → x < lowered + row_slot 0 → (InChanged lowered numbers.sums x → ⊥) → d.memory x ≡ c.memory x) where
     words_stay : ((j : ℕ) → j < 6 → word c.memory (lowered + saved_slot j) ≡ Some (s.core.gpr (saved j))) → (j : ℕ) → j < 6 → word d.memory (lowered + saved_slot j) ≡ Some (s.core.gpr (saved j))
     words_stay h j l = word_same d.memory c.memory (lowered + saved_slot j) (omega (arith, stack_room, l)) (λ x a b. same x (omega (arith, a)) (omega (arith, b, l)) (λ i. ⊎_elim (λ t. omega (arith, t.1, a, known.few.accs)) (λ t. omega (arith, t.0, b, l)) i)) ∙ h j l
 
-  kept_on : (e : State) (c d : Core) → Kept e c → ((x : ℕ) → (InRows lowered (s.core.gpr 7) (stack_low f known code s args back good) good.block_low x → ⊥) → d.memory x ≡ c.memory x) → Kept e d
-  kept_on e c d h same =
-      let at : (x : ℕ) → lowered ≤ x → x < lowered + row_slot 0 → d.memory x ≡ c.memory x = λ x l u. same x (λ i. omega (arith, i.0, u)) in
+  kept_on : (e : State) (c d : Core) → Kept e c → ((x : ℕ) → (InRows lowered (s.core.gpr 7) (stack_low f known code s args back good) good.block_low x → ⊥) → d.memory x ≡ c.memory x) → d.xmm ≡ c.xmm → Kept e d
+  kept_on e c d h same xmm =
+      let below : (x : ℕ) → lowered ≤ x → x < lowered + row_slot 0 → d.memory x ≡ c.memory x = λ x l u. same x (λ i. omega (arith, i.0, u)) in
       record {
-        saved_words = words_stay c d (λ x l u n. at x l u) h.saved_words;
+        saved_words = words_stay c d (λ x l u n. below x l u) h.saved_words;
         totals = h.totals;
-        framed = framed_below numbers lowered (is_frame f is known code s args back good) c.memory d.memory h.totals (λ x l u. at x l (omega (arith, u))) (λ x i m. subst (λ o. is_some o ≡ true) (sym (same x (λ t. omega (arith, t.1, i.0)))) m) h.framed;
+        framed = framed_below numbers lowered is_framed c d h.totals (λ x l u. below x l (omega (arith, u))) (λ x i m. subst (λ o. is_some o ≡ true) (sym (same x (λ t. omega (arith, t.1, i.0)))) m) (λ g l. ap (λ v. v (sum_register g)) xmm) h.framed;
         agrees = h.agrees;
       }
 
@@ -169,36 +175,63 @@ module _ (f : FunctionValue) (is : is_function f ≡ true) (single wide aligned 
       → (j : ℕ) → j < length (patterns_of f.vars f.insns) → (b : ℕ) → b < 16 → d.memory (lowered + pattern_slot j + b) ≡ Some (pattern_byte (pattern_of f j).way (numbers.number j) b)
   first_patterns d e h j l b lb =
       let within : j < length (layout_of f).patterns.items = subst (λ ps. j < length ps) (sym (patterns_are f)) l in
-      ap (λ a. d.memory (a + pattern_slot j + b)) (sym e) ∙ h.patterns j within b lb ∙ ap Some (pattern_same f is known code s args back good j l b)
+      ap (λ a. d.memory (a + pattern_slot j + b)) (sym e) ∙ h.patterns j within b lb ∙ ap Some (pattern_same f is known code s args back good at j l b)
+
+  -- ---- the running sums, which registers have where they are left
+
+  abbrev count : ℕ
+  count = length (layout_of f).acc_sizes.items
+
+  few_sums : count ≤ 4
+  few_sums = omega (arith, sums_count f, known.few.accs)
+
+  frame_room : lowered + frame_size ≤ 2 ^ 47
+  frame_room = (let a = stack_room in omega (arith, a))
+
+  -- an instruction that touches the frame alone, where nothing else has changed
+  frame_step : (c u : Core) (i : Ins) → c.gpr 4 ≡ lowered → ((a : ℕ) → (Dests a → ⊥) → (Frame a → ⊥) → c.memory a ≡ s.core.memory a) → u.gpr ≡ c.gpr → ((x : ℕ) → (Frame x → ⊥) → u.memory x ≡ c.memory x) → ((a : ℕ) → Touches i u a → Frame a) → Q u i
+  frame_step c u i stack quiet same out t = (
+    record { stack = inr (ap (λ g. g 4) same ∙ stack); quiet = λ a nc nf ns. out a nf ∙ quiet a nc nf },
+    own_wide f known code s args back good u i (λ a w. inl (t a w)),
+  )
 
   module _ (first : List Ins) (prepares : Prepares (layout_of f) first) where
-    begins : (d : Core) × Line Q first s.core d × Steady f known code s args back good Kept (start s.core.memory) d
+    abbrev loads : List Ins
+    loads = sum_loads_code at count
+
+    begins : (d : Core) × Line Q (first ++ loads) s.core d × Steady f known code s args back good Kept (start s.core.memory) d
     begins =
         let x = prepares args.param s.core enters in
-        let d = x.0 in
+        let c = x.0 in
         let h = x.2 in
-        let stack : d.gpr 4 ≡ lowered = (let w = h.stack in omega (arith, w, frame_low)) in
-        let outside : (a : ℕ) → (Frame a → ⊥) → d.memory a ≡ s.core.memory a = λ a nf. h.outside a (λ w. nf (omega (arith, w.0, stack), omega (arith, w.1, stack))) in (
+        let stack : c.gpr 4 ≡ lowered = (let w = h.stack in omega (arith, w, frame_low)) in
+        let outside : (a : ℕ) → (Frame a → ⊥) → c.memory a ≡ s.core.memory a = λ a nf. h.outside a (λ w. nf (omega (arith, w.0, stack), omega (arith, w.1, stack))) in
+        let zero_sums : (g : ℕ) → g < count → (b : ℕ) → b < 16 → c.memory (lowered + sum_slot g + b) ≡ Some 0 = λ g l b lb. ap (λ a. c.memory (a + sum_slot g + b)) (sym stack) ∙ h.sums g l b lb in
+        let y = loads_line at Q lowered frame_room (λ g b. 0) c stack (λ u i gs ms t. frame_step c u i stack (λ a nc nf. outside a nf) gs (λ a nf. ap (λ m. m a) ms) t) count few_sums zero_sums in
+        let d = y.0 in
+        let w = y.2 in
+        let gpr : (r : ℕ) → d.gpr r ≡ c.gpr r = λ r. ap (λ g. g r) w.gpr in
+        let memory : (a : ℕ) → d.memory a ≡ c.memory a = λ a. ap (λ m. m a) w.memory in (
           d,
-          line_map (AfterEntry s.core) Q entry_still first s.core d x.1,
+          line_append Q first loads s.core c d (line_map (AfterEntry s.core) Q entry_still first s.core c x.1) y.1,
           record {
-            stack = stack;
-            block = h.others 7 (λ e. omega (arith, e)) (λ e. omega (arith, e));
-            quiet = λ a nc nf. outside a nf;
-            agree = outside;
+            stack = gpr 4 ∙ stack;
+            block = gpr 7 ∙ h.others 7 (λ e. omega (arith, e)) (λ e. omega (arith, e));
+            quiet = λ a nc nf. memory a ∙ outside a nf;
+            agree = λ a nf. memory a ∙ outside a nf;
             mapped = λ a w. mapped f known code s args back good a w;
-            frame = λ a w. h.frame a (omega (arith, w.0, stack), omega (arith, w.1, stack));
-            bounded = h.bounded;
+            frame = λ a w. is_mapped c.memory d.memory a (sym (memory a)) (h.frame a (omega (arith, w.0, stack), omega (arith, w.1, stack)));
+            bounded = line_bounded Q loads c d (ins_of loads (fine_loads at count few_sums)) y.1 h.bounded;
             kept = record {
-              saved_words = λ j l. ap (λ a. word d.memory (a + saved_slot j)) (sym stack) ∙ h.saved j l;
+              saved_words = λ j l. ap (λ m. word m (lowered + saved_slot j)) w.memory ∙ ap (λ a. word c.memory (a + saved_slot j)) (sym stack) ∙ h.saved j l;
               totals = λ g. 0;
               framed = record {
-                patterns = first_patterns d stack h;
+                patterns = λ j l b lb. memory (lowered + pattern_slot j + b) ∙ first_patterns c stack h j l b lb;
                 running = λ g. [];
                 bytes = λ g r. lit< tt;
-                sums = λ g l b lb. ap (λ a. d.memory (a + sum_slot g + b)) (sym stack) ∙ h.sums g (omega (arith, l, sums_count f)) b lb;
+                sums = λ g l b lb. w.sums g (omega (arith, l, sums_count f)) b lb;
                 totals_are = λ g l. ap (cut (8 * width_of f g)) (no_lanes (width_of f g));
-                spilled = λ x i. h.frame x ((let l = i.0 in omega (arith, l, stack)), (let u = i.1 in omega (arith, u, stack)));
+                spilled = λ x i. is_mapped c.memory d.memory x (sym (memory x)) (h.frame x ((let l = i.0 in omega (arith, l, stack)), (let u = i.1 in omega (arith, u, stack))));
               };
               agrees = λ p l k. sym (zero-mod (2 ^ (8 * (var_at f.vars p).size)));
             };
@@ -221,8 +254,8 @@ module _ (f : FunctionValue) (is : is_function f ≡ true) (single wide aligned 
         return_frame : (a : ℕ) → InReturn (s.core.gpr 4) a → Frame a → ⊥
         return_frame a w t = (let low = frame_low in omega (arith, w.0, t.1, low))
 
-    holds : Holds f s.core args e c
-    holds = holds_again f is known code s args back good e c h.steady.kept.totals h.steady.kept.framed h.steady.kept.agrees h.steady.stack h.steady.block h.steady.agree still_mapped h.steady.bounded
+    holds : Holds f at s.core args e c
+    holds = holds_again f is known code s args back good at e c h.steady.kept.totals h.steady.kept.framed h.steady.kept.agrees h.steady.stack h.steady.block h.steady.agree still_mapped h.steady.bounded
 
     first_cell : (b x z : ℕ) → x ≡ b % 2 ^ 64 → x ≡ (b + 0 * z + 0) % 2 ^ 64
     first_cell b x z q = omega (arith, q)
@@ -235,14 +268,14 @@ module _ (f : FunctionValue) (is : is_function f ≡ true) (single wide aligned 
     row_dest a w = (w.0, w.1, (r, row, w.2, omega (arith, w.4), w.5, w.6, w.7))
 
     -- what holds at each step in a row
-    on_way : (u : Core) (i : Ins) → OnWay f code s args back good r 0 args.n (Wanted f is single wide aligned large turns_are code s args back good r row) c u i → Q u i
+    on_way : (u : Core) (i : Ins) → OnWay f code s args back good r 0 args.n (Wanted f is at single wide aligned large turns_are code s args back good r row) c u i → Q u i
     on_way u i w = (
       record { stack = inr w.stack; quiet = λ a nc nf ns. w.quiet a (λ t. nc (row_dest a t)) nf ∙ h.steady.quiet a nc nf },
       record { apart = w.wide.apart; stored = λ al. w.wide.stored (al.full, al.reached r row, (al.some, al.alone)) },
     )
 
     -- what the elements leave
-    row_ended : (d : Core) (t : State) → HasCome f args s.core.memory r (0 + args.n) t → IsQuiet f s.core args r 0 args.n c d → Holds f s.core args t d → ((a : ℕ) → InWords lowered a → d.memory a ≡ c.memory a) → Ended f known code s args back good Kept r e t c d
+    row_ended : (d : Core) (t : State) → HasCome f args s.core.memory r (0 + args.n) t → IsQuiet f s.core args r 0 args.n c d → Holds f at s.core args t d → ((a : ℕ) → InWords lowered a → d.memory a ≡ c.memory a) → Ended f known code s args back good Kept r e t c d
     row_ended d t come quiet there words =
         let same : come.0 ≡ e = ok_same come.0 e _ come.1 h.emulated in
         let none : 0 + args.n ≡ args.n = omega arith in
@@ -258,9 +291,9 @@ module _ (f : FunctionValue) (is : is_function f ≡ true) (single wide aligned 
             bounded = there.bounded;
             kept = record {
               saved_words = λ j l. word_same d.memory c.memory (lowered + saved_slot j) (omega (arith, stack_room, l)) (λ x a b. words x (omega (arith, a), omega (arith, b, l))) ∙ h.steady.kept.saved_words j l;
-              totals = totals_in f is known code s args back good t d there;
-              framed = framed_in f is known code s args back good t d there;
-              agrees = agrees_in f is known code s args back good t d there;
+              totals = totals_in f is known code s args back good at t d there;
+              framed = framed_in f is known code s args back good at t d there;
+              agrees = agrees_in f is known code s args back good at t d there;
             };
           };
           slots = λ x w. words x (omega (arith, w.0), omega (arith, w.1));
@@ -268,7 +301,7 @@ module _ (f : FunctionValue) (is : is_function f ≡ true) (single wide aligned 
 
     does : (t : State) × (list : List Ins) × (d : Core) × Does Q (elements_of f single wide aligned large) c list d × Ended f known code s args back good Kept r e t c d × (length list ≤ regions_of (most_besides f) (lanes f) (most_turn f) args.n) × (weigh cell_weight list ≤ turns (lanes f) args.n * (subject_of f).operands)
     does =
-        let x = row_does f is single wide aligned large turns_are code s args back good r row e (e, h.emulated, refl) c holds points h.counter in
+        let x = row_does f is at single wide aligned large turns_are code s args back good r row e (e, h.emulated, refl) c holds points h.counter in
         let y = x.3 in
         (y.e, x.0, x.1, does_map _ Q on_way (elements_of f single wide aligned large) c x.0 x.1 x.2, row_ended x.1 y.e y.come y.quiet y.holds y.words, y.short, y.light)
 
@@ -278,60 +311,88 @@ module _ (f : FunctionValue) (is : is_function f ≡ true) (single wide aligned 
     abbrev words : ℕ → ℕ
     words j = s.core.gpr (saved j)
 
-    ends_here : Ends (layout_of f) words h.kept.framed.running c
-    ends_here = record {
-      low = (let a = h.stack in omega (arith, a, stack_room));
-      block_low = subst (λ a. a + block_size ≤ 2 ^ 47) (sym h.block) good.block_low;
-      block = λ x i. there x (subst (λ a. InBlock a x) h.block i);
-      apart = λ x i w. block_in x (subst (λ a. InBlock a x) h.block i) (subst (λ a. InFrame a x) h.stack w);
-      saved = λ j l. ap (λ a. word c.memory (a + saved_slot j)) h.stack ∙ h.kept.saved_words j l;
-      bytes = h.kept.framed.bytes;
-      sums = λ g l b lb. ap (λ a. c.memory (a + sum_slot g + b)) h.stack ∙ h.kept.framed.sums g (omega (arith, l, sums_count f)) b lb;
-    }
-      where
-        there : (x : ℕ) → InBlock (s.core.gpr 7) x → IsMapped c.memory x
-        there x i = subst (λ o. is_some o ≡ true) (sym (h.quiet x (block_dest x i.0 i.1) (block_frame x i.0 i.1))) (good.block x i)
+    abbrev stores : List Ins
+    stores = sum_stores_code at count
 
-        block_in : (x : ℕ) → InBlock (s.core.gpr 7) x → Frame x → ⊥
-        block_in x i w = block_frame x i.0 i.1 w
+    abbrev InSlots : Core → Type 0
+    InSlots u = Stored at Q lowered frame_room (λ g b. get_or (h.kept.framed.running g) b 0) c h.stack count u
+
+    -- the running sums are in their slots again
+    back_in_slots : (u : Core) × Line Q stores c u × InSlots u
+    back_in_slots =
+        stores_line at Q lowered frame_room (λ g b. get_or (h.kept.framed.running g) b 0) c h.stack (λ u i gs out touches. frame_step c u i h.stack h.quiet gs out touches) h.frame count few_sums (λ g l b lb. h.kept.framed.sums g (omega (arith, l, sums_count f)) b lb)
+
+    module _ (u : Core) (w : InSlots u) where
+      stack_is : u.gpr 4 ≡ lowered
+      stack_is = ap (λ g. g 4) w.gpr ∙ h.stack
+
+      block_is : u.gpr 7 ≡ s.core.gpr 7
+      block_is = ap (λ g. g 7) w.gpr ∙ h.block
+
+      slots_frame : (x : ℕ) → InRunning lowered count x → Frame x
+      slots_frame x i = (omega (arith, i.0), (let u = i.1 in omega (arith, u, few_sums)))
+
+      outside_frame : (x : ℕ) → (Frame x → ⊥) → u.memory x ≡ c.memory x
+      outside_frame x nf = w.outside x (λ i. nf (slots_frame x i))
+
+      ends_here : Ends (layout_of f) words h.kept.framed.running u
+      ends_here = record {
+        low = (let a = stack_is in omega (arith, a, stack_room));
+        block_low = subst (λ a. a + block_size ≤ 2 ^ 47) (sym block_is) good.block_low;
+        block = λ x i. there x (subst (λ a. InBlock a x) block_is i);
+        apart = λ x i w. block_in x (subst (λ a. InBlock a x) block_is i) (subst (λ a. InFrame a x) stack_is w);
+        saved = λ j l. ap (λ a. word u.memory (a + saved_slot j)) stack_is ∙ word_same u.memory c.memory (lowered + saved_slot j) (omega (arith, stack_room, l)) (λ x a b. w.outside x (λ i. let e = i.1 in omega (arith, e, a, few_sums))) ∙ h.kept.saved_words j l;
+        bytes = h.kept.framed.bytes;
+        sums = λ g l b lb. ap (λ a. u.memory (a + sum_slot g + b)) stack_is ∙ w.sums g l b lb;
+      }
+        where
+          there : (x : ℕ) → InBlock (s.core.gpr 7) x → IsMapped u.memory x
+          there x i = subst (λ o. is_some o ≡ true) (sym (outside_frame x (block_frame x i.0 i.1) ∙ h.quiet x (block_dest x i.0 i.1) (block_frame x i.0 i.1))) (good.block x i)
+
+          block_in : (x : ℕ) → InBlock (s.core.gpr 7) x → Frame x → ⊥
+          block_in x i w = block_frame x i.0 i.1 w
 
     -- the addresses of accumulators' words
     abbrev Totals : ℕ → Type 0
     Totals = InSums (s.core.gpr 7) (count_of kind.Accumulator f.vars)
 
-    not_total : (x : ℕ) → (Totals x → ⊥) → InSums (c.gpr 7) (length (layout_of f).acc_sizes.items) x → ⊥
-    not_total x n i = (let b = h.block in n (omega (arith, i.0, b), omega (arith, i.1, b, sums_count f)))
+    not_total : (u : Core) → u.gpr 7 ≡ s.core.gpr 7 → (x : ℕ) → (Totals x → ⊥) → InSums (u.gpr 7) count x → ⊥
+    not_total u b x n i = n (omega (arith, i.0, b), omega (arith, i.1, b, sums_count f))
 
-    exit_still : (u : Core) (i : Ins) → AfterRows (layout_of f) c u i → Q u i
-    exit_still u i w = (
+    exit_still : (v : Core) → InSlots v → (u : Core) (i : Ins) → AfterRows (layout_of f) v u i → Q u i
+    exit_still v x u i w = (
       record {
-        stack = inr (w.stack ∙ h.stack);
-        quiet = λ a nc nf ns. w.outside a (not_total a ns) ∙ h.quiet a nc nf;
+        stack = inr (w.stack ∙ stack_is v x);
+        quiet = λ a nc nf ns. w.outside a (not_total v (block_is v x) a ns) ∙ outside_frame v x a nf ∙ h.quiet a nc nf;
       },
-      own_wide f known code s args back good u i (λ a t. ⊎_elim (λ x. inl (subst (λ b. InFrame b a) h.stack x)) (λ x. inr (inl (subst (λ b. InBlock b a) h.block x))) (w.touches a t)),
+      own_wide f known code s args back good u i (λ a t. ⊎_elim (λ y. inl (subst (λ b. InFrame b a) (stack_is v x) y)) (λ y. inr (inl (subst (λ b. InBlock b a) (block_is v x) y))) (w.touches a t)),
     )
 
     -- emulation's sum is that of the lanes
     sum_is : (g : ℕ) → g < count_of kind.Accumulator f.vars → cut (8 * acc_size (layout_of f) g) (sum_of (acc_size (layout_of f) g) (h.kept.framed.running g)) ≡ (end_with f t).sums g
     sum_is g l = total_is f t.sums h.kept.totals h.kept.framed.running h.kept.framed.totals_are h.kept.agrees g l ∙ sym (sum_of_end f t g (omega (arith, l, length-places_of kind.Accumulator f.vars)))
 
-    ends : (d : Core) × Line Q last c d × Gone f known code s args back good t c d
+    ends : (d : Core) × Line Q (stores ++ last) c d × Gone f known code s args back good t c d
     ends =
-        let x = finishes words h.kept.framed.running c ends_here in
+        let y = back_in_slots in
+        let u = y.0 in
+        let v = y.2 in
+        let x = finishes words h.kept.framed.running u (ends_here u v) in
         let d = x.0 in
-        let w = x.2 in (
+        let w = x.2 in
+        let block = block_is u v in (
           d,
-          line_map (AfterRows (layout_of f) c) Q exit_still last c d x.1,
+          line_append Q stores last c u d y.1 (line_map (AfterRows (layout_of f) u) Q (exit_still u v) last u d x.1),
           record {
-            stack = (let a = w.stack in omega (arith, a, h.stack, frame_low));
+            stack = (let a = w.stack in let b = stack_is u v in omega (arith, a, b, frame_low));
             registers = w.restored;
-            words = λ g l. ap (λ a. word d.memory a) (let z : s.core.gpr 7 + sum_word g ≡ c.gpr 7 + sum_word g = omega (arith, h.block) in z) ∙ w.words g (omega (arith, l, sums_count f)) ∙ ap Some (sum_is g l);
-            outside = λ x n. w.outside x (not_total x n);
+            words = λ g l. ap (λ a. word d.memory a) (let z : s.core.gpr 7 + sum_word g ≡ u.gpr 7 + sum_word g = omega (arith, block) in z) ∙ w.words g (omega (arith, l, sums_count f)) ∙ ap Some (sum_is g l);
+            outside = λ x nf n. w.outside x (not_total u block x n) ∙ outside_frame u v x nf;
           },
         )
 
   pub parts : (first last : List Ins) → Prepares (layout_of f) first → Finishes (layout_of f) last
-      → Parts f known code s args back good Fair first (elements_of f single wide aligned large) last (regions_of (most_besides f) (lanes f) (most_turn f) args.n) (turns (lanes f) args.n * (subject_of f).operands)
+      → Parts f known code s args back good Fair (first ++ sum_loads_code at count) (elements_of f single wide aligned large) (sum_stores_code at count ++ last) (regions_of (most_besides f) (lanes f) (most_turn f) args.n) (turns (lanes f) args.n * (subject_of f).operands)
   parts first last prepares finishes = record {
     Kept = Kept;
     kept_on = kept_on;

@@ -1,20 +1,20 @@
 -- The code of a function: it is allowed, its bytes are few, and it runs as the function means.
-use Rattle.std.proofs.Common.{◌≡◌, Bool, ℕ, ◌+◌, ◌*◌, ◌≤◌, true, List, [], ◌∷◌, ◌++◌, length, refl, sym, ap, ap₂, ◌∙◌, subst, arith}
+use Rattle.std.proofs.Common.{◌≡◌, Bool, ℕ, ◌+◌, ◌*◌, ◌≤◌, true, List, [], ◌∷◌, ◌++◌, length, refl, sym, ap, ap₂, ◌∙◌, subst, arith, length-append, All, IsTrue, zero, suc}
 use Rattle.orc_program.specs.declared.program.VarKind.TheVariants as kind
 use Rattle.orc_program.specs.Program.{FunctionValue, count_of}
 use Rattle.orc_program.specs.Checks.{patterns_of}
 use Rattle.orc_program.specs.Kept.{is_function}
 use Rattle.x86_ins.specs.declared.ins.Ins.{Ins}
 use Rattle.x86_ins.specs.declared.ins.Ins.TheVariants.{Ret}
-use Rattle.x86_ins.specs.Spelling.{IsAllowed, spelling}
+use Rattle.x86_ins.specs.Spelling.{IsAllowed, spelling, has_spelling}
 use Rattle.x86_ins.specs.Way.{Each, AtMost}
 use Rattle.x86_flow.specs.declared.tree.Flow.{Flow as Tree}
 use Rattle.x86_flow.specs.Flow.{Flow, Plain, flat, size, spell_all, with_return}
 use Rattle.x86_flow.specs.Tree.{flat_of}
-use Rattle.x86_flow.specs.Touching.{AreOwn}
+use Rattle.x86_flow.specs.Touching.{AreOwn, touch_weight}
 use Rattle.x86_flow.proofs.Plans.{weigh}
 use Rattle.x86_flow.proofs.Shapes.{size_both}
-use Rattle.x86_flow.proofs.Spelled.{each_both}
+use Rattle.x86_flow.proofs.Spelled.{each_both, all_allowed, size_within}
 use Rattle.orc_frame.specs.declared.frame.Layout.{Layout}
 use Rattle.orc_frame.specs.Layout.{layout_of}
 use Rattle.orc_frame.specs.Frame.{Prepares, Finishes}
@@ -26,14 +26,17 @@ use Rattle.orc_frame.specs.Subject.{rows as rows_of}
 use Rattle.orc_asm.specs.RunsAs.{quiet, fully}
 use Rattle.orc_asm.specs.RunsAs.{wide as wide_promise}
 use Rattle.orc_asm.specs.Function.{RunsFully}
-use Rattle.orc_region.specs.Code.{Turns, IsElements, elements_of}
+use Rattle.orc_region.specs.Code.{Turns, IsElements, elements_of, sum_loads_code, sum_stores_code}
 use Rattle.orc_asm.specs.Rows.{rows_flow, whole_flow}
 use Rattle.orc_region.proofs.Checked.Layouts.{patterns_are, sizes_are}
 use Rattle.orc_region.proofs.Checked.Slots.{Limits, limits}
 use Rattle.orc_region.proofs.Sizes.Loops.{Fits}
 use Rattle.orc_region.proofs.Built.Turns.{fits_elements}
+use Rattle.orc_program.specs.Need.{lanes}
+use Rattle.orc_region.proofs.Calls.Sums.{fine_loads, fine_stores, loads_few, stores_few, loads_own, stores_own}
+use Rattle.orc_region.proofs.Sizes.Steps.{regions_of}
 use Rattle.orc_asm.proofs.Row.Counts.{rows_bytes, rows_allowed}
-use Rattle.orc_asm.proofs.Row.Path.{own_free}
+use Rattle.orc_asm.proofs.Row.Path.{own_free, Parts}
 use Rattle.orc_region.proofs.Calls.Wide.{cell_weight}
 use Rattle.orc_asm.proofs.Row.Runs.{AreShort, runs_with}
 use Rattle.orc_asm.proofs.Function.WideSteps.{WideAt, own_wide, wide_way}
@@ -69,7 +72,7 @@ ret_bytes = refl
 
 -- ---- the code of rows in turns
 
-module _ (f : FunctionValue) (h : is_function f ≡ true) (l : Layout) (first last : List Ins) (x : Lists f l first last) (single wide aligned large : List Ins) (turns : Turns f single wide aligned large) where
+module _ (f : FunctionValue) (h : is_function f ≡ true) (l : Layout) (first last : List Ins) (x : Lists f l first last) (at : List ℕ) (single wide aligned large : List Ins) (turns : Turns f at single wide aligned large) where
   abbrev dests : ℕ
   dests = count_of kind.Dest f.vars
 
@@ -88,8 +91,33 @@ module _ (f : FunctionValue) (h : is_function f ≡ true) (l : Layout) (first la
   abbrev rows : List Ins
   rows = flat (rows_flow elements f.two_d dests sources)
 
+  abbrev sums : ℕ
+  sums = length l.acc_sizes.items
+
+  -- the frame's lists, and the moves of running sums to registers and back
+  abbrev front : List Ins
+  front = first ++ sum_loads_code at sums
+
+  abbrev behind : List Ins
+  behind = sum_stores_code at sums ++ last
+
   abbrev pub flow : Flow
-  flow = whole_flow first elements last f.two_d dests sources
+  flow = whole_flow front elements behind f.two_d dests sources
+
+  few_sums : sums ≤ 4
+  few_sums = fact.few_sums
+
+  front_allowed : Each IsAllowed front
+  front_allowed = each_both IsAllowed first (sum_loads_code at sums) x.first_allowed (all_allowed (sum_loads_code at sums) (fine_loads at sums few_sums))
+
+  behind_allowed : Each IsAllowed behind
+  behind_allowed = each_both IsAllowed (sum_stores_code at sums) last (all_allowed (sum_stores_code at sums) (fine_stores at sums few_sums)) x.last_allowed
+
+  front_own : AreOwn front
+  front_own by stack block = each_both (λ i. touch_weight by i ≡ 0) first (sum_loads_code at sums) (x.first_own by stack block) (loads_own at sums by stack block)
+
+  behind_own : AreOwn behind
+  behind_own by stack block = each_both (λ i. touch_weight by i ≡ 0) (sum_stores_code at sums) last (stores_own at sums by stack block) (x.last_own by stack block)
 
   -- how often a turn touches cells
   abbrev some : ℕ
@@ -99,61 +127,89 @@ module _ (f : FunctionValue) (h : is_function f ≡ true) (l : Layout) (first la
   known = arrays_known f h
 
   fits : Fits 960000 (flat elements)
-  fits = fits_elements f h single wide aligned large turns
+  fits = fits_elements f h at single wide aligned large turns
 
   allowed : Each IsAllowed (with_return flow)
   allowed =
       let middle = rows_allowed dests sources few.dests few.sources elements f.two_d (let b = fits.bytes in omega (arith, b)) fits.allowed in
-      each_both IsAllowed (first ++ (rows ++ last)) (Ret ∷ []) (each_both IsAllowed first (rows ++ last) x.first_allowed (each_both IsAllowed rows last middle x.last_allowed)) ((tt, refl), tt)
+      each_both IsAllowed (front ++ (rows ++ behind)) (Ret ∷ []) (each_both IsAllowed front (rows ++ behind) front_allowed (each_both IsAllowed rows behind middle behind_allowed)) ((tt, refl), tt)
 
   code_length : HasCodeLength (spell_all (with_return flow))
   code_length =
-      let all = size_both (first ++ (rows ++ last)) (Ret ∷ []) in
-      let front = size_both first (rows ++ last) in
-      let back = size_both rows last in
+      let all = size_both (front ++ (rows ++ behind)) (Ret ∷ []) in
+      let begins = size_both front (rows ++ behind) in
+      let back = size_both rows behind in
+      let loads = size_both first (sum_loads_code at sums) in
+      let stores = size_both (sum_stores_code at sums) last in
+      let few_loads = size_within (sum_loads_code at sums) (fine_loads at sums few_sums) in
+      let few_stores = size_within (sum_stores_code at sums) (fine_stores at sums few_sums) in
       let middle = rows_bytes dests sources few.dests few.sources elements f.two_d in
       let b = fits.bytes in
-      (omega (arith, all, ret_bytes), omega (arith, all, ret_bytes, front, back, middle, b, x.first_bytes, x.first_short, x.last_bytes, x.last_short, fact.few_patterns, fact.few_sums))
+      (omega (arith, all, ret_bytes), omega (arith, all, ret_bytes, begins, back, loads, stores, few_loads, few_stores, loads_few at sums, stores_few at sums, middle, b, x.first_bytes, x.first_short, x.last_bytes, x.last_short, fact.few_patterns, fact.few_sums))
 
-  short : AreShort f first last (most_turn f) (most_besides f)
+  short : AreShort f front behind (most_turn f) (most_besides f)
   short =
       let patterns : length l.patterns.items ≡ length (patterns_of f.vars f.insns) = ap (λ (y : Layout). length y.patterns.items) x.layout ∙ ap length (patterns_are f) in
-      let sums : length l.acc_sizes.items ≡ count_of kind.Accumulator f.vars = ap (λ (y : Layout). length y.acc_sizes.items) x.layout ∙ ap length (sizes_are f) ∙ length-acc_sizes_of f in
+      let accumulators : length l.acc_sizes.items ≡ count_of kind.Accumulator f.vars = ap (λ (y : Layout). length y.acc_sizes.items) x.layout ∙ ap length (sizes_are f) ∙ length-acc_sizes_of f in
       record {
-        lists = omega (arith, x.first_short, x.last_short, patterns, sums);
+        lists = omega (arith, length-append first (sum_loads_code at sums), length-append (sum_stores_code at sums) last, loads_few at sums, stores_few at sums, few_sums, x.first_short, x.last_short, patterns, accumulators);
         turn_few = omega arith;
         besides_few = omega arith;
       }
 
   -- the lists around the rows touch no cell
-  pub first_free : weigh cell_weight first ≡ 0
-  first_free = own_free first x.first_own
+  pub first_free : weigh cell_weight front ≡ 0
+  first_free = own_free front front_own
 
-  pub last_free : weigh cell_weight last ≡ 0
-  last_free = own_free last x.last_own
+  pub last_free : weigh cell_weight behind ≡ 0
+  last_free = own_free behind behind_own
 
   code_runs : RunsFully f (spell_all (with_return flow))
   code_runs =
       let subject = subject_of f in
       lift subject (fully subject) (both_lift (quiet subject) (wide_promise subject) (quiet_lifts subject) (wide_lifts subject)) (spell_all (with_return flow))
-      (runs_with f known first elements last (most_turn f) (most_besides f) some short (λ s args. WideAt subject args) (λ code s args back good. own_wide f known code s args back good)
-      (λ code s args back good. parts f h single wide aligned large turns code s args back good first last (subst (λ y. Prepares y first) x.layout x.prepares) (subst (λ y. Finishes y last) x.layout x.finishes))
+      (runs_with f known front elements behind (most_turn f) (most_besides f) some short (λ s args. WideAt subject args) (λ code s args back good. own_wide f known code s args back good)
+      (λ code s args back good. subst (λ y. Parts f known code s args back good (WideAt (subject_of f) args) (first ++ sum_loads_code at (length y.acc_sizes.items)) elements (sum_stores_code at (length y.acc_sizes.items) ++ last) (regions_of (most_besides f) (lanes f) (most_turn f) args.n) ((subject_of f).turns args.n * some)) (sym x.layout)
+      (parts f h at single wide aligned large turns code s args back good first last (subst (λ y. Prepares y first) x.layout x.prepares) (subst (λ y. Finishes y last) x.layout x.finishes)))
       (fully subject)
       (λ s args way t q each counted. (q, wide_way subject s args way t each (λ R sees. subst (λ k. AtMost k R way) (bound args) (counted R sees))))
       allowed)
     where
-      bound : (args : Call) → weigh cell_weight first + rows_of (subject_of f) args * ((subject_of f).turns args.n * some) + weigh cell_weight last ≡ 0 + rows_of (subject_of f) args * ((subject_of f).turns args.n * some) + 0
+      bound : (args : Call) → weigh cell_weight front + rows_of (subject_of f) args * ((subject_of f).turns args.n * some) + weigh cell_weight behind ≡ 0 + rows_of (subject_of f) args * ((subject_of f).turns args.n * some) + 0
       bound args = ap₂ (λ a b. a + rows_of (subject_of f) args * ((subject_of f).turns args.n * some) + b) first_free last_free
 
 -- as the bytes are built from the lists around the rows and the tree that does their elements
-pub whole_runs : (f : FunctionValue) → is_function f ≡ true → (l : Layout) (first last : List Ins) → Lists f l first last → (tree : Tree) → IsElements f tree → (bytes : List ℕ) (two_d : Bool) (d s : ℕ) → two_d ≡ f.two_d → d ≡ count_of kind.Dest f.vars → s ≡ count_of kind.Source f.vars
-    → bytes ≡ spell_all (with_return (whole_flow first (Plain (flat_of tree)) last two_d d s)) → RunsFully f bytes × HasCodeLength bytes
-whole_runs f h l first last x tree (single, wide, aligned, large, turns, t) bytes two_d d s a b c e =
-    let is : bytes ≡ spell_all (with_return (flow f h l first last x single wide aligned large turns)) =
-    e ∙ ap (λ r. spell_all (with_return (whole_flow first (Plain (flat_of tree)) last r d s))) a ∙ ap₂ (λ d s. spell_all (with_return (whole_flow first (Plain (flat_of tree)) last f.two_d d s))) b c
-    ∙ ap (λ t. spell_all (with_return (whole_flow first (Plain t) last f.two_d (count_of kind.Dest f.vars) (count_of kind.Source f.vars)))) t in
-    (subst (RunsFully f) (sym is) (code_runs f h l first last x single wide aligned large turns), subst HasCodeLength (sym is) (code_length f h l first last x single wide aligned large turns))
+pub whole_runs : (f : FunctionValue) → is_function f ≡ true → (l : Layout) (first last : List Ins) → Lists f l first last → (at : List ℕ) (tree : Tree) → IsElements f at tree → (begins ends : List Ins) → begins ≡ first ++ sum_loads_code at (length l.acc_sizes.items) → ends ≡ sum_stores_code at (length l.acc_sizes.items) ++ last → (bytes : List ℕ) (two_d : Bool) (d s : ℕ) → two_d ≡ f.two_d → d ≡ count_of kind.Dest f.vars → s ≡ count_of kind.Source f.vars
+    → bytes ≡ spell_all (with_return (whole_flow begins (Plain (flat_of tree)) ends two_d d s)) → RunsFully f bytes × HasCodeLength bytes
+whole_runs f h l first last x at tree (single, wide, aligned, large, turns, t) begins ends p q bytes two_d d s a b c e =
+    let loads = first ++ sum_loads_code at (length l.acc_sizes.items) in
+    let stores = sum_stores_code at (length l.acc_sizes.items) ++ last in
+    let is : bytes ≡ spell_all (with_return (flow f h l first last x at single wide aligned large turns)) =
+    e ∙ ap₂ (λ y z. spell_all (with_return (whole_flow y (Plain (flat_of tree)) z two_d d s))) p q
+    ∙ ap (λ r. spell_all (with_return (whole_flow loads (Plain (flat_of tree)) stores r d s))) a ∙ ap₂ (λ d s. spell_all (with_return (whole_flow loads (Plain (flat_of tree)) stores f.two_d d s))) b c
+    ∙ ap (λ t. spell_all (with_return (whole_flow loads (Plain t) stores f.two_d (count_of kind.Dest f.vars) (count_of kind.Source f.vars)))) t in
+    (subst (RunsFully f) (sym is) (code_runs f h l first last x at single wide aligned large turns), subst HasCodeLength (sym is) (code_length f h l first last x at single wide aligned large turns))
 
--- in whole slices
-pub list_slices : (f : FunctionValue) (l : Layout) (first last a c : List Ins) → a ≡ first → c ≡ last → Lists f l first last → Lists f l a c
-list_slices f l first last a c p r x = subst (λ z. Lists f l z c) (sym p) (subst (λ z. Lists f l first z) (sym r) x)
+-- ---- the lists around the rows are spelled
+
+abbrev AllSpelled : List Ins → Type 0
+AllSpelled list = All (λ i. IsTrue (has_spelling i)) list
+
+allowed_spelled : (list : List Ins) → Each IsAllowed list → AllSpelled list
+allowed_spelled [] h k d l = absurd (omega (arith, l))
+allowed_spelled (i ∷ list) h zero d l = h.0.1
+allowed_spelled (i ∷ list) h (suc k) d l = allowed_spelled list h.1 k d (omega (arith, l))
+
+module _ (f : FunctionValue) (h : is_function f ≡ true) (l : Layout) (layout : l ≡ layout_of f) (at : List ℕ) where
+  abbrev sums_of : ℕ
+  sums_of = length l.acc_sizes.items
+
+  pub front_spelled : (first list : List Ins) → Each IsAllowed first → list ≡ first ++ sum_loads_code at sums_of → AllSpelled list
+  front_spelled first list fine e =
+      let loads = sum_loads_code at sums_of in
+      subst AllSpelled (sym e) (allowed_spelled (first ++ loads) (each_both IsAllowed first loads fine (all_allowed loads (fine_loads at sums_of (facts l (f, h, layout)).few_sums))))
+
+  pub behind_spelled : (last list : List Ins) → Each IsAllowed last → list ≡ sum_stores_code at sums_of ++ last → AllSpelled list
+  behind_spelled last list fine e =
+      let stores = sum_stores_code at sums_of in
+      subst AllSpelled (sym e) (allowed_spelled (stores ++ last) (each_both IsAllowed stores last (all_allowed stores (fine_stores at sums_of (facts l (f, h, layout)).few_sums)) fine))

@@ -48,13 +48,14 @@ module _ (rsp rdi : ℕ) (stack_low : rsp + (frame_size + 8) ≤ 2 ^ 47) (block_
     pub block : u.gpr 7 ≡ rdi
     pub outside : (x : ℕ) → (InRows x → ⊥) → u.memory x ≡ c.memory x
     pub mapped : (x : ℕ) → IsMapped c.memory x → IsMapped u.memory x
+    pub xmm : u.xmm ≡ c.xmm
 
   way_on : (c d u : Core) → OnWay c d → OnWay d u → OnWay c u
-  way_on c d u a b = record { stack = b.stack; block = b.block; outside = λ x out. b.outside x out ∙ a.outside x out; mapped = λ x h. b.mapped x (a.mapped x h) }
+  way_on c d u a b = record { stack = b.stack; block = b.block; outside = λ x out. b.outside x out ∙ a.outside x out; mapped = λ x h. b.mapped x (a.mapped x h); xmm = b.xmm ∙ a.xmm }
 
-  -- with other registers but RSP and RDI, and with one memory
-  way_with : (c d u : Core) → OnWay c d → u.gpr 4 ≡ d.gpr 4 → u.gpr 7 ≡ d.gpr 7 → u.memory ≡ d.memory → OnWay c u
-  way_with c d u a s b m = record { stack = s ∙ a.stack; block = b ∙ a.block; outside = λ x out. ap (λ f. f x) m ∙ a.outside x out; mapped = λ x h. subst (λ f. IsMapped f x) (sym m) (a.mapped x h) }
+  -- with other general registers but RSP and RDI, and with one memory
+  way_with : (c d u : Core) → OnWay c d → u.gpr 4 ≡ d.gpr 4 → u.gpr 7 ≡ d.gpr 7 → u.memory ≡ d.memory → u.xmm ≡ d.xmm → OnWay c u
+  way_with c d u a s b m v = record { stack = s ∙ a.stack; block = b ∙ a.block; outside = λ x out. ap (λ f. f x) m ∙ a.outside x out; mapped = λ x h. subst (λ f. IsMapped f x) (sym m) (a.mapped x h); xmm = v ∙ a.xmm }
 
   -- ---- what instructions touch
 
@@ -128,6 +129,7 @@ module _ (rsp rdi : ℕ) (stack_low : rsp + (frame_size + 8) ≤ 2 ^ 47) (block_
     holds : word d.memory (rsp + row_slot k) ≡ Some v
     outside : (x : ℕ) → (InSlot k x → ⊥) → d.memory x ≡ c.memory x
     mapped : (x : ℕ) → IsMapped c.memory x → IsMapped d.memory x
+    xmm : d.xmm ≡ c.xmm
 
   slot_way : (k v : ℕ) (c d : Core) → k < 14 → c.gpr 4 ≡ rsp → c.gpr 7 ≡ rdi → Slotted k v c d → OnWay c d
   slot_way k v c d l s b h = record {
@@ -135,6 +137,7 @@ module _ (rsp rdi : ℕ) (stack_low : rsp + (frame_size + 8) ≤ 2 ^ 47) (block_
     block = h.gpr 7 (λ e. omega (arith, e)) (λ e. omega (arith, e)) ∙ b;
     outside = λ x out. h.outside x (λ w. out (in_rows k x l w));
     mapped = h.mapped;
+    xmm = h.xmm;
   }
 
   -- and what those of several slots leave
@@ -150,7 +153,7 @@ module _ (rsp rdi : ℕ) (stack_low : rsp + (frame_size + 8) ≤ 2 ^ 47) (block_
     Writes c k = (u : Core) → OnWay c u → word u.memory (rsp + row_slot k) ≡ word c.memory (rsp + row_slot k) → (d : Core) × Line Q (code k) u d × Slotted k (new k) u d
 
     slots_line : (first n : ℕ) → first + n ≤ 12 → (c : Core) → c.gpr 4 ≡ rsp → c.gpr 7 ≡ rdi → ((k : ℕ) → first ≤ k → k < first + n → Writes c k) → (d : Core) × Line Q (slots_code code first n) c d × Went new first n c d
-    slots_line first zero few c s b one = (c, refl, record { gpr = λ r x y. refl; holds = λ k l u. absurd (omega (arith, l, u)); others = λ k l o. refl; way = record { stack = s; block = b; outside = λ x out. refl; mapped = λ x h. h } })
+    slots_line first zero few c s b one = (c, refl, record { gpr = λ r x y. refl; holds = λ k l u. absurd (omega (arith, l, u)); others = λ k l o. refl; way = record { stack = s; block = b; outside = λ x out. refl; mapped = λ x h. h; xmm = refl } })
     slots_line first (suc n) few c s b one =
         let a = slots_line first n (omega (arith, few)) c s b (λ k l u. one k l (omega (arith, u))) in
         let k = first + n in
@@ -217,6 +220,7 @@ module _ (rsp rdi : ℕ) (stack_low : rsp + (frame_size + 8) ≤ 2 ^ 47) (block_
       pub counter : d.gpr 1 ≡ n
       pub others : (r : ℕ) → r ≢ 1 → ((k : ℕ) → r ≢ pointer k) → d.gpr r ≡ c.gpr r
       pub memory : d.memory ≡ c.memory
+      pub xmm : d.xmm ≡ c.xmm
       pub tests : test Ne d.flags ≡ Some (not (d.gpr 1 == 0))
 
   -- loads of pointers
@@ -224,6 +228,7 @@ module _ (rsp rdi : ℕ) (stack_low : rsp + (frame_size + 8) ≤ 2 ^ 47) (block_
     pointers : (k : ℕ) → first ≤ k → k < first + n → d.gpr (pointer k) ≡ base k
     others : (r : ℕ) → ((k : ℕ) → first ≤ k → k < first + n → r ≢ pointer k) → d.gpr r ≡ c.gpr r
     memory : d.memory ≡ c.memory
+    xmm : d.xmm ≡ c.xmm
 
   -- ---- before the first row
 
@@ -257,8 +262,8 @@ module _ (rsp rdi : ℕ) (stack_low : rsp + (frame_size + 8) ≤ 2 ^ 47) (block_
         let loads : work (Load 0 (away 7 (base_word k))) u ≡ Ok u1 = load_word u 0 7 rdi (base_word k) v h.block (omega (arith, block_low, l)) (block_word c u h (base_word k) v (omega (arith, l)) e) in
         let s = store_slot k (omega (arith, l)) u1 h.stack small (λ x r. h.mapped x (there x r)) in (
           stored k u1,
-          (at_block c calmly (base_word k) (omega (arith, l)) _ u h refl, (u1, loads, (at_slot c calmly k (omega (arith, l)) _ u1 (way_with c u u1 h refl refl refl) refl, (stored k u1, s.works, refl)))),
-          record { gpr = λ r p q. change_other u.gpr 0 v r p; holds = s.holds; outside = s.outside; mapped = s.mapped },
+          (at_block c calmly (base_word k) (omega (arith, l)) _ u h refl, (u1, loads, (at_slot c calmly k (omega (arith, l)) _ u1 (way_with c u u1 h refl refl refl refl) refl, (stored k u1, s.works, refl)))),
+          record { gpr = λ r p q. change_other u.gpr 0 v r p; holds = s.holds; outside = s.outside; mapped = s.mapped; xmm = refl },
         )
 
     slot_small : (k : ℕ) → IsSlot dests sources k → k < 14
@@ -283,9 +288,9 @@ module _ (rsp rdi : ℕ) (stack_low : rsp + (frame_size + 8) ≤ 2 ^ 47) (block_
         let s = store_slot 13 (omega arith) u1 h.stack small (λ x r. h.mapped x (there x r)) in
         let u2 = stored 13 u1 in
         let d : Core = with_flags u2 (Some (flags_of false false (bit_and v v))) in
-        let w1 = way_with c u u1 h refl refl refl in
-        let w2 : OnWay u d = record { stack = h.stack; block = h.block; outside = λ x out. s.outside x (λ r. out (in_rows 13 x (omega arith) r)); mapped = s.mapped } in
-        let w3 : OnWay u u2 = record { stack = h.stack; block = h.block; outside = w2.outside; mapped = s.mapped } in (
+        let w1 = way_with c u u1 h refl refl refl refl in
+        let w2 : OnWay u d = record { stack = h.stack; block = h.block; outside = λ x out. s.outside x (λ r. out (in_rows 13 x (omega arith) r)); mapped = s.mapped; xmm = refl } in
+        let w3 : OnWay u u2 = record { stack = h.stack; block = h.block; outside = w2.outside; mapped = s.mapped; xmm = refl } in (
           d,
           (number_calm c calmly two_d u h, (u1, number_works two_d m u h.block (block_word c u h 8 m (omega arith) word_m), (at_slot c calmly 13 (omega arith) _ u1 w1 refl, (u2, s.works, (at_none c calmly _ u2 (way_on c u u2 h w3) refl, (d, refl, refl)))))),
           record {
@@ -314,12 +319,12 @@ module _ (rsp rdi : ℕ) (stack_low : rsp + (frame_size + 8) ≤ 2 ^ 47) (block_
     -- ---- the start of a row
 
     -- with the memory of c
-    still : (c u : Core) → c.gpr 4 ≡ rsp → c.gpr 7 ≡ rdi → u.memory ≡ c.memory → u.gpr 4 ≡ c.gpr 4 → u.gpr 7 ≡ c.gpr 7 → OnWay c u
-    still c u s b m e g = record { stack = e ∙ s; block = g ∙ b; outside = λ x out. ap (λ f. f x) m; mapped = λ x h. subst (λ f. IsMapped f x) (sym m) h }
+    still : (c u : Core) → c.gpr 4 ≡ rsp → c.gpr 7 ≡ rdi → u.memory ≡ c.memory → u.xmm ≡ c.xmm → u.gpr 4 ≡ c.gpr 4 → u.gpr 7 ≡ c.gpr 7 → OnWay c u
+    still c u s b m v e g = record { stack = e ∙ s; block = g ∙ b; outside = λ x out. ap (λ f. f x) m; mapped = λ x h. subst (λ f. IsMapped f x) (sym m) h; xmm = v }
 
     pointers_line : (base : ℕ → ℕ) (first n : ℕ) → first + n ≤ 12 → (c : Core) → c.gpr 4 ≡ rsp → c.gpr 7 ≡ rdi → Calmly c → ((k : ℕ) → first ≤ k → k < first + n → word c.memory (rsp + row_slot k) ≡ Some (base k))
         → (d : Core) × Line Q (slots_code pointer_code first n) c d × Pointed base first n c d
-    pointers_line base first zero few c s b calmly words = (c, refl, record { pointers = λ k l u. absurd (omega (arith, l, u)); others = λ r h. refl; memory = refl })
+    pointers_line base first zero few c s b calmly words = (c, refl, record { pointers = λ k l u. absurd (omega (arith, l, u)); others = λ r h. refl; memory = refl; xmm = refl })
     pointers_line base first (suc n) few c s b calmly words =
         let a = pointers_line base first n (omega (arith, few)) c s b calmly (λ k l u. words k l (omega (arith, u))) in
         let u = a.0 in
@@ -329,7 +334,7 @@ module _ (rsp rdi : ℕ) (stack_low : rsp + (frame_size + 8) ≤ 2 ^ 47) (block_
         let block : u.gpr 7 ≡ c.gpr 7 = a.2.others 7 (λ j l m e. not_7 j (sym e)) in
         let d : Core = with_gpr u (pointer k) (base k) in
         let loads : work (Load (pointer k) (away 4 (row_slot k))) u ≡ Ok d = load_word u (pointer k) 4 rsp (row_slot k) (base k) (stack ∙ s) (omega (arith, slot_low k low)) (ap (λ m. word m (rsp + row_slot k)) a.2.memory ∙ words k (omega arith) (omega arith)) in
-        let calm : Q u (Load (pointer k) (away 4 (row_slot k))) = at_slot c calmly k low _ u (still c u s b a.2.memory stack block) refl in (
+        let calm : Q u (Load (pointer k) (away 4 (row_slot k))) = at_slot c calmly k low _ u (still c u s b a.2.memory a.2.xmm stack block) refl in (
           d,
           line_append Q (slots_code pointer_code first n) (pointer_code k) c u d a.1 (calm, (d, loads, refl)),
           record {
@@ -339,6 +344,7 @@ module _ (rsp rdi : ℕ) (stack_low : rsp + (frame_size + 8) ≤ 2 ^ 47) (block_
                 (cases_eq j k);
             others = λ r h. change_other u.gpr (pointer k) (base k) r (h k (omega arith) (omega arith)) ∙ a.2.others r (λ j l m. h j l (omega (arith, m)));
             memory = a.2.memory;
+            xmm = a.2.xmm;
           },
         )
 
@@ -350,17 +356,18 @@ module _ (rsp rdi : ℕ) (stack_low : rsp + (frame_size + 8) ≤ 2 ^ 47) (block_
         let apart_a : (r : ℕ) → ((k : ℕ) → r ≢ pointer k) → a.0.gpr r ≡ c.gpr r = λ r ne. a.2.others r (λ k l u. ne k) in
         let stack_a : a.0.gpr 4 ≡ c.gpr 4 = apart_a 4 (λ k e. not_4 k (sym e)) in
         let block_a : a.0.gpr 7 ≡ c.gpr 7 = apart_a 7 (λ k e. not_7 k (sym e)) in
-        let calmly_a = calmly_on c a.0 calmly (still c a.0 s b a.2.memory stack_a block_a) in
+        let calmly_a = calmly_on c a.0 calmly (still c a.0 s b a.2.memory a.2.xmm stack_a block_a) in
         let z = pointers_line base 4 sources (omega (arith, few_sources)) a.0 (stack_a ∙ s) (block_a ∙ b) calmly_a (λ k l u. ap (λ m. word m (rsp + row_slot k)) a.2.memory ∙ words k (inr (l, u))) in
         let u = z.0 in
         let apart_z : (r : ℕ) → ((k : ℕ) → r ≢ pointer k) → u.gpr r ≡ c.gpr r = λ r ne. z.2.others r (λ k l m. ne k) ∙ apart_a r ne in
         let memory : u.memory ≡ c.memory = z.2.memory ∙ a.2.memory in
+        let xmm : u.xmm ≡ c.xmm = z.2.xmm ∙ a.2.xmm in
         let stack : u.gpr 4 ≡ c.gpr 4 = apart_z 4 (λ k e. not_4 k (sym e)) in
         let block : u.gpr 7 ≡ c.gpr 7 = apart_z 7 (λ k e. not_7 k (sym e)) in
         let u1 : Core = with_gpr u 1 n in
         let counts : work (Load 1 (away 7 elements_word)) u ≡ Ok u1 = load_word u 1 7 rdi 0 n (block ∙ b) (omega (arith, block_low)) (ap (λ m. word m (rdi + 0)) memory ∙ ap (λ t. word c.memory t) (none rdi) ∙ word_n) in
         let d : Core = with_flags u1 (Some (flags_of false false (bit_and n n))) in
-        let last : Line Q counter_code u d = (at_block c calmly 0 (omega arith) _ u (still c u s b memory stack block) refl, (u1, counts, (at_none c calmly _ u1 (still c u1 s b memory stack block) refl, (d, refl, refl)))) in (
+        let last : Line Q counter_code u d = (at_block c calmly 0 (omega arith) _ u (still c u s b memory xmm stack block) refl, (u1, counts, (at_none c calmly _ u1 (still c u1 s b memory xmm stack block) refl, (d, refl, refl)))) in (
           d,
           line_append Q (arrays_code pointer_code dests sources) counter_code c u d (line_append Q (slots_code pointer_code 0 dests) (slots_code pointer_code 4 sources) c a.0 u a.1 z.1) last,
           record {
@@ -371,6 +378,7 @@ module _ (rsp rdi : ℕ) (stack_low : rsp + (frame_size + 8) ≤ 2 ^ 47) (block_
             counter = refl;
             others = λ r p ne. change_other u.gpr 1 n r p ∙ apart_z r ne;
             memory = memory;
+            xmm = xmm;
             tests = ap (λ x. Some (not (x == 0))) (both_is n);
           },
         )
@@ -391,16 +399,16 @@ module _ (rsp rdi : ℕ) (stack_low : rsp + (frame_size + 8) ≤ 2 ^ 47) (block_
         let u1 : Core = with_gpr u 0 v in
         let u2 : Core = with_gpr u1 1 s in
         let u3 : Core = alu_core Add u2 0 s in
-        let w1 = way_with c u u1 h refl refl refl in
-        let w2 = way_with c u u2 h refl refl refl in
-        let w3 = way_with c u u3 h refl refl refl in
+        let w1 = way_with c u u1 h refl refl refl refl in
+        let w2 = way_with c u u2 h refl refl refl refl in
+        let w3 = way_with c u u3 h refl refl refl refl in
         let first : work (Load 0 (away 4 (row_slot k))) u ≡ Ok u1 = load_word u 0 4 rsp (row_slot k) v h.stack (omega (arith, slot_low k (omega (arith, l)))) (same ∙ base_is) in
         let second : work (Load 1 (away 7 (stride_word k))) u1 ≡ Ok u2 = load_word u1 1 7 rdi (stride_word k) s h.block (omega (arith, block_low, l)) (block_word c u h (stride_word k) s (omega (arith, l)) stride_is) in
         let fits : (v + s) % 2 ^ 64 < 2 ^ 64 = omega arith in
         let x = store_slot k (omega (arith, l)) u3 h.stack fits (λ x r. h.mapped x (there x r)) in (
           stored k u3,
           (at_slot c calmly k (omega (arith, l)) _ u h refl, (u1, first, (at_block c calmly (stride_word k) (omega (arith, l)) _ u1 w1 refl, (u2, second, (at_none c calmly _ u2 w2 refl, (u3, refl, (at_slot c calmly k (omega (arith, l)) _ u3 w3 refl, (stored k u3, x.works, refl)))))))),
-          record { gpr = λ r p q. change_other u2.gpr 0 ((v + s) % 2 ^ 64) r p ∙ change_other u1.gpr 1 s r q ∙ change_other u.gpr 0 v r p; holds = x.holds; outside = x.outside; mapped = x.mapped },
+          record { gpr = λ r p q. change_other u2.gpr 0 ((v + s) % 2 ^ 64) r p ∙ change_other u1.gpr 1 s r q ∙ change_other u.gpr 0 v r p; holds = x.holds; outside = x.outside; mapped = x.mapped; xmm = refl },
         )
 
     one_less_line : (base : ℕ → ℕ) (left : ℕ) (c : Core) → Calmly c → ((x : ℕ) → InRows x → IsMapped c.memory x) → suc left < 2 ^ 64
@@ -410,8 +418,8 @@ module _ (rsp rdi : ℕ) (stack_low : rsp + (frame_size + 8) ≤ 2 ^ 47) (block_
         let new = alu_result Sub (suc left) (wrap 64 (pos 1)) in
         let new_is : new ≡ left = omega (arith, small) in
         let u2 : Core = alu_core Sub u1 0 (wrap 64 (pos 1)) in
-        let w1 = way_with c u u1 h refl refl refl in
-        let w2 = way_with c u u2 h refl refl refl in
+        let w1 = way_with c u u1 h refl refl refl refl in
+        let w2 = way_with c u u2 h refl refl refl refl in
         let first : work (Load 0 (away 4 rows_slot)) u ≡ Ok u1 = load_word u 0 4 rsp rows_slot (suc left) h.stack (omega (arith, stack_low)) rows in
         let s = store_slot 13 (omega arith) u2 h.stack (omega (arith, new_is, small)) (λ x r. h.mapped x (there x r)) in
         let d = stored 13 u2 in (
@@ -424,7 +432,7 @@ module _ (rsp rdi : ℕ) (stack_low : rsp + (frame_size + 8) ≤ 2 ^ 47) (block_
               rows = s.holds ∙ ap Some new_is;
               tests = ap (λ x. Some (not (x == 0))) new_is;
             };
-            way = record { stack = h.stack; block = h.block; outside = λ x out. s.outside x (λ r. out (in_rows 13 x (omega arith) r)); mapped = s.mapped };
+            way = record { stack = h.stack; block = h.block; outside = λ x out. s.outside x (λ r. out (in_rows 13 x (omega arith) r)); mapped = s.mapped; xmm = refl };
           },
         )
 

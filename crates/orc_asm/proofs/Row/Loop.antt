@@ -24,7 +24,7 @@ use Rattle.orc_asm.specs.Rows.{rows_code, row_entry_code, row_step_code, row_flo
 use Rattle.orc_region.proofs.Block.Registers.{not_4, not_7}
 use Rattle.orc_region.proofs.Block.Keeping.{line_bounded, ins_of}
 use Rattle.orc_asm.proofs.Row.Emulated.{more_rows}
-use Rattle.orc_region.proofs.Calls.Cells.{Arrays, call, P, row_base, base_small, first_base, next_base, rows_small, dest_cell, cell_block}
+use Rattle.orc_region.proofs.Calls.Cells.{Arrays, stack_room, call, P, row_base, base_small, first_base, next_base, rows_small, dest_cell, cell_block}
 use Rattle.orc_asm.proofs.Row.Counts.{fine_rows, fine_row_entry, fine_row_step, row_entry_count, row_step_count, row_entry_free, row_step_free}
 use Rattle.orc_asm.proofs.Row.Lines.{InRows, OnWay, TouchesFew, HasRows, rows_line, row_entry_line, row_step_line}
 
@@ -64,7 +64,7 @@ module _ (f : FunctionValue) (known : Arrays f) (code : Placed) (s : Point) (arg
   slot_base = row_base f known code s args back good
 
   pub stack_low : rsp + (frame_size + 8) ≤ 2 ^ 47
-  stack_low = (let a = good.frame_room in let b = good.return_low in omega (arith, a, b))
+  stack_low = stack_room f known code s args back good
 
   in_frame : (x : ℕ) → InRows rsp rdi stack_low good.block_low x → Frame x
   in_frame x h = (omega (arith, h.0), omega (arith, h.1))
@@ -107,7 +107,7 @@ module _ (f : FunctionValue) (known : Arrays f) (code : Placed) (s : Point) (arg
       pub has : HasRows rsp rdi stack_low good.block_low dests sources (slot_base r) left c
 
     module _ (Q : Core → Ins → Type 0) (calmly : (u : Core) (i : Ins) → u.gpr 4 ≡ rsp → ((a : ℕ) → (Dests a → ⊥) → (Frame a → ⊥) → u.memory a ≡ s.core.memory a) → ((a : ℕ) → Touches i u a → Frame a ⊎ InBlock rdi a) → Q u i)
-        (kept_on : (e : State) (c d : Core) → Kept e c → ((x : ℕ) → (InRows rsp rdi stack_low good.block_low x → ⊥) → d.memory x ≡ c.memory x) → Kept e d) where
+        (kept_on : (e : State) (c d : Core) → Kept e c → ((x : ℕ) → (InRows rsp rdi stack_low good.block_low x → ⊥) → d.memory x ≡ c.memory x) → d.xmm ≡ c.xmm → Kept e d) where
       on_way : (e : State) (c u : Core) → Steady e c → OnWay rsp rdi stack_low good.block_low c u → Bounded u → Steady e u
       on_way e c u h w b = record {
         stack = w.stack;
@@ -117,7 +117,7 @@ module _ (f : FunctionValue) (known : Arrays f) (code : Placed) (s : Point) (arg
         mapped = h.mapped;
         frame = λ a t. w.mapped a (h.frame a t);
         bounded = b;
-        kept = kept_on e c u h.kept w.outside;
+        kept = kept_on e c u h.kept w.outside w.xmm;
       }
 
       calm : (e : State) (c : Core) → Steady e c → (u : Core) (i : Ins) → OnWay rsp rdi stack_low good.block_low c u → TouchesFew rsp rdi stack_low good.block_low i u → Q u i
@@ -179,6 +179,7 @@ module _ (f : FunctionValue) (known : Arrays f) (code : Placed) (s : Point) (arg
             block = a.2.others 7 (λ e. omega (arith, e)) (λ k e. not_7 k (sym e)) ∙ h.steady.block;
             outside = λ x out. ap (λ f. f x) a.2.memory;
             mapped = λ x m. subst (λ f. IsMapped f x) (sym a.2.memory) m;
+            xmm = a.2.xmm;
           } in
           let bounded = line_bounded Q (row_entry_code dests sources) c d (ins_of (row_entry_code dests sources) (fine_row_entry dests sources known.few.dests known.few.sources)) a.1 h.steady.bounded in
           (d, a.1, record { emulated = h.emulated; steady = on_way e c d h.steady still bounded; pointers = a.2.pointers; counter = a.2.counter; tests = a.2.tests }, a.2.memory)

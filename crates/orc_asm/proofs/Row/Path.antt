@@ -1,5 +1,5 @@
 -- The way of code with rows through a good call.
-use Rattle.std.proofs.Common.{◌≡◌, ℕ, ◌+◌, ◌*◌, ◌<◌, ◌≤◌, ◌==◌, ◌||◌, not, Bool, List, ◌++◌, length, Some, Ok, refl, ◌∙◌, arith, ◌⊎◌, inl, inr, ⊎_elim, length-append}
+use Rattle.std.proofs.Common.{◌≡◌, ℕ, ◌+◌, ◌*◌, ◌<◌, ◌≤◌, List, ◌++◌, length, Some, Ok, refl, ◌∙◌, arith, ◌⊎◌, inl, inr, ⊎_elim, length-append}
 use Rattle.orc_bits.specs.Memory.{word}
 use Rattle.orc_program.specs.declared.program.VarKind.TheVariants as kind
 use Rattle.orc_program.specs.Program.{FunctionValue, count_of}
@@ -10,7 +10,7 @@ use Rattle.x86_ins.specs.Way.{Placed}
 use Rattle.x86_flow.specs.Flow.{Flow}
 use Rattle.x86_flow.specs.Does.{Line, Does}
 use Rattle.x86_flow.proofs.Plans.{weigh, weigh_append}
-use Rattle.x86_flow.specs.Touching.{touch_weight, AreOwn}
+use Rattle.x86_flow.specs.Touching.{AreOwn}
 use Rattle.x86_flow.proofs.Touching.{weigh_free}
 use Rattle.orc_frame.specs.Subject.{Call as Arguments, rows}
 use Rattle.orc_frame.specs.Parts.{InBlock, InSums, InReturn, sum_word}
@@ -59,7 +59,7 @@ module _ (f : FunctionValue) (known : Arrays f) (code : Placed) (s : Point) (arg
     pub stack : d.gpr 4 ≡ s.core.gpr 4
     pub registers : (j : ℕ) → j < 6 → d.gpr (saved j) ≡ s.core.gpr (saved j)
     pub words : (g : ℕ) → g < accs → word d.memory (s.core.gpr 7 + sum_word g) ≡ Some ((end_with f t).sums g)
-    pub outside : (x : ℕ) → (Sums x → ⊥) → d.memory x ≡ c.memory x
+    pub outside : (x : ℕ) → (InFrame x → ⊥) → (Sums x → ⊥) → d.memory x ≡ c.memory x
 
   -- Tame is what else is to hold of each step's instruction
   module _ (Tame : Core → Ins → Type 0) where
@@ -74,7 +74,7 @@ module _ (f : FunctionValue) (known : Arrays f) (code : Placed) (s : Point) (arg
     pub record Parts (first : List Ins) (elements : Flow) (last : List Ins) (each some : ℕ) : Type 1 where
       -- what holds between rows of the frame, but for the words of slots
       pub Kept : State → Core → Type 0
-      pub kept_on : (e : State) (c d : Core) → Kept e c → ((x : ℕ) → (InRows lowered (s.core.gpr 7) (stack_low f known code s args back good) good.block_low x → ⊥) → d.memory x ≡ c.memory x) → Kept e d
+      pub kept_on : (e : State) (c d : Core) → Kept e c → ((x : ℕ) → (InRows lowered (s.core.gpr 7) (stack_low f known code s args back good) good.block_low x → ⊥) → d.memory x ≡ c.memory x) → d.xmm ≡ c.xmm → Kept e d
       pub begins : (d : Core) × Line Q first s.core d × Steady f known code s args back good Kept (start s.core.memory) d
       pub does : (r : ℕ) (e : State) (c : Core) → r < rows (subject_of f) args → Ready f known code s args back good Kept r e c
           → (t : State) × (done : List Ins) × (d : Core) × Does Q elements c done d × Ended f known code s args back good Kept r e t c d × (length done ≤ each) × (weigh cell_weight done ≤ some)
@@ -114,8 +114,8 @@ module _ (f : FunctionValue) (known : Arrays f) (code : Placed) (s : Point) (arg
               stack = z.2.stack;
               registers = z.2.registers;
               words = z.2.words;
-              agree = λ t nf ns. z.2.outside t ns ∙ x.4.steady.agree t nf;
-              still = record { stack = inl z.2.stack; quiet = λ t nc nf ns. z.2.outside t ns ∙ x.4.steady.quiet t nc nf };
+              agree = λ t nf ns. z.2.outside t nf ns ∙ x.4.steady.agree t nf;
+              still = record { stack = inl z.2.stack; quiet = λ t nc nf ns. z.2.outside t nf ns ∙ x.4.steady.quiet t nc nf };
               light = lists_around cell_weight first starts x.1 last (rows (subject_of f) args * some) (rows_free by_pointer refl refl f.two_d (count_of kind.Dest f.vars) (count_of kind.Source f.vars)) x.6;
               short = omega (
                 arith,

@@ -1,5 +1,5 @@
 -- Blocks of actions do so many elements at once as emulation does them one by one.
-use Rattle.std.proofs.Common.{◌≡◌, ◌≢◌, ℕ, suc, ◌+◌, ◌-◌, ◌*◌, ◌%◌, ◌^◌, ◌<◌, ◌≤◌, Bool, true, false, max, if◌then◌else◌, List, [], ◌∷◌, ◌++◌, get_or, Some, is_some, refl, sym, ap, ap₂, ◌∙◌, subst, arith, le_trans, map, inl, inr, ⊎_elim}
+use Rattle.std.proofs.Common.{◌≡◌, ◌≢◌, ℕ, suc, ◌+◌, ◌-◌, ◌*◌, ◌%◌, ◌^◌, ◌<◌, ◌≤◌, Bool, true, false, max, if◌then◌else◌, List, [], ◌∷◌, ◌++◌, get_or, Some, is_some, refl, sym, ap, ap₂, ◌∙◌, subst, arith, le_trans, map, append-nil, inl, inr, ⊎_elim}
 use Rattle.std.proofs.lemmas.Bool.{cases_eq}
 use Rattle.std.proofs.Math.Nat.{le-max_left, le-max_right, mul-le-mul_left, mul-le-mul_right, mod-eq_of_lt, mod-mod}
 use Rattle.orc_bits.specs.Numbers.{cut}
@@ -32,10 +32,12 @@ use Rattle.sse_acc.specs.Sums.{number_of as adds_number}
 use Rattle.sse_acc.proofs.Totals.{sum_below-same}
 use Rattle.orc_program.specs.Meaning.{sub_lane, pack}
 use Rattle.orc_frame.specs.Layout.{pattern_slot, sum_slot, frame_size, spill_slot}
-use Rattle.orc_program.specs.Need.{places, registers}
+use Rattle.orc_program.specs.Need.{registers}
 use Rattle.orc_frame.specs.Parts.{InChanged}
-use Rattle.orc_region.specs.Code.{Action, IsRule, Source, FromArray, FromPattern, FromPlace, FromSlot, Target, ToArray, ToSum, ToPlace, ToSlot, pointer, place_register, slot_place, made_in, first_register, second_register, rule_register, rule_code, source_far_code, sources_far_code, sum_code, result_far_code, results_far_code, action_code, action_far_code, actions_far_code}
-use Rattle.orc_region.proofs.Block.RuleRegisters.{register_0, register_1, register_one, register_place, adds_renamed}
+use Rattle.orc_region.specs.Code.{Action, IsRule, Source, FromArray, FromPattern, FromPlace, FromSlot, Target, ToArray, ToSum, ToResident, ToPlace, ToSlot, pointer, place_register, sum_register, slot_place, made_in, first_register, second_register, third_register, sum_home, rule_register, rule_code, source_far_code, sources_far_code, sum_code, result_far_code, results_far_code, action_code, action_far_code, actions_far_code}
+use Rattle.orc_region.specs.Elements.{sum_byte}
+use Rattle.orc_region.proofs.Block.RuleRegisters.{register_0, register_1, register_one, register_place, adds_renamed, resident_register, resident_0, resident_1, resident_2, resident_grown, resident_kept, seen}
+use Rattle.orc_region.proofs.Block.Sums.{IsResident, IsFramed, SameSums, byte_register, byte_slot, byte_same, SourceWithin, TargetWithin, IsClear, clear_of}
 use Rattle.orc_region.proofs.Block.Registers.{not_0}
 use Rattle.orc_region.proofs.Arithmetic.Digits.{digit, digit_small, byte_split, byte_within, byte_further}
 use Rattle.orc_region.proofs.Arithmetic.SubLanes.{lane_sub_lane, packed_bytes}
@@ -55,6 +57,7 @@ IsMovedFrom count size (FromSlot k) = Unit {0}
 abbrev pub IsMovedTo : ℕ → (ℕ → ℕ) → Target → Type 0
 IsMovedTo count size (ToArray k) = IsWidth (count * size k)
 IsMovedTo count size (ToSum g) = Unit {0}
+IsMovedTo count size (ToResident g) = Unit {0}
 IsMovedTo count size (ToPlace p) = Unit {0}
 IsMovedTo count size (ToSlot k) = Unit {0}
 
@@ -153,22 +156,22 @@ module _ (n : ℕ) (base size : ℕ → ℕ) (P : ℕ → Type 0) (numbers : Num
   StandsAt live sig c p = (q : ℕ) → q < count → (r : ℕ) → r < live p → q * live p + r < 16 → held rsp c p (q * live p + r) ≡ Some (digit ((sig q).values p) r)
 
   abbrev pub Standing : (ℕ → ℕ) → (ℕ → Local) → Core → Type 0
-  Standing live sig c = (p : ℕ) → p < places → StandsAt live sig c p
+  Standing live sig c = (p : ℕ) → p ≤ numbers.last → StandsAt live sig c p
 
   -- it does so still where those bytes stay
   still : (live : ℕ → ℕ) (sig : ℕ → Local) (c d : Core) (p : ℕ) → ((b : ℕ) → b < 16 → held rsp d p b ≡ held rsp c p b) → StandsAt live sig c p → StandsAt live sig d p
   still live sig c d p same h q l r lr lb = same (q * live p + r) lb ∙ h q l r lr lb
 
   -- where the vector register and the frame's memory stay
-  still_there : (live : ℕ → ℕ) (sig : ℕ → Local) (c d : Core) (p : ℕ) → p < places → d.xmm (place_register p) ≡ c.xmm (place_register p) → ((x : ℕ) → rsp + spill_slot 0 ≤ x → x < rsp + frame_size → d.memory x ≡ c.memory x) → StandsAt live sig c p → StandsAt live sig d p
-  still_there live sig c d p lp x same = still live sig c d p (λ b lb. held_same rsp c d p b x (same (rsp + spill_slot (p - registers) + b) (omega arith) (omega (arith, lp, lb))))
+  still_there : (live : ℕ → ℕ) (sig : ℕ → Local) (c d : Core) (p : ℕ) → p ≤ numbers.last → d.xmm (place_register p) ≡ c.xmm (place_register p) → ((x : ℕ) → rsp + spill_slot 0 ≤ x → x < rsp + frame_size → d.memory x ≡ c.memory x) → StandsAt live sig c p → StandsAt live sig d p
+  still_there live sig c d p lp x same = still live sig c d p (λ b lb. held_same rsp c d p b x (same (rsp + spill_slot (p - registers) + b) (omega arith) (omega (arith, lp, lb, ground.frame.few_places))))
 
   -- what a block leaves
   pub record After (i : ℕ) (c d : Core) (first : Memory) (live : ℕ → ℕ) (sig : ℕ → Local) (totals : ℕ → ℕ) : Type 0 where
     pub gpr : (r : ℕ) → r ≢ 0 → d.gpr r ≡ c.gpr r
     pub lanes : Lanes n base size P i count d.memory sig
     pub standing : Standing live sig d
-    pub framed : Framed numbers rsp d.memory totals
+    pub framed : Framed numbers rsp d totals
     pub others : Rest i first d.memory
     pub bounded : Bounded d
 
@@ -234,11 +237,11 @@ module _ (n : ℕ) (base size : ℕ → ℕ) (P : ℕ → Type 0) (numbers : Num
   IsThere live sig c (FromPlace p) = StandsAt live sig c p
   IsThere live sig c (FromSlot k) = StandsAt live sig c (slot_place k)
 
-  is_there : (live : ℕ → ℕ) (sig : ℕ → Local) (c : Core) (w prefix : ℕ) (s : Source) → IsFrom n base size P numbers live w prefix s → Standing live sig c → IsThere live sig c s
-  is_there live sig c w prefix (FromArray k) o stand = tt
-  is_there live sig c w prefix (FromPattern j) o stand = tt
-  is_there live sig c w prefix (FromPlace p) o stand = stand p (let l = o.0 in omega (arith, l))
-  is_there live sig c w prefix (FromSlot k) o stand = stand (slot_place k) (let l = o.0 in omega (arith, l))
+  is_there : (live : ℕ → ℕ) (sig : ℕ → Local) (c : Core) (s : Source) → SourceWithin numbers.last s → Standing live sig c → IsThere live sig c s
+  is_there live sig c (FromArray k) l stand = tt
+  is_there live sig c (FromPattern j) l stand = tt
+  is_there live sig c (FromPlace p) l stand = stand p l
+  is_there live sig c (FromSlot k) l stand = stand (slot_place k) l
 
   -- the elements of a value fit into a register
   abbrev HasRoom : ℕ → ℕ → Source → Type 0
@@ -267,7 +270,7 @@ module _ (n : ℕ) (base size : ℕ → ℕ) (P : ℕ → Type 0) (numbers : Num
   bytes_at live sig c p s e stand q lq = subst (λ s. (r : ℕ) → r < s → q * s + r < 16 → held rsp c p (q * s + r) ≡ Some (digit ((sig q).values p) r)) e (stand q lq)
 
   load_source : (i : ℕ) (s : Source) (w prefix x : ℕ) (c : Core) (live : ℕ → ℕ) (sig : ℕ → Local) (totals : ℕ → ℕ) → IsFrom n base size P numbers live w prefix s → IsMovedFrom count size s → i + count ≤ n → Points i c.gpr → c.gpr 4 ≡ rsp
-      → Lanes n base size P i count c.memory sig → Framed numbers rsp c.memory totals → IsThere live sig c s → HasRoom w prefix s → Bounded c → Stays c → (d : Core) × Line Q (source_far_code count size far x s) c d × GotFrom s w prefix x sig c d
+      → Lanes n base size P i count c.memory sig → Framed numbers rsp c totals → IsThere live sig c s → HasRoom w prefix s → Bounded c → Stays c → (d : Core) × Line Q (source_far_code count size far x s) c d × GotFrom s w prefix x sig c d
   load_source i (FromArray k) w prefix x c live sig totals o wide fits at stack h framed there room bound stays =
       let l = load_cells i k w prefix x c sig o wide fits at h stays in
       (l.0, l.1, record { memory = l.2.memory; gpr = l.2.gpr; others = l.2.others; lanes = l.2.lanes })
@@ -381,14 +384,14 @@ module _ (n : ℕ) (base size : ℕ → ℕ) (P : ℕ → Type 0) (numbers : Num
   second_room op prefix (FromPlace p) plain room = room.second plain
   second_room op prefix (FromSlot k) plain room = room.second plain
 
-  sources_line : (i : ℕ) (op : Op) (prefix : ℕ) (ss : List Source) (ts : List Target) (c : Core) (live : ℕ → ℕ) (sig : ℕ → Local) (totals : ℕ → ℕ) → AreFrom n base size P numbers live op prefix ss → Each (IsKept n base size P numbers ts) ss → first_register ts ≢ second_register ts
+  sources_line : (i : ℕ) (op : Op) (prefix : ℕ) (ss : List Source) (ts : List Target) (c : Core) (live : ℕ → ℕ) (sig : ℕ → Local) (totals : ℕ → ℕ) → AreFrom n base size P numbers live op prefix ss → Each (IsKept n base size P numbers ts) ss → first_register ts ≢ second_register ts → Each (SourceWithin numbers.last) ss → IsClear numbers.last ts
       → Fits op prefix → Room op prefix → Each (IsMovedFrom count size) ss → Each IsIns (sources_far_code count size far (first_register ts) (second_register ts) ss) → i + count ≤ n
-      → Points i c.gpr → c.gpr 4 ≡ rsp → Lanes n base size P i count c.memory sig → Framed numbers rsp c.memory totals → Standing live sig c → Bounded c → Stays c
+      → Points i c.gpr → c.gpr 4 ≡ rsp → Lanes n base size P i count c.memory sig → Framed numbers rsp c totals → Standing live sig c → Bounded c → Stays c
       → (d : Core) × Line Q (sources_far_code count size far (first_register ts) (second_register ts) ss) c d × Read op prefix ss sig (first_register ts) (second_register ts) c d
-  sources_line i op prefix [] ts c live sig totals known kept apart fits room wide ins w at stack h framed stand bound stays = absurd known
-  sources_line i op prefix (s ∷ []) ts c live sig totals known kept apart fits room wide ins w at stack h framed stand bound stays =
+  sources_line i op prefix [] ts c live sig totals known kept apart from clear fits room wide ins w at stack h framed stand bound stays = absurd known
+  sources_line i op prefix (s ∷ []) ts c live sig totals known kept apart from clear fits room wide ins w at stack h framed stand bound stays =
       let a = first_register ts in
-      let x = load_source i s (size_of_source op 0) prefix a c live sig totals known.0 wide.0 w at stack h framed (is_there live sig c (size_of_source op 0) prefix s known.0 stand) (first_room op prefix s room) bound stays in
+      let x = load_source i s (size_of_source op 0) prefix a c live sig totals known.0 wide.0 w at stack h framed (is_there live sig c s from.0 stand) (first_room op prefix s room) bound stays in
       let d = x.0 in
       let b = line_bounded Q (source_far_code count size far a s) c d ins x.1 bound in (
         d,
@@ -403,17 +406,17 @@ module _ (n : ℕ) (base size : ℕ → ℕ) (P : ℕ → Type 0) (numbers : Num
               ∙ first_value op prefix s live sig (v 0) known.0 (subst (InRegister (size_of_source op 0) prefix sig s) (sym e0) (x.2.lanes (b.xmm a))) q l p lp (fits q l p lp) 0;
         },
       )
-  sources_line i op prefix (s ∷ t ∷ more) ts c live sig totals known kept apart fits room wide ins w at stack h framed stand bound stays =
+  sources_line i op prefix (s ∷ t ∷ more) ts c live sig totals known kept apart from clear fits room wide ins w at stack h framed stand bound stays =
       let a = first_register ts in
       let e = second_register ts in
       let one = source_far_code count size far a s in
       let two = source_far_code count size far e t in
-      let x = load_source i s (size_of_source op 0) prefix a c live sig totals known.0 wide.0 w at stack h framed (is_there live sig c (size_of_source op 0) prefix s known.0 stand) (first_room op prefix s room) bound stays in
+      let x = load_source i s (size_of_source op 0) prefix a c live sig totals known.0 wide.0 w at stack h framed (is_there live sig c s from.0 stand) (first_room op prefix s room) bound stays in
       let b = x.0 in
       let at' : Points i b.gpr = λ j hj s. (ap (λ y. y + far j) (x.2.gpr (pointer j) (not_0 j)) ∙ (at j hj s).0, (at j hj s).1) in
       let h' : Lanes n base size P i count b.memory sig = λ j hj q l r lr. ap (λ f. f (base j + (i + q) * size j + r)) x.2.memory ∙ h j hj q l r lr in
-      let there : IsThere live sig b t = there_still live sig c b t ts kept.1.0 x.2.memory (λ z ne. x.2.others z ne) (is_there live sig c (size_of_source op 1) prefix t known.1 stand) in
-      let y = load_source i t (size_of_source op 1) prefix e b live sig totals known.1 wide.1.0 w at' (x.2.gpr 4 (λ e. omega (arith, e)) ∙ stack) h' (subst (λ m. Framed numbers rsp m totals) (sym x.2.memory) framed) there (second_room op prefix t known.2 room) (line_bounded Q one c b (each_front IsIns one two ins) x.1 bound) (λ u i m g. stays u i (m ∙ x.2.memory) (λ r ne. g r ne ∙ x.2.gpr r ne)) in
+      let there : IsThere live sig b t = there_still live sig c b t ts kept.1.0 x.2.memory (λ z ne. x.2.others z ne) (is_there live sig c t from.1.0 stand) in
+      let y = load_source i t (size_of_source op 1) prefix e b live sig totals known.1 wide.1.0 w at' (x.2.gpr 4 (λ e. omega (arith, e)) ∙ stack) h' (framed_same numbers rsp ground.frame c b totals (λ y l u. ap (λ f. f y) x.2.memory) (λ g l. x.2.others (sum_register g) (λ e. (clear g l).0 (sym e))) framed) there (second_room op prefix t known.2 room) (line_bounded Q one c b (each_front IsIns one two ins) x.1 bound) (λ u i m g. stays u i (m ∙ x.2.memory) (λ r ne. g r ne ∙ x.2.gpr r ne)) in
       let d = y.0 in
       let line : Line Q (one ++ two) c d = line_append Q one two c b d x.1 y.1 in
       let bd = line_bounded Q (one ++ two) c d ins line bound in
@@ -476,7 +479,7 @@ module _ (n : ℕ) (base size : ℕ → ℕ) (P : ℕ → Type 0) (numbers : Num
     gpr : (r : ℕ) → r ≢ 0 → d.gpr r ≡ c.gpr r
     lanes : Lanes n base size P i count d.memory (λ q. set_results n base size P (sig q) ts (v q))
     standing : Standing (live_targets live op prefix ts) (λ q. set_results n base size P (sig q) ts (v q)) d
-    framed : Framed numbers rsp d.memory (λ g. totals g + sum_below count (λ q. results_add ts (v q) g))
+    framed : Framed numbers rsp d (λ g. totals g + sum_below count (λ q. results_add ts (v q) g))
     others : Rest i first d.memory
 
   -- what holds while memory stands
@@ -490,8 +493,8 @@ module _ (n : ℕ) (base size : ℕ → ℕ) (P : ℕ → Type 0) (numbers : Num
   frame_same : (i : ℕ) (c d : Memory) → i + count ≤ n → Others n base size (OfDests P) i count c d → (x : ℕ) → rsp ≤ x → x < rsp + frame_size → d x ≡ c x
   frame_same i c d w o x l u = o x (λ at. ground.apart at.0 at.1.0 (i + at.2) (omega (arith, at.3, w)) at.4 at.5 (subst (λ a. rsp ≤ a) at.6 l) (subst (λ a. a < rsp + frame_size) at.6 u))
 
-  frame_kept : (i : ℕ) (c d : Memory) (totals : ℕ → ℕ) → i + count ≤ n → Others n base size (OfDests P) i count c d → Framed numbers rsp c totals → Framed numbers rsp d totals
-  frame_kept i c d totals w o = framed_same numbers rsp ground.frame c d totals (frame_same i c d w o)
+  frame_kept : (i : ℕ) (c d : Core) (totals : ℕ → ℕ) → i + count ≤ n → Others n base size (OfDests P) i count c.memory d.memory → d.xmm ≡ c.xmm → Framed numbers rsp c totals → Framed numbers rsp d totals
+  frame_kept i c d totals w o same = framed_same numbers rsp ground.frame c d totals (frame_same i c.memory d.memory w o) (λ g l. ap (λ x. x (sum_register g)) same)
 
   -- what a store of 16 bytes of the frame leaves that elements may change
   slot_stored : (i far : ℕ) (mem end : Memory) (z : ℕ → ℕ) (first : Memory) (sig : ℕ → Local) → far + 16 ≤ frame_size → ((b : ℕ) → b < 16 → InChanged rsp numbers.sums (rsp + far + b)) → i + count ≤ n → IsFill 16 mem (rsp + far) z end → Lanes n base size P i count mem sig → Rest i first mem
@@ -501,8 +504,8 @@ module _ (n : ℕ) (base size : ℕ → ℕ) (P : ℕ → Type 0) (numbers : Num
     λ x m s. f.outside x (λ j lj e. s (subst (InChanged rsp numbers.sums) (sym e) (changed j lj))) ∙ o x m s,
   )
 
-  nothing_added : (totals : ℕ → ℕ) (mem : Memory) (g : ℕ → ℕ → ℕ) → ((q h : ℕ) → g q h ≡ 0) → Framed numbers rsp mem totals → Framed numbers rsp mem (λ h. totals h + sum_below count (λ q. g q h))
-  nothing_added totals mem g none = framed_totals numbers rsp mem totals (λ h. totals h + sum_below count (λ q. g q h)) (λ h. let e = sum_below-same count (λ q. g q h) (λ q. 0) (λ q l. none q h) ∙ no_sum count in omega (arith, e))
+  nothing_added : (totals : ℕ → ℕ) (c : Core) (g : ℕ → ℕ → ℕ) → ((q h : ℕ) → g q h ≡ 0) → Framed numbers rsp c totals → Framed numbers rsp c (λ h. totals h + sum_below count (λ q. g q h))
+  nothing_added totals c g none = framed_totals numbers rsp c totals (λ h. totals h + sum_below count (λ q. g q h)) (λ h. let e = sum_below-same count (λ q. g q h) (λ q. 0) (λ q l. none q h) ∙ no_sum count in omega (arith, e))
 
   -- ---- results that are no running sums
 
@@ -539,15 +542,16 @@ module _ (n : ℕ) (base size : ℕ → ℕ) (P : ℕ → Type 0) (numbers : Num
     gpr : (r : ℕ) → r ≢ 0 → d.gpr r ≡ c.gpr r
     xmm : d.xmm ≡ c.xmm
     lanes : Lanes n base size P i count d.memory (λ q. set_target n base size P (sig q) t (pack (8 * w) prefix (g q)))
-    standing : (p : ℕ) → p < places → (Out p → ⊥) → StandsAt (live_target live t (w * prefix)) (λ q. set_target n base size P (sig q) t (pack (8 * w) prefix (g q))) d p
-    framed : Framed numbers rsp d.memory totals
+    standing : (p : ℕ) → p ≤ numbers.last → (Out p → ⊥) → StandsAt (live_target live t (w * prefix)) (λ q. set_target n base size P (sig q) t (pack (8 * w) prefix (g q))) d p
+    framed : Framed numbers rsp d totals
     others : Rest i first d.memory
 
   result_line : (i w prefix x : ℕ) (t : Target) (g : ℕ → ℕ → ℕ) (c : Core) (first : Memory) (live : ℕ → ℕ) (sig : ℕ → Local) (totals : ℕ → ℕ) (Out : ℕ → Type 0) → x < 6 → IsMade n base size P numbers (w * prefix) t → IsMovedTo count size t → i + count ≤ n
-      → Points i c.gpr → c.gpr 4 ≡ rsp → Lanes n base size P i count c.memory sig → Framed numbers rsp c.memory totals → AreBytes (c.xmm (made_in x t)) → ((q : ℕ) → q < count → (p : ℕ) → p < prefix → lane w (q * prefix + p) (c.xmm (made_in x t)) ≡ g q p)
-      → ((p : ℕ) → p < places → (Out p → ⊥) → made_in x t ≢ place_register p → StandsAt live sig c p) → Rest i first c.memory → Keeps i c.gpr first
+      → Points i c.gpr → c.gpr 4 ≡ rsp → Lanes n base size P i count c.memory sig → Framed numbers rsp c totals → AreBytes (c.xmm (made_in x t)) → ((q : ℕ) → q < count → (p : ℕ) → p < prefix → lane w (q * prefix + p) (c.xmm (made_in x t)) ≡ g q p)
+      → ((p : ℕ) → p ≤ numbers.last → (Out p → ⊥) → made_in x t ≢ place_register p → StandsAt live sig c p) → Rest i first c.memory → Keeps i c.gpr first
       → (d : Core) × Line Q (result_far_code count size far aligned x t) c d × Result i w prefix t g live sig totals first Out c d
   result_line i w prefix x (ToSum k) g c first live sig totals Out few known wide fits at stack h framed bytes lanes stand o keeps = absurd known
+  result_line i w prefix x (ToResident k) g c first live sig totals Out few known wide fits at stack h framed bytes lanes stand o keeps = absurd known
   result_line i w prefix x (ToPlace k) g c first live sig totals Out few known wide fits at stack h framed bytes lanes stand o keeps = (
     c,
     refl,
@@ -570,7 +574,7 @@ module _ (n : ℕ) (base size : ℕ → ℕ) (P : ℕ → Type 0) (numbers : Num
           xmm = s.2.xmm;
           lanes = s.2.lanes;
           standing = λ p l out. still_there live sig c s.0 p l (ap (λ f. f (place_register p)) s.2.xmm) (λ x a u. same x (omega (arith, a)) u) (stand p l out (λ e. omega (arith, e, few)));
-          framed = frame_kept i c.memory s.0.memory totals fits s.2.others framed;
+          framed = frame_kept i c s.0 totals fits s.2.others s.2.xmm framed;
           others = rest_more i first c.memory s.0.memory o s.2.others;
         },
       )
@@ -589,7 +593,7 @@ module _ (n : ℕ) (base size : ℕ → ℕ) (P : ℕ → Type 0) (numbers : Num
           xmm = s.3;
           lanes = kept.0;
           standing = λ p l out. made_at w prefix (slot_place k) g live sig d (c.xmm x) bytes lanes (λ b lb. held_slot rsp d k b ∙ f.inside b lb) p (λ ne. still live sig c d p (beside p ne) (stand p l out (λ e. omega (arith, e, few))));
-          framed = framed_spilled numbers rsp ground.frame c.memory d.memory totals k z f framed;
+          framed = framed_spilled numbers rsp ground.frame c d totals k z f (λ g l. ap (λ x. x (sum_register g)) s.3) framed;
           others = kept.1;
         },
       )
@@ -599,13 +603,14 @@ module _ (n : ℕ) (base size : ℕ → ℕ) (P : ℕ → Type 0) (numbers : Num
   no_sum_added bytes (ToPlace k) v g known = refl
   no_sum_added bytes (ToSlot k) v g known = refl
   no_sum_added bytes (ToSum k) v g known = absurd known
+  no_sum_added bytes (ToResident k) v g known = absurd known
 
   -- what a rule leaves, before its results are stored: the values at places in whose registers no result is made
   abbrev Remains : List Target → (ℕ → ℕ) → (ℕ → Local) → Core → Type 0
-  Remains ts live sig c = (p : ℕ) → p < places → first_register ts ≢ place_register p → second_register ts ≢ place_register p → StandsAt live sig c p
+  Remains ts live sig c = (p : ℕ) → p ≤ numbers.last → first_register ts ≢ place_register p → second_register ts ≢ place_register p → StandsAt live sig c p
 
   one_result_line : (i : ℕ) (op : Op) (prefix : ℕ) (g : ℕ → ℕ → ℕ × ℕ) (t : Target) (c : Core) (first : Memory) (live : ℕ → ℕ) (sig : ℕ → Local) (totals : ℕ → ℕ) → IsMade n base size P numbers (size_of_result op 0 * prefix) t → IsMovedTo count size t → i + count ≤ n
-      → Points i c.gpr → c.gpr 4 ≡ rsp → Lanes n base size P i count c.memory sig → Framed numbers rsp c.memory totals → Holds op prefix g c.xmm (made_in 0 t) 1 → Remains (t ∷ []) live sig c → Rest i first c.memory → Keeps i c.gpr first
+      → Points i c.gpr → c.gpr 4 ≡ rsp → Lanes n base size P i count c.memory sig → Framed numbers rsp c totals → Holds op prefix g c.xmm (made_in 0 t) 1 → Remains (t ∷ []) live sig c → Rest i first c.memory → Keeps i c.gpr first
       → (d : Core) × Line Q (result_far_code count size far aligned 0 t) c d × Wrote i op prefix (t ∷ []) (λ q. packed op prefix (g q)) live sig totals first c d
   one_result_line i op prefix g t c first live sig totals known wide w at stack h framed holds remains o keeps =
       let x = result_line i (size_of_result op 0) prefix 0 t (λ q p. (g q p).0) c first live sig totals (λ p. ⊥) (omega arith) known wide w at stack h framed (holds.bytes (made_in 0 t)) holds.first (λ p l out ne. remains p l ne (λ e. omega (arith, e))) o keeps in (
@@ -615,14 +620,14 @@ module _ (n : ℕ) (base size : ℕ → ℕ) (P : ℕ → Type 0) (numbers : Num
           gpr = x.2.gpr;
           lanes = x.2.lanes;
           standing = λ p l. x.2.standing p l (λ z. z);
-          framed = nothing_added totals x.0.memory (λ q h. adds_to t (packed op prefix (g q)).0 h) (λ q h. no_sum_added (size_of_result op 0 * prefix) t (packed op prefix (g q)).0 h known) x.2.framed;
+          framed = nothing_added totals x.0 (λ q h. adds_to t (packed op prefix (g q)).0 h) (λ q h. no_sum_added (size_of_result op 0 * prefix) t (packed op prefix (g q)).0 h known) x.2.framed;
           others = x.2.others;
         },
       )
 
   two_results_line : (i : ℕ) (op : Op) (prefix : ℕ) (g : ℕ → ℕ → ℕ × ℕ) (t u : Target) (more : List Target) (c : Core) (first : Memory) (live : ℕ → ℕ) (sig : ℕ → Local) (totals : ℕ → ℕ) → IsMade n base size P numbers (size_of_result op 0 * prefix) t → IsMade n base size P numbers (size_of_result op 1 * prefix) u
       → IsMovedTo count size t → IsMovedTo count size u → i + count ≤ n
-      → Points i c.gpr → c.gpr 4 ≡ rsp → Lanes n base size P i count c.memory sig → Framed numbers rsp c.memory totals → Holds op prefix g c.xmm (made_in 0 t) (made_in 1 u) → Remains (t ∷ u ∷ more) live sig c → Rest i first c.memory → Keeps i c.gpr first
+      → Points i c.gpr → c.gpr 4 ≡ rsp → Lanes n base size P i count c.memory sig → Framed numbers rsp c totals → Holds op prefix g c.xmm (made_in 0 t) (made_in 1 u) → Remains (t ∷ u ∷ more) live sig c → Rest i first c.memory → Keeps i c.gpr first
       → (d : Core) × Line Q (result_far_code count size far aligned 0 t ++ result_far_code count size far aligned 1 u) c d × Wrote i op prefix (t ∷ u ∷ more) (λ q. packed op prefix (g q)) live sig totals first c d
   two_results_line i op prefix g t u more c first live sig totals known known' wide wide' w at stack h framed holds remains o keeps =
       let one = result_far_code count size far aligned 0 t in
@@ -640,35 +645,36 @@ module _ (n : ℕ) (base size : ℕ → ℕ) (P : ℕ → Type 0) (numbers : Num
           gpr = λ r ne. y.2.gpr r ne ∙ x.2.gpr r ne;
           lanes = y.2.lanes;
           standing = λ p l. y.2.standing p l (λ z. z);
-          framed = nothing_added totals d.memory (λ q h. adds_to t (packed op prefix (g q)).0 h + adds_to u (packed op prefix (g q)).1 h) (λ q h. let a = no_sum_added (size_of_result op 0 * prefix) t (packed op prefix (g q)).0 h known in let b = no_sum_added (size_of_result op 1 * prefix) u (packed op prefix (g q)).1 h known' in omega (arith, a, b)) y.2.framed;
+          framed = nothing_added totals d (λ q h. adds_to t (packed op prefix (g q)).0 h + adds_to u (packed op prefix (g q)).1 h) (λ q h. let a = no_sum_added (size_of_result op 0 * prefix) t (packed op prefix (g q)).0 h known in let b = no_sum_added (size_of_result op 1 * prefix) u (packed op prefix (g q)).1 h known' in omega (arith, a, b)) y.2.framed;
           others = y.2.others;
         },
       )
 
   -- a rule that computes leaves its results in the registers that they go to
-  computed_line : (op : Op) (prefix : ℕ) (ss : List Source) (ts : List Target) (rule : List Ins) (c : Core) (live : ℕ → ℕ) (sig : ℕ → Local) → Meets op rule → first_register ts ≢ second_register ts → Fits op prefix
+  computed_line : (op : Op) (prefix : ℕ) (ss : List Source) (ts : List Target) (rule : List Ins) (c : Core) (live : ℕ → ℕ) (sig : ℕ → Local) → Meets op rule → first_register ts ≢ second_register ts → third_register ts ≡ 2 → IsClear numbers.last ts → Fits op prefix
       → Values op prefix ss sig (λ r. c.xmm (rule_register ts r)) → Bounded c → Stays c → Remains ts live sig c
       → Line Q (map (renamed (rule_register ts)) rule) c (with_lanes c (after (map (renamed (rule_register ts)) rule) c.xmm))
       × Holds op prefix (λ q. made op (sig q) ss) (after (map (renamed (rule_register ts)) rule) c.xmm) (first_register ts) (second_register ts)
-      × Remains ts live sig (with_lanes c (after (map (renamed (rule_register ts)) rule) c.xmm))
-  computed_line op prefix ss ts rule c live sig meets apart fits value bound stays remains =
+      × Remains ts live sig (with_lanes c (after (map (renamed (rule_register ts)) rule) c.xmm)) × SameSums numbers.last rsp c (with_lanes c (after (map (renamed (rule_register ts)) rule) c.xmm))
+  computed_line op prefix ss ts rule c live sig meets apart third clear fits value bound stays remains =
       let f : ℕ → ℕ = rule_register ts in
       let list = map (renamed f) rule in
       let x : ℕ → List ℕ = λ r. c.xmm (f r) in
       let turned : (r : ℕ) → after list c.xmm (f r) ≡ after rule x r = after_renamed f (register_one ts) rule c.xmm in
       let at_first : after list c.xmm (first_register ts) ≡ after rule x 0 = ap (after list c.xmm) (sym (register_0 ts)) ∙ turned 0 in
       let at_second : after list c.xmm (second_register ts) ≡ after rule x 1 = ap (after list c.xmm) (sym (register_1 ts apart)) ∙ turned 1 in
-      let small : (r : ℕ) → AreBytes (x r) = λ r. bound.xmm (f r) in (
+      let small : (r : ℕ) → AreBytes (x r) = λ r. bound.xmm (f r) in
+      let same : (p : ℕ) → first_register ts ≢ place_register p → second_register ts ≢ place_register p → after list c.xmm (place_register p) ≡ c.xmm (place_register p) = λ p nf ns.
+      let here : f (place_register p) ≡ place_register p = register_place ts p nf ns (λ e. omega (arith, e, third)) in
+      ap (after list c.xmm) (sym here) ∙ turned (place_register p) ∙ meets.keeps x (place_register p) (omega arith) ∙ ap c.xmm here in (
         rule_line Q list (simd_renamed f rule ∙ meets.vectors) c (λ t ins gs fs ms. stays t ins ms (λ r ne. ap (λ g. g r) gs)),
         record {
           bytes = registers_after list c.xmm bound.xmm;
           first = λ q l p lp. ap (lane (size_of_result op 0) (q * prefix + p)) at_first ∙ meets.first x small (q * prefix + p) (fits q l p lp) ∙ ap (λ (z : ℕ × ℕ). z.0) (value q l p lp);
           second = λ q l p lp. ap (lane (size_of_result op 1) (q * prefix + p)) at_second ∙ meets.second x small (q * prefix + p) (fits q l p lp) ∙ ap (λ (z : ℕ × ℕ). z.1) (value q l p lp);
         },
-        λ p l nf ns.
-            let here : f (place_register p) ≡ place_register p = register_place ts p nf ns in
-            let same : after list c.xmm (place_register p) ≡ c.xmm (place_register p) = ap (after list c.xmm) (sym here) ∙ turned (place_register p) ∙ meets.keeps x (place_register p) (omega arith) ∙ ap c.xmm here in
-            still_there live sig c (with_lanes c (after list c.xmm)) p l same (λ x a u. refl) (remains p l nf ns),
+        λ p l nf ns. still_there live sig c (with_lanes c (after list c.xmm)) p l (same p nf ns) (λ x a u. refl) (remains p l nf ns),
+        λ g l. same (registers - (g + 1)) (clear g l).0 (clear g l).1,
       )
 
   -- ---- one running sum
@@ -709,12 +715,13 @@ module _ (n : ℕ) (base size : ℕ → ℕ) (P : ℕ → Type 0) (numbers : Num
   sum_low : (g : ℕ) → g < numbers.sums → rsp + sum_slot g + 16 < 2 ^ 63
   sum_low g l = omega (arith, ground.frame.low, ground.frame.few_sums, l)
 
-  sum_line : (i : ℕ) (op : Op) (prefix : ℕ) (ss : List Source) (rule : List Ins) (g : ℕ) (c : Core) (first : Memory) (live : ℕ → ℕ) (sig : ℕ → Local) (totals : ℕ → ℕ) → g < numbers.sums → numbers.width g ≡ size_of_result op 0 → prefix ≡ 1 → AddsUp op count rule → i + count ≤ n
-      → c.gpr 4 ≡ rsp → Lanes n base size P i count c.memory sig → Framed numbers rsp c.memory totals → Standing live sig c → Values op prefix ss sig c.xmm → Bounded c → Each IsIns (load_sum g ∷ []) → Rest i first c.memory → Keeps i c.gpr first
+  sum_line : (i : ℕ) (op : Op) (prefix : ℕ) (ss : List Source) (rule : List Ins) (g : ℕ) (c : Core) (first : Memory) (live : ℕ → ℕ) (sig : ℕ → Local) (totals : ℕ → ℕ) → g < numbers.sums → IsFramed numbers.last g → numbers.width g ≡ size_of_result op 0 → prefix ≡ 1 → AddsUp op count rule → i + count ≤ n
+      → c.gpr 4 ≡ rsp → Lanes n base size P i count c.memory sig → Framed numbers rsp c totals → Standing live sig c → Values op prefix ss sig c.xmm → Bounded c → Each IsIns (load_sum g ∷ []) → Rest i first c.memory → Keeps i c.gpr first
       → (d : Core) × Line Q (load_sum g ∷ (rule ++ store_sum g ∷ [])) c d × Wrote i op prefix (ToSum g ∷ []) (λ q. packed op prefix (made op (sig q) ss)) live sig totals first c d
-  sum_line i op prefix ss rule g c first live sig totals lg width one adds w stack h framed stand value bound ins o keeps =
+  sum_line i op prefix ss rule g c first live sig totals lg slot width one adds w stack h framed stand value bound ins o keeps =
       let stays = stay i c c.gpr first (λ r ne. refl) o keeps in
-      let l = load_slot c 2 rsp (sum_slot g) (λ b. get_or (framed.running g) b 0) stack (sum_low g lg) (framed.sums g lg) in
+      let held_sum : (b : ℕ) → b < 16 → c.memory (rsp + sum_slot g + b) ≡ Some (get_or (framed.running g) b 0) = λ b lb. sym (byte_slot numbers.last rsp c g b slot) ∙ framed.sums g lg b lb in
+      let l = load_slot c 2 rsp (sum_slot g) (λ b. get_or (framed.running g) b 0) stack (sum_low g lg) held_sum in
       let b = l.0 in
       let in_c : Q c (load_sum g) = stays c (load_sum g) refl (λ r ne. refl) in
       let load : Line Q (load_sum g ∷ []) c b = (in_c, (b, l.1, refl)) in
@@ -722,22 +729,57 @@ module _ (n : ℕ) (base size : ℕ → ℕ) (P : ℕ → Type 0) (numbers : Num
       let gpr : (r : ℕ) → b.gpr r ≡ c.gpr r = λ r. ap (λ f. f r) l.2.gpr in
       let u : Core = with_lanes b (after rule b.xmm) in
       let line : Line Q rule b u = rule_line Q rule adds.vectors b (λ t ins gs fs ms. stays t ins (ms ∙ l.2.memory) (λ r ne. ap (λ f. f r) gs ∙ gpr r)) in
-      let there : (j : ℕ) → j < 16 → IsMapped u.memory (rsp + sum_slot g + j) = λ j lj. ap (λ m. is_some (m (rsp + sum_slot g + j))) l.2.memory ∙ ap is_some (framed.sums g lg j lj) in
+      let there : (j : ℕ) → j < 16 → IsMapped u.memory (rsp + sum_slot g + j) = λ j lj. ap (λ m. is_some (m (rsp + sum_slot g + j))) l.2.memory ∙ ap is_some (held_sum j lj) in
       let s = store_slot u 2 rsp (sum_slot g) (gpr 4 ∙ stack) (sum_low g lg) there in
       let d = s.0 in
       let f : IsFill 16 c.memory (rsp + sum_slot g) (λ j. get_or (after rule b.xmm 2) j 0) d.memory = subst (λ m. IsFill 16 m (rsp + sum_slot g) (λ j. get_or (after rule b.xmm 2) j 0) d.memory) l.2.memory s.4 in
       let few = ground.frame.few_sums in
       let kept = slot_stored i (sum_slot g) c.memory d.memory (λ j. get_or (after rule b.xmm 2) j 0) first sig (omega (arith, lg, few)) (λ j lj. inl (omega arith, omega (arith, lg, lj))) w f h o in
-      let grown = framed_grown numbers rsp ground.frame c.memory d.memory totals framed g (amount op prefix ss sig) lg (after rule b.xmm 2) (registers_after rule b.xmm bounded.xmm 2) f
+      let same : (p : ℕ) → d.xmm (place_register p) ≡ c.xmm (place_register p) = λ p. ap (λ f. f (place_register p)) s.3 ∙ adds.keeps b.xmm (place_register p) (omega arith) ∙ l.2.others (place_register p) (λ e. omega (arith, e)) in
+      let beside : (k : ℕ) → k < numbers.sums → k ≢ g → (j : ℕ) → j < 16 → sum_byte numbers.last rsp d k j ≡ sum_byte numbers.last rsp c k j = λ k lk ne j lj.
+      byte_same numbers.last rsp c d k j (λ r. same (registers - (k + 1))) (λ m. f.outside (rsp + sum_slot k + j) (λ q lq e. ne (omega (arith, e, lj, lq)))) in
+      let grown = framed_grown numbers rsp ground.frame c d totals framed g (amount op prefix ss sig) lg (after rule b.xmm 2) (registers_after rule b.xmm bounded.xmm 2) (λ j lj. byte_slot numbers.last rsp d g j slot ∙ f.inside j lj) beside
+      (λ y ly uy. f.outside y (λ j lj e. omega (arith, e, uy))) (λ y i. f.outside y (λ j lj e. let a = i.0 in omega (arith, e, lj, lg, few, a)))
       (grows op prefix ss sig rule g (framed.running g) c.xmm b.xmm width one adds value (l.2.others 0 (λ e. omega (arith, e))) (l.2.others 1 (λ e. omega (arith, e))) l.2.bytes bounded.xmm) in (
         d,
         (in_c, (b, l.1, line_append Q rule (store_sum g ∷ []) b u d line (stays u (store_sum g) l.2.memory (λ r ne. gpr r), (d, s.1, refl)))),
         record {
           gpr = λ r ne. ap (λ f. f r) s.2 ∙ gpr r;
           lanes = kept.0;
-          standing = λ p lp. still_there live sig c d p lp (ap (λ f. f (place_register p)) s.3 ∙ adds.keeps b.xmm (place_register p) (omega arith) ∙ l.2.others (place_register p) (λ e. omega (arith, e))) (λ x a u. f.outside x (λ j lj e. omega (arith, a, e, lj, lg, few))) (stand p lp);
-          framed = framed_totals numbers rsp d.memory _ _ (λ k. ap (λ t. totals k + t) (adds_all count g k (λ q. (packed op prefix (made op (sig q) ss)).0))) grown;
+          standing = λ p lp. still_there live sig c d p lp (same p) (λ x a u. f.outside x (λ j lj e. omega (arith, a, e, lj, lg, few))) (stand p lp);
+          framed = framed_totals numbers rsp d _ _ (λ k. ap (λ t. totals k + t) (adds_all count g k (λ q. (packed op prefix (made op (sig q) ss)).0))) grown;
           others = kept.1;
+        },
+      )
+
+  -- a running sum that stands in a register: the rule adds to it there
+  resident_line : (i : ℕ) (op : Op) (prefix : ℕ) (ss : List Source) (rule : List Ins) (g : ℕ) (c : Core) (first : Memory) (live : ℕ → ℕ) (sig : ℕ → Local) (totals : ℕ → ℕ) → g < numbers.sums → IsResident numbers.last g → numbers.width g ≡ size_of_result op 0 → prefix ≡ 1 → AddsUp op count rule
+      → Lanes n base size P i count c.memory sig → Framed numbers rsp c totals → Standing live sig c → Values op prefix ss sig c.xmm → Bounded c → Rest i first c.memory → Keeps i c.gpr first
+      → (d : Core) × Line Q (map (renamed (rule_register (ToResident g ∷ []))) rule) c d × Wrote i op prefix (ToResident g ∷ []) (λ q. packed op prefix (made op (sig q) ss)) live sig totals first c d
+  resident_line i op prefix ss rule g c first live sig totals lg register width one adds h framed stand value bound o keeps =
+      let list = map (renamed (resident_register g)) rule in
+      let new : ℕ → List ℕ = after list c.xmm in
+      let d : Core = with_lanes c new in
+      let y : ℕ → List ℕ = seen g rule c.xmm in
+      let few = ground.frame.few_sums in
+      let same : (r : ℕ) → 6 ≤ r → r ≢ sum_register g → new r ≡ c.xmm r = resident_kept g rule c.xmm adds.keeps in
+      let held_sum : (b : ℕ) → b < 16 → get_or (y 2) b 0 ≡ get_or (framed.running g) b 0 = λ b lb.
+      ap (λ r. get_or (c.xmm r) b 0) (resident_2 g) ∙ ap (or_else 0) (sym (byte_register numbers.last rsp c g b register) ∙ framed.sums g lg b lb) in
+      let small : (r : ℕ) → AreBytes (y r) = λ r. bound.xmm (resident_register g r) in
+      let more = grows op prefix ss sig rule g (framed.running g) c.xmm y width one adds value (ap c.xmm (resident_0 g)) (ap c.xmm (resident_1 g)) held_sum small in
+      let at_home : new (sum_register g) ≡ after rule y 2 = resident_grown g rule c.xmm in
+      let beside : (k : ℕ) → k < numbers.sums → k ≢ g → (j : ℕ) → j < 16 → sum_byte numbers.last rsp d k j ≡ sum_byte numbers.last rsp c k j = λ k lk ne j lj.
+      byte_same numbers.last rsp c d k j (λ r. same (sum_register k) (omega arith) (λ e. ne (omega (arith, e, lk, lg, few)))) (λ m. refl) in
+      let grown = framed_grown numbers rsp ground.frame c d totals framed g (amount op prefix ss sig) lg (after rule y 2) (registers_after rule y small 2)
+      (λ j lj. byte_register numbers.last rsp d g j register ∙ ap (λ v. Some (get_or v j 0)) at_home) beside (λ y ly uy. refl) (λ y i. refl) more in (
+        d,
+        rule_line Q list (simd_renamed (resident_register g) rule ∙ adds.vectors) c (λ t ins gs fs ms. stay i c c.gpr first (λ r ne. refl) o keeps t ins ms (λ r ne. ap (λ f. f r) gs)),
+        record {
+          gpr = λ r ne. refl;
+          lanes = h;
+          standing = λ p lp. still_there live sig c d p lp (same (place_register p) (omega arith) (λ e. omega (arith, e, lp, register))) (λ x a u. refl) (stand p lp);
+          framed = framed_totals numbers rsp d _ _ (λ k. ap (λ t. totals k + t) (adds_all count g k (λ q. (packed op prefix (made op (sig q) ss)).0))) grown;
+          others = o;
         },
       )
 
@@ -749,51 +791,66 @@ module _ (n : ℕ) (base size : ℕ → ℕ) (P : ℕ → Type 0) (numbers : Num
   in_rule : (op : Op) (prefix : ℕ) (ss : List Source) (ts : List Target) (sig : ℕ → Local) (y : ℕ → List ℕ) → first_register ts ≢ second_register ts → Known op prefix ss ts sig y → Values op prefix ss sig (λ r. y (rule_register ts r))
   in_rule op prefix ss ts sig y apart value = value (λ r. y (rule_register ts r)) (ap y (register_0 ts)) (ap y (register_1 ts apart))
 
+  -- where a result is no running sum the rule's XMM2 keeps its name
+  third_of : (bytes : ℕ) (t : Target) → IsMade n base size P numbers bytes t → sum_home t ≡ 2
+  third_of bytes (ToArray k) o = refl
+  third_of bytes (ToSum g) o = refl
+  third_of bytes (ToResident g) o = absurd o
+  third_of bytes (ToPlace p) o = refl
+  third_of bytes (ToSlot k) o = refl
+
   -- the rule, and the store of one result
-  one_finish : (i : ℕ) (op : Op) (prefix : ℕ) (ss : List Source) (rule : List Ins) (t : Target) (c : Core) (first : Memory) (live : ℕ → ℕ) (sig : ℕ → Local) (totals : ℕ → ℕ) → AreMade n base size P numbers op prefix (t ∷ []) → Meets op rule → made_in 0 t ≢ 1 → IsMovedTo count size t → Fits op prefix
-      → i + count ≤ n → Points i c.gpr → c.gpr 4 ≡ rsp → Lanes n base size P i count c.memory sig → Framed numbers rsp c.memory totals → Remains (t ∷ []) live sig c → Known op prefix ss (t ∷ []) sig c.xmm → Bounded c → Rest i first c.memory → Keeps i c.gpr first
+  one_finish : (i : ℕ) (op : Op) (prefix : ℕ) (ss : List Source) (rule : List Ins) (t : Target) (c : Core) (first : Memory) (live : ℕ → ℕ) (sig : ℕ → Local) (totals : ℕ → ℕ) → AreMade n base size P numbers op prefix (t ∷ []) → Meets op rule → made_in 0 t ≢ 1 → IsClear numbers.last (t ∷ []) → IsMovedTo count size t → Fits op prefix
+      → i + count ≤ n → Points i c.gpr → c.gpr 4 ≡ rsp → Lanes n base size P i count c.memory sig → Framed numbers rsp c totals → Remains (t ∷ []) live sig c → Known op prefix ss (t ∷ []) sig c.xmm → Bounded c → Rest i first c.memory → Keeps i c.gpr first
       → (d : Core) × Line Q (map (renamed (rule_register (t ∷ []))) rule ++ result_far_code count size far aligned 0 t) c d × Wrote i op prefix (t ∷ []) (λ q. packed op prefix (made op (sig q) ss)) live sig totals first c d
-  one_finish i op prefix ss rule t c first live sig totals known meets apart wide fits w at stack h framed remains value bound o keeps =
+  one_finish i op prefix ss rule t c first live sig totals known meets apart clear wide fits w at stack h framed remains value bound o keeps =
       let ts = t ∷ [] in
       let list = map (renamed (rule_register ts)) rule in
-      let x = computed_line op prefix ss ts rule c live sig meets apart fits (in_rule op prefix ss ts sig c.xmm apart value) bound (stay i c c.gpr first (λ r ne. refl) o keeps) remains in
+      let x = computed_line op prefix ss ts rule c live sig meets apart (third_of (size_of_result op 0 * prefix) t known.0) clear fits (in_rule op prefix ss ts sig c.xmm apart value) bound (stay i c c.gpr first (λ r ne. refl) o keeps) remains in
       let u : Core = with_lanes c (after list c.xmm) in
-      let s = one_result_line i op prefix (λ q. made op (sig q) ss) t u first live sig totals known.0 wide w at stack h framed x.1 x.2 o keeps in
+      let s = one_result_line i op prefix (λ q. made op (sig q) ss) t u first live sig totals known.0 wide w at stack h (framed_same numbers rsp ground.frame c u totals (λ y l m. refl) x.3 framed) x.1 x.2 o keeps in
       (s.0, line_append Q list (result_far_code count size far aligned 0 t) c u s.0 x.0 s.1, record { gpr = s.2.gpr; lanes = s.2.lanes; standing = s.2.standing; framed = s.2.framed; others = s.2.others })
 
   -- the same with two
-  two_finish : (i : ℕ) (op : Op) (prefix : ℕ) (ss : List Source) (rule : List Ins) (t u : Target) (more : List Target) (c : Core) (first : Memory) (live : ℕ → ℕ) (sig : ℕ → Local) (totals : ℕ → ℕ) → AreMade n base size P numbers op prefix (t ∷ u ∷ more) → Meets op rule → made_in 0 t ≢ made_in 1 u
-      → IsMovedTo count size t → IsMovedTo count size u → Fits op prefix → i + count ≤ n → Points i c.gpr → c.gpr 4 ≡ rsp → Lanes n base size P i count c.memory sig → Framed numbers rsp c.memory totals → Remains (t ∷ u ∷ more) live sig c → Known op prefix ss (t ∷ u ∷ more) sig c.xmm → Bounded c → Rest i first c.memory → Keeps i c.gpr first
+  two_finish : (i : ℕ) (op : Op) (prefix : ℕ) (ss : List Source) (rule : List Ins) (t u : Target) (more : List Target) (c : Core) (first : Memory) (live : ℕ → ℕ) (sig : ℕ → Local) (totals : ℕ → ℕ) → AreMade n base size P numbers op prefix (t ∷ u ∷ more) → Meets op rule → made_in 0 t ≢ made_in 1 u → IsClear numbers.last (t ∷ u ∷ more)
+      → IsMovedTo count size t → IsMovedTo count size u → Fits op prefix → i + count ≤ n → Points i c.gpr → c.gpr 4 ≡ rsp → Lanes n base size P i count c.memory sig → Framed numbers rsp c totals → Remains (t ∷ u ∷ more) live sig c → Known op prefix ss (t ∷ u ∷ more) sig c.xmm → Bounded c → Rest i first c.memory → Keeps i c.gpr first
       → (d : Core) × Line Q (map (renamed (rule_register (t ∷ u ∷ more))) rule ++ (result_far_code count size far aligned 0 t ++ result_far_code count size far aligned 1 u)) c d × Wrote i op prefix (t ∷ u ∷ more) (λ q. packed op prefix (made op (sig q) ss)) live sig totals first c d
-  two_finish i op prefix ss rule t u more c first live sig totals known meets apart wide wide' fits w at stack h framed remains value bound o keeps =
+  two_finish i op prefix ss rule t u more c first live sig totals known meets apart clear wide wide' fits w at stack h framed remains value bound o keeps =
       let ts = t ∷ u ∷ more in
       let list = map (renamed (rule_register ts)) rule in
       let stores = result_far_code count size far aligned 0 t ++ result_far_code count size far aligned 1 u in
-      let x = computed_line op prefix ss ts rule c live sig meets apart fits (in_rule op prefix ss ts sig c.xmm apart value) bound (stay i c c.gpr first (λ r ne. refl) o keeps) remains in
+      let x = computed_line op prefix ss ts rule c live sig meets apart (third_of (size_of_result op 0 * prefix) t known.0) clear fits (in_rule op prefix ss ts sig c.xmm apart value) bound (stay i c c.gpr first (λ r ne. refl) o keeps) remains in
       let v : Core = with_lanes c (after list c.xmm) in
-      let s = two_results_line i op prefix (λ q. made op (sig q) ss) t u more v first live sig totals known.0 known.2 wide wide' w at stack h framed x.1 x.2 o keeps in
+      let s = two_results_line i op prefix (λ q. made op (sig q) ss) t u more v first live sig totals known.0 known.2 wide wide' w at stack h (framed_same numbers rsp ground.frame c v totals (λ y l m. refl) x.3 framed) x.1 x.2 o keeps in
       (s.0, line_append Q list stores c v s.0 x.0 s.1, record { gpr = s.2.gpr; lanes = s.2.lanes; standing = s.2.standing; framed = s.2.framed; others = s.2.others })
 
-  finish_line : (i : ℕ) (op : Op) (prefix : ℕ) (ss : List Source) (rule : List Ins) (ts : List Target) (c : Core) (first : Memory) (live : ℕ → ℕ) (sig : ℕ → Local) (totals : ℕ → ℕ) → AreTo n base size P numbers op prefix ts → IsRule count op rule → first_register ts ≢ second_register ts → Each (IsMovedTo count size) ts → Fits op prefix
-      → Each IsIns (sum_code ts) → i + count ≤ n → Points i c.gpr → c.gpr 4 ≡ rsp → Lanes n base size P i count c.memory sig → Framed numbers rsp c.memory totals → Remains ts live sig c
+  finish_line : (i : ℕ) (op : Op) (prefix : ℕ) (ss : List Source) (rule : List Ins) (ts : List Target) (c : Core) (first : Memory) (live : ℕ → ℕ) (sig : ℕ → Local) (totals : ℕ → ℕ) → AreTo n base size P numbers op prefix ts → IsRule count op rule → first_register ts ≢ second_register ts → Each (TargetWithin numbers.last) ts → Each (IsMovedTo count size) ts → Fits op prefix
+      → Each IsIns (sum_code ts) → i + count ≤ n → Points i c.gpr → c.gpr 4 ≡ rsp → Lanes n base size P i count c.memory sig → Framed numbers rsp c totals → Remains ts live sig c
       → ((x : ℕ → List ℕ) → x 0 ≡ c.xmm (first_register ts) → x 1 ≡ c.xmm (second_register ts) → Values op prefix ss sig x) → Bounded c → Rest i first c.memory → Keeps i c.gpr first
       → (d : Core) × Line Q (sum_code ts ++ (map (renamed (rule_register ts)) rule ++ results_far_code count size far aligned ts)) c d × Wrote i op prefix ts (λ q. packed op prefix (made op (sig q) ss)) live sig totals first c d
-  finish_line i op prefix ss rule [] c first live sig totals known is apart wide fits ins w at stack h framed remains value bound o keeps = absurd known
-  finish_line i op prefix ss rule (ToSum g ∷ []) c first live sig totals known is apart wide fits ins w at stack h framed remains value bound o keeps =
-      sum_line i op prefix ss (map (renamed (rule_register (ToSum g ∷ []))) rule) g c first live sig totals known.0 known.2 known.3 (adds_renamed g op count rule (is.adds known.1)) w stack h framed (λ p l. remains p l (λ e. omega (arith, e)) (λ e. omega (arith, e))) (value c.xmm refl refl) bound ins o keeps
-  finish_line i op prefix ss rule (ToArray k ∷ []) c first live sig totals known is apart wide fits ins w at stack h framed remains value bound o keeps =
-      one_finish i op prefix ss rule (ToArray k) c first live sig totals known (is.meets known.1) apart wide.0 fits w at stack h framed remains value bound o keeps
-  finish_line i op prefix ss rule (ToPlace p ∷ []) c first live sig totals known is apart wide fits ins w at stack h framed remains value bound o keeps =
-      one_finish i op prefix ss rule (ToPlace p) c first live sig totals known (is.meets known.1) apart wide.0 fits w at stack h framed remains value bound o keeps
-  finish_line i op prefix ss rule (ToSlot k ∷ []) c first live sig totals known is apart wide fits ins w at stack h framed remains value bound o keeps =
-      one_finish i op prefix ss rule (ToSlot k) c first live sig totals known (is.meets known.1) apart wide.0 fits w at stack h framed remains value bound o keeps
-  finish_line i op prefix ss rule (ToSum g ∷ t ∷ more) c first live sig totals known is apart wide fits ins w at stack h framed remains value bound o keeps = absurd known.0
-  finish_line i op prefix ss rule (ToArray k ∷ u ∷ more) c first live sig totals known is apart wide fits ins w at stack h framed remains value bound o keeps =
-      two_finish i op prefix ss rule (ToArray k) u more c first live sig totals known (is.meets known.1) apart wide.0 wide.1.0 fits w at stack h framed remains value bound o keeps
-  finish_line i op prefix ss rule (ToPlace p ∷ u ∷ more) c first live sig totals known is apart wide fits ins w at stack h framed remains value bound o keeps =
-      two_finish i op prefix ss rule (ToPlace p) u more c first live sig totals known (is.meets known.1) apart wide.0 wide.1.0 fits w at stack h framed remains value bound o keeps
-  finish_line i op prefix ss rule (ToSlot k ∷ u ∷ more) c first live sig totals known is apart wide fits ins w at stack h framed remains value bound o keeps =
-      two_finish i op prefix ss rule (ToSlot k) u more c first live sig totals known (is.meets known.1) apart wide.0 wide.1.0 fits w at stack h framed remains value bound o keeps
+  finish_line i op prefix ss rule [] c first live sig totals known is apart within wide fits ins w at stack h framed remains value bound o keeps = absurd known
+  finish_line i op prefix ss rule (ToSum g ∷ []) c first live sig totals known is apart within wide fits ins w at stack h framed remains value bound o keeps =
+      sum_line i op prefix ss (map (renamed (rule_register (ToSum g ∷ []))) rule) g c first live sig totals known.0 within.0 known.2 known.3 (adds_renamed g op count rule (is.adds known.1)) w stack h framed (λ p l. remains p l (λ e. omega (arith, e)) (λ e. omega (arith, e))) (value c.xmm refl refl) bound ins o keeps
+  finish_line i op prefix ss rule (ToResident g ∷ []) c first live sig totals known is apart within wide fits ins w at stack h framed remains value bound o keeps =
+      resident_end g (resident_line i op prefix ss rule g c first live sig totals known.0 within.0 known.2 known.3 (is.adds known.1) h framed (λ p l. remains p l (λ e. omega (arith, e)) (λ e. omega (arith, e))) (value c.xmm refl refl) bound o keeps)
+    where
+      resident_end : (g : ℕ) → (d : Core) × Line Q (map (renamed (rule_register (ToResident g ∷ []))) rule) c d × Wrote i op prefix (ToResident g ∷ []) (λ q. packed op prefix (made op (sig q) ss)) live sig totals first c d
+          → (d : Core) × Line Q (map (renamed (rule_register (ToResident g ∷ []))) rule ++ []) c d × Wrote i op prefix (ToResident g ∷ []) (λ q. packed op prefix (made op (sig q) ss)) live sig totals first c d
+      resident_end g x = (x.0, subst (λ l. Line Q l c x.0) (sym (append-nil (map (renamed (rule_register (ToResident g ∷ []))) rule))) x.1, x.2)
+  finish_line i op prefix ss rule (ToArray k ∷ []) c first live sig totals known is apart within wide fits ins w at stack h framed remains value bound o keeps =
+      one_finish i op prefix ss rule (ToArray k) c first live sig totals known (is.meets known.1) apart (clear_of numbers.last (ToArray k ∷ []) within) wide.0 fits w at stack h framed remains value bound o keeps
+  finish_line i op prefix ss rule (ToPlace p ∷ []) c first live sig totals known is apart within wide fits ins w at stack h framed remains value bound o keeps =
+      one_finish i op prefix ss rule (ToPlace p) c first live sig totals known (is.meets known.1) apart (clear_of numbers.last (ToPlace p ∷ []) within) wide.0 fits w at stack h framed remains value bound o keeps
+  finish_line i op prefix ss rule (ToSlot k ∷ []) c first live sig totals known is apart within wide fits ins w at stack h framed remains value bound o keeps =
+      one_finish i op prefix ss rule (ToSlot k) c first live sig totals known (is.meets known.1) apart (clear_of numbers.last (ToSlot k ∷ []) within) wide.0 fits w at stack h framed remains value bound o keeps
+  finish_line i op prefix ss rule (ToSum g ∷ t ∷ more) c first live sig totals known is apart within wide fits ins w at stack h framed remains value bound o keeps = absurd known.0
+  finish_line i op prefix ss rule (ToResident g ∷ t ∷ more) c first live sig totals known is apart within wide fits ins w at stack h framed remains value bound o keeps = absurd known.0
+  finish_line i op prefix ss rule (ToArray k ∷ u ∷ more) c first live sig totals known is apart within wide fits ins w at stack h framed remains value bound o keeps =
+      two_finish i op prefix ss rule (ToArray k) u more c first live sig totals known (is.meets known.1) apart (clear_of numbers.last (ToArray k ∷ u ∷ more) within) wide.0 wide.1.0 fits w at stack h framed remains value bound o keeps
+  finish_line i op prefix ss rule (ToPlace p ∷ u ∷ more) c first live sig totals known is apart within wide fits ins w at stack h framed remains value bound o keeps =
+      two_finish i op prefix ss rule (ToPlace p) u more c first live sig totals known (is.meets known.1) apart (clear_of numbers.last (ToPlace p ∷ u ∷ more) within) wide.0 wide.1.0 fits w at stack h framed remains value bound o keeps
+  finish_line i op prefix ss rule (ToSlot k ∷ u ∷ more) c first live sig totals known is apart within wide fits ins w at stack h framed remains value bound o keeps =
+      two_finish i op prefix ss rule (ToSlot k) u more c first live sig totals known (is.meets known.1) apart (clear_of numbers.last (ToSlot k ∷ u ∷ more) within) wide.0 wide.1.0 fits w at stack h framed remains value bound o keeps
 
   -- what an action adds to the totals
   abbrev Grown : List Action → (ℕ → Local) → (ℕ → ℕ) → ℕ → ℕ
@@ -812,19 +869,20 @@ module _ (n : ℕ) (base size : ℕ → ℕ) (P : ℕ → Type 0) (numbers : Num
           omega (arith, m, e, h)
 
   action_line : (i : ℕ) (a : Action) (c : Core) (first : Memory) (live : ℕ → ℕ) (sig : ℕ → Local) (totals : ℕ → ℕ) → IsKnown n base size P numbers live a → IsFit count size a → Each IsIns (action_far_code count size far aligned a) → i + count ≤ n → Points i c.gpr → c.gpr 4 ≡ rsp
-      → Lanes n base size P i count c.memory sig → Framed numbers rsp c.memory totals → Standing live sig c
+      → Lanes n base size P i count c.memory sig → Framed numbers rsp c totals → Standing live sig c
       → Bounded c → Rest i first c.memory → Keeps i c.gpr first → (d : Core) × Line Q (action_far_code count size far aligned a) c d × After i c d first (live_act live a) (λ q. local_act n base size P numbers a (sig q)) (GrownBy a sig totals)
   action_line i a c first live sig totals known fit ins_a w at stack h framed stand bound o keeps =
       let loads = sources_far_code count size far (first_register a.to) (second_register a.to) a.sources in
       let rest = sum_code a.to ++ (rule_code a ++ results_far_code count size far aligned a.to) in
       let stays = stay i c c.gpr first (λ r ne. refl) o keeps in
       let fits : Fits a.op a.prefix = λ q l p lp. lane_fits (q * a.prefix + p) (count * a.prefix) (widest a.op) (byte_within q count a.prefix p l lp) fit.lanes in
-      let x = sources_line i a.op a.prefix a.sources a.to c live sig totals known.sources known.kept known.apart fits (room_of a fit.lanes) fit.sources (each_front IsIns loads rest ins_a) w at stack h framed stand bound stays in
+      let clear = clear_of numbers.last a.to known.to_within in
+      let x = sources_line i a.op a.prefix a.sources a.to c live sig totals known.sources known.kept known.apart known.from_within clear fits (room_of a fit.lanes) fit.sources (each_front IsIns loads rest ins_a) w at stack h framed stand bound stays in
       let e = x.0 in
       let g = x.2 in
-      let s = finish_line i a.op a.prefix a.sources a.rule a.to e first live sig totals known.to fit.rule known.apart fit.to fits
+      let s = finish_line i a.op a.prefix a.sources a.rule a.to e first live sig totals known.to fit.rule known.apart known.to_within fit.to fits
       (each_front IsIns (sum_code a.to) (rule_code a ++ results_far_code count size far aligned a.to) (each_back IsIns loads rest ins_a)) w (λ k hk t. (ap (λ y. y + far k) (g.gpr (pointer k) (not_0 k)) ∙ (at k hk t).0, (at k hk t).1)) (g.gpr 4 (λ z. omega (arith, z)) ∙ stack)
-      (λ k hk q l r lr. ap (λ f. f (base k + (i + q) * size k + r)) g.memory ∙ h k hk q l r lr) (subst (λ m. Framed numbers rsp m totals) (sym g.memory) framed)
+      (λ k hk q l r lr. ap (λ f. f (base k + (i + q) * size k + r)) g.memory ∙ h k hk q l r lr) (framed_same numbers rsp ground.frame c e totals (λ y l u. ap (λ f. f y) g.memory) (λ k l. g.others (sum_register k) (λ z. (clear k l).0 (sym z)) (λ z. (clear k l).1 (sym z))) framed)
       (λ p l nf ns. still_there live sig c e p l (g.others (place_register p) (λ z. nf (sym z)) (λ z. ns (sym z))) (λ x a u. ap (λ f. f x) g.memory) (stand p l)) g.value g.bounded
       (λ v out sums. ap (λ f. f v) g.memory ∙ o v out sums) (λ t ins gs m. keeps t ins (λ r ne. gs r ne ∙ g.gpr r ne) m) in
       let d = s.0 in
@@ -857,9 +915,9 @@ module _ (n : ℕ) (base size : ℕ → ℕ) (P : ℕ → Type 0) (numbers : Num
 
   -- a whole block
   pub actions_line : (i : ℕ) (actions : List Action) (c : Core) (first : Memory) (live : ℕ → ℕ) (sig : ℕ → Local) (totals : ℕ → ℕ) → AllKnown n base size P numbers live actions → Each (IsFit count size) actions → Each (λ a. Each IsIns (action_far_code count size far aligned a)) actions → i + count ≤ n → Points i c.gpr → c.gpr 4 ≡ rsp
-      → Lanes n base size P i count c.memory sig → Framed numbers rsp c.memory totals → Standing live sig c → Bounded c → Rest i first c.memory → Keeps i c.gpr first
+      → Lanes n base size P i count c.memory sig → Framed numbers rsp c totals → Standing live sig c → Bounded c → Rest i first c.memory → Keeps i c.gpr first
       → (d : Core) × Line Q (actions_far_code count size far aligned actions) c d × After i c d first (live_after live actions) (λ q. local n base size P numbers actions (sig q)) (Grown actions sig totals)
-  actions_line i [] c first live sig totals known fit ins_all w at stack h framed stand bound o keeps = (c, refl, record { gpr = λ r ne. refl; lanes = h; standing = stand; framed = framed_totals numbers rsp c.memory totals (λ g. totals g + sum_below count (λ q. 0)) (no_growth totals) framed; others = o; bounded = bound })
+  actions_line i [] c first live sig totals known fit ins_all w at stack h framed stand bound o keeps = (c, refl, record { gpr = λ r ne. refl; lanes = h; standing = stand; framed = framed_totals numbers rsp c totals (λ g. totals g + sum_below count (λ q. 0)) (no_growth totals) framed; others = o; bounded = bound })
   actions_line i (a ∷ rest) c first live sig totals known fit ins_all w at stack h framed stand bound o keeps =
       let x = action_line i a c first live sig totals known.0 fit.0 ins_all.0 w at stack h framed stand bound o keeps in
       let y = actions_line i rest x.0 first (live_act live a) (λ q. local_act n base size P numbers a (sig q)) (GrownBy a sig totals) known.1 fit.1 ins_all.1 w (λ k hk s. (ap (λ y. y + far k) (x.2.gpr (pointer k) (not_0 k)) ∙ (at k hk s).0, (at k hk s).1)) (x.2.gpr 4 (λ z. omega (arith, z)) ∙ stack) x.2.lanes x.2.framed x.2.standing x.2.bounded x.2.others
@@ -870,7 +928,7 @@ module _ (n : ℕ) (base size : ℕ → ℕ) (P : ℕ → Type 0) (numbers : Num
           gpr = λ r ne. y.2.gpr r ne ∙ x.2.gpr r ne;
           lanes = y.2.lanes;
           standing = y.2.standing;
-          framed = framed_totals numbers rsp y.0.memory _ (Grown (a ∷ rest) sig totals) (grown_on a rest sig totals) y.2.framed;
+          framed = framed_totals numbers rsp y.0 _ (Grown (a ∷ rest) sig totals) (grown_on a rest sig totals) y.2.framed;
           others = y.2.others;
           bounded = y.2.bounded;
         },

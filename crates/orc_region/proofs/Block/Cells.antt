@@ -12,8 +12,9 @@ use Rattle.sse_laws.specs.Meets.{is_shift, is_sum}
 use Rattle.x86_ins.specs.Way.{Each}
 use Rattle.orc_program.specs.Need.{registers}
 use Rattle.orc_frame.specs.Layout.{spill_slots}
-use Rattle.orc_region.specs.Code.{Action, Source, FromArray, FromPattern, FromPlace, FromSlot, Target, ToArray, ToSum, ToPlace, ToSlot, place_register, slot_place, first_register, second_register}
+use Rattle.orc_region.specs.Code.{Action, Source, FromArray, FromPattern, FromPlace, FromSlot, Target, ToArray, ToSum, ToResident, ToPlace, ToSlot, place_register, slot_place, first_register, second_register}
 use Rattle.orc_region.proofs.Arithmetic.Digits.{digit, byte_within, byte_further, byte_split, byte_apart}
+use Rattle.orc_region.proofs.Block.Sums.{SourceWithin, TargetWithin}
 
 pub eq_yes : (x y : ℕ) → x ≡ y → (x == y) ≡ true
 eq_yes x y e = grind (arith, e)
@@ -23,7 +24,7 @@ pub record Local : Type 0 where
   pub cells : ℕ → ℕ
   pub values : ℕ → ℕ
 
--- the patterns and the running sums of a function
+-- the patterns and the running sums of a function, and the last place of its values
 pub record Numbers : Type 0 where
   pub patterns : ℕ
   -- the number of a pattern, and after how many bytes it repeats
@@ -32,6 +33,7 @@ pub record Numbers : Type 0 where
   pub sums : ℕ
   -- the bytes of a sum
   pub width : ℕ → ℕ
+  pub last : ℕ
 
 -- what a source of so many bytes gives to each sub-lane
 abbrev pub given_by : (ℕ → ℕ) → ℕ → Local → Source → ℕ → ℕ
@@ -54,6 +56,7 @@ computed number op prefix l ss = lanewise op prefix (given number op l ss).0 (gi
 abbrev pub adds_to : Target → ℕ → ℕ → ℕ
 adds_to (ToArray d) v g = 0
 adds_to (ToSum h) v g = if h == g then v else 0
+adds_to (ToResident h) v g = if h == g then v else 0
 adds_to (ToPlace p) v g = 0
 adds_to (ToSlot k) v g = 0
 
@@ -68,6 +71,7 @@ results_add (t ∷ u ∷ more) v g = adds_to t v.0 g + adds_to u v.1 g
 abbrev pub live_target : (ℕ → ℕ) → Target → ℕ → ℕ → ℕ
 live_target live (ToArray k) bytes = live
 live_target live (ToSum g) bytes = live
+live_target live (ToResident g) bytes = live
 live_target live (ToPlace p) bytes = change live p bytes
 live_target live (ToSlot k) bytes = change live (slot_place k) bytes
 
@@ -100,6 +104,7 @@ module _ (n : ℕ) (base size : ℕ → ℕ) (P : ℕ → Type 0) where
   abbrev pub set_target : Local → Target → ℕ → Local
   set_target l (ToArray d) v = set_local l d v
   set_target l (ToSum g) v = l
+  set_target l (ToResident g) v = l
   set_target l (ToPlace p) v = record { cells = l.cells; values = change l.values p v }
   set_target l (ToSlot k) v = record { cells = l.cells; values = change l.values (slot_place k) v }
 
@@ -178,6 +183,7 @@ module _ (n : ℕ) (base size : ℕ → ℕ) (P : ℕ → Type 0) where
     abbrev pub IsMade : ℕ → Target → Type 0
     IsMade bytes (ToArray k) = IsTo k bytes
     IsMade bytes (ToSum g) = ⊥
+    IsMade bytes (ToResident g) = ⊥
     IsMade bytes (ToPlace p) = p < registers
     IsMade bytes (ToSlot k) = k < spill_slots
 
@@ -194,6 +200,7 @@ module _ (n : ℕ) (base size : ℕ → ℕ) (P : ℕ → Type 0) where
     -- one or two dests, places or spill slots, or one running sum
     abbrev pub AreTo : Op → ℕ → List Target → Type 0
     AreTo op prefix (ToSum g ∷ []) = IsAdded op prefix g
+    AreTo op prefix (ToResident g ∷ []) = IsAdded op prefix g
     AreTo op prefix ts = AreMade op prefix ts
 
     -- a source doesn't stand in a register where a result is made
@@ -203,12 +210,14 @@ module _ (n : ℕ) (base size : ℕ → ℕ) (P : ℕ → Type 0) where
     IsKept ts (FromPlace p) = (first_register ts ≢ place_register p) × (second_register ts ≢ place_register p)
     IsKept ts (FromSlot k) = Unit {0}
 
-    -- its operands are of the opcode's sizes, its sources stand elsewhere than its results, and its results in two registers
+    -- its operands are of the opcode's sizes, its sources stand elsewhere than its results, its results in two registers, and all of them where places end
     pub record IsKnown (live : ℕ → ℕ) (a : Action) : Type 0 where
       pub to : AreTo a.op a.prefix a.to
       pub sources : AreFrom live a.op a.prefix a.sources
       pub kept : Each (IsKept a.to) a.sources
       pub apart : first_register a.to ≢ second_register a.to
+      pub to_within : Each (TargetWithin numbers.last) a.to
+      pub from_within : Each (SourceWithin numbers.last) a.sources
 
     abbrev pub AllKnown : (ℕ → ℕ) → List Action → Type 0
     AllKnown live [] = Unit {0}

@@ -19,7 +19,7 @@ use Rattle.orc_program.specs.Slots.{slot_of}
 use Rattle.orc_program.specs.Meaning.{State, Gap, cell, sub_lane, go_on, write_result, write_results, act, element, row_of}
 use Rattle.orc_program.specs.Checks.{number_in}
 use Rattle.x86_flow.proofs.Moves.{IsFill}
-use Rattle.orc_region.specs.Code.{Action, Source, FromArray, FromPattern, FromPlace, FromSlot, Target, ToArray, ToSum, ToPlace, ToSlot, slot_place}
+use Rattle.orc_region.specs.Code.{Action, Source, FromArray, FromPattern, FromPlace, FromSlot, Target, ToArray, ToSum, ToResident, ToPlace, ToSlot, slot_place}
 use Rattle.orc_region.proofs.Arithmetic.Digits.{digit}
 use Rattle.orc_region.proofs.Block.Cells.{Numbers, Local, given_by, given, computed, adds_to, results_add, eq_yes, Lanes, Others, IsOf, Separate, Low, set_local, set_target, set_results, value_of, local_act, local, adds, store_lanes, store_others, others_more, cell_apart}
 use Rattle.orc_region.proofs.Block.Emulated.{IsCells, IsDest, IsSum, IsTemp, state, meant, Holds, IsLow, Gives, array_gives, temp_gives, number_gives, array_takes, sum_takes, temp_takes, Writes, act_one, act_two}
@@ -43,12 +43,14 @@ AreRead f patterns V op prefix os ss = ⊥
 abbrev pub Follows : (ℕ → ℕ → Type 0) → Operand → Target → (ℕ → ℕ → Type 0) → Type 0
 Follows V o (ToArray k) W = (x p : ℕ) → W x p → V x p
 Follows V o (ToSum g) W = (x p : ℕ) → W x p → V x p
+Follows V o (ToResident g) W = (x p : ℕ) → W x p → V x p
 Follows V o (ToPlace a) W = (x p : ℕ) → W x p → ((o ≡ operand.Var x) × (p ≡ a)) ⊎ (V x p × ((o ≡ operand.Var x) → ⊥) × (p ≢ a))
 Follows V o (ToSlot k) W = (x p : ℕ) → W x p → ((o ≡ operand.Var x) × (p ≡ slot_place k)) ⊎ (V x p × ((o ≡ operand.Var x) → ⊥) × (p ≢ slot_place k))
 
 abbrev pub IsWritten : FunctionValue → ℕ → ℕ → Operand → Target → Type 0
 IsWritten f w prefix o (ToArray k) = (p : ℕ) × (o ≡ operand.Var p) × IsCells f p (w * prefix) × IsDest f p × (slot_of f.vars p ≡ k)
 IsWritten f w prefix o (ToSum g) = (p : ℕ) × (o ≡ operand.Var p) × IsSum f p w × (count_before kind.Accumulator f.vars p ≡ g)
+IsWritten f w prefix o (ToResident g) = (p : ℕ) × (o ≡ operand.Var p) × IsSum f p w × (count_before kind.Accumulator f.vars p ≡ g)
 IsWritten f w prefix o (ToPlace a) = (x : ℕ) × (o ≡ operand.Var x) × IsTemp f x
 IsWritten f w prefix o (ToSlot k) = (x : ℕ) × (o ≡ operand.Var x) × IsTemp f x
 
@@ -221,6 +223,22 @@ module _ (f : FunctionValue) (call : Call) (r : ℕ) (base size : ℕ → ℕ) (
     agrees = agrees_same f sums totals (λ g. totals g + 0) (λ g. omega arith) a;
   }
 
+  -- a number is added to a running sum
+  write_sum : (e w prefix v : ℕ) (o : Operand) (g : ℕ) (V W : ℕ → ℕ → Type 0) (mem : Memory) (temps sums totals : ℕ → ℕ) (l : Local) → IsWritten f w prefix o (ToSum g) → Follows V o (ToSum g) W → e < call.n
+      → Cells e 1 mem (λ q. l) → Carries V temps l → Agrees f sums totals → Leaves e (write_result f call r e v (state mem temps sums) o) mem W (set_target call.n base size P l (ToSum g) v) (λ x. totals x + adds_to (ToSum g) v x)
+  write_sum e w prefix v o g V W mem temps sums totals l is follows le h c a =
+      let p = is.0 in
+      record {
+        end = mem;
+        temps = temps;
+        sums = change sums p ((sums p + v) % 2 ^ (8 * w));
+        is = ap (write_result f call r e v (state mem temps sums)) is.1 ∙ sum_takes f call r e p w v mem temps sums is.2;
+        lanes = h;
+        others = λ x m. refl;
+        carries = λ x p s. c x p (follows x p s);
+        agrees = subst (λ g. Agrees f (change sums p ((sums p + v) % 2 ^ (8 * w))) (λ x. totals x + adds_to (ToSum g) v x)) is.3 (agrees_more f sums totals p w v a is.2);
+      }
+
   -- one write
   write_one : (e w prefix v : ℕ) (o : Operand) (t : Target) (V W : ℕ → ℕ → Type 0) (mem : Memory) (temps sums totals : ℕ → ℕ) (l : Local) → IsWritten f w prefix o t → Follows V o t W → e < call.n
       → Cells e 1 mem (λ q. l) → Carries V temps l → Agrees f sums totals → Leaves e (write_result f call r e v (state mem temps sums) o) mem W (set_target call.n base size P l t v) (λ g. totals g + adds_to t v g)
@@ -239,18 +257,8 @@ module _ (f : FunctionValue) (call : Call) (r : ℕ) (base size : ℕ → ℕ) (
         carries = λ x p s. c x p (follows x p s);
         agrees = agrees_same f sums totals (λ g. totals g + 0) (λ g. omega arith) a;
       }
-  write_one e w prefix v o (ToSum g) V W mem temps sums totals l is follows le h c a =
-      let p = is.0 in
-      record {
-        end = mem;
-        temps = temps;
-        sums = change sums p ((sums p + v) % 2 ^ (8 * w));
-        is = ap (write_result f call r e v (state mem temps sums)) is.1 ∙ sum_takes f call r e p w v mem temps sums is.2;
-        lanes = h;
-        others = λ x m. refl;
-        carries = λ x p s. c x p (follows x p s);
-        agrees = subst (λ g. Agrees f (change sums p ((sums p + v) % 2 ^ (8 * w))) (λ x. totals x + adds_to (ToSum g) v x)) is.3 (agrees_more f sums totals p w v a is.2);
-      }
+  write_one e w prefix v o (ToSum g) V W mem temps sums totals l is follows le h c a = write_sum e w prefix v o g V W mem temps sums totals l is follows le h c a
+  write_one e w prefix v o (ToResident g) V W mem temps sums totals l is follows le h c a = write_sum e w prefix v o g V W mem temps sums totals l is follows le h c a
   write_one e w prefix v o (ToPlace p) V W mem temps sums totals l is follows le h c a = write_temp e w prefix v o p V W mem temps sums totals l is follows le h c a
   write_one e w prefix v o (ToSlot k) V W mem temps sums totals l is follows le h c a = write_temp e w prefix v o (slot_place k) V W mem temps sums totals l is follows le h c a
 

@@ -1,11 +1,11 @@
--- Patterns, running sums and spill slots in the frame.
+-- Patterns, running sums and spill slots, in the frame and, of running sums, in registers.
 use Rattle.std.proofs.Common.{◌≡◌, ◌≢◌, ℕ, zero, suc, ◌+◌, ◌-◌, ◌*◌, ◌/◌, ◌%◌, ◌^◌, ◌<◌, ◌≤◌, ◌==◌, Bool, true, false, if◌then◌else◌, List, get_or, Some, Ok, is_some, refl, sym, ap, ◌∙◌, subst, arith, ⊎_elim}
 use Rattle.std.proofs.lemmas.Bool.{cases_eq, cases_lt}
 use Rattle.std.proofs.lemmas.Nat.{mod-mul-add}
 use Rattle.std.proofs.Math.Nat.{add-mod-mod}
 use Rattle.orc_bits.specs.Numbers.{cut}
 use Rattle.orc_bits.specs.Lanes.{lane, from_bytes, AreBytes, change}
-use Rattle.orc_bits.specs.Memory.{Memory, IsMapped, read, fill}
+use Rattle.orc_bits.specs.Memory.{IsMapped, read, fill}
 use Rattle.orc_bits.proofs.LaneLaws.{lane_of_digits, lane-same, from_byte, change_other, change_same, eq_false}
 use Rattle.orc_bits.proofs.Memories.{read_lanes, all_there, store_there}
 use Rattle.x86_ins.specs.declared.ins.Ins.TheVariants.{VecLoad, VecStore}
@@ -17,9 +17,12 @@ use Rattle.sse_acc.specs.Sums.{sum_below, sum_of}
 use Rattle.sse_acc.proofs.Totals.{sum_below-zero, sum_below-suc, sum_below-same}
 use Rattle.orc_frame.specs.Layout.{pattern_slot, sum_slot, saved_slot, frame_size, spill_slot}
 use Rattle.orc_frame.specs.Parts.{InSpilled}
+use Rattle.orc_program.specs.Need.{places}
 use Rattle.orc_region.specs.Code.{ToSum}
+use Rattle.orc_region.specs.Elements.{sum_byte}
 use Rattle.orc_region.proofs.Arithmetic.Digits.{digit, byte_within}
 use Rattle.orc_region.proofs.Block.Cells.{Numbers, adds_to, eq_yes}
+use Rattle.orc_region.proofs.Block.Sums.{SameSums, byte_same}
 
 -- ---- moves of 16 bytes, so far from RSP
 
@@ -109,33 +112,38 @@ module _ (numbers : Numbers) (rsp : ℕ) where
     pub few_patterns : numbers.patterns ≤ 48
     pub few_sums : numbers.sums ≤ 4
     pub low : rsp + frame_size ≤ 2 ^ 47
+    pub few_places : numbers.last < places
 
   -- the patterns' slots hold their bytes, the lanes of each running sum add up to its total, modulo what the sum's bytes hold, and the spill slots are mapped
-  pub record Framed (mem : Memory) (totals : ℕ → ℕ) : Type 0 where
-    pub patterns : (j : ℕ) → j < numbers.patterns → (b : ℕ) → b < 16 → mem (rsp + pattern_slot j + b) ≡ Some (digit (numbers.number j) (b % numbers.period j))
+  pub record Framed (c : Core) (totals : ℕ → ℕ) : Type 0 where
+    pub patterns : (j : ℕ) → j < numbers.patterns → (b : ℕ) → b < 16 → c.memory (rsp + pattern_slot j + b) ≡ Some (digit (numbers.number j) (b % numbers.period j))
     pub running : ℕ → List ℕ
     pub bytes : (g : ℕ) → AreBytes (running g)
-    pub sums : (g : ℕ) → g < numbers.sums → (b : ℕ) → b < 16 → mem (rsp + sum_slot g + b) ≡ Some (get_or (running g) b 0)
+    pub sums : (g : ℕ) → g < numbers.sums → (b : ℕ) → b < 16 → sum_byte numbers.last rsp c g b ≡ Some (get_or (running g) b 0)
     pub totals_are : (g : ℕ) → g < numbers.sums → cut (8 * numbers.width g) (sum_of (numbers.width g) (running g)) ≡ cut (8 * numbers.width g) (totals g)
-    pub spilled : (x : ℕ) → InSpilled rsp x → IsMapped mem x
+    pub spilled : (x : ℕ) → InSpilled rsp x → IsMapped c.memory x
+
+  -- the registers of running sums are as before
+  abbrev pub Resting : Core → Core → Type 0
+  Resting = SameSums numbers.last rsp
 
   -- the patterns and sums stay where their bytes do, and the spill slots where theirs stay mapped
-  pub framed_below : IsFrame → (mem end : Memory) (totals : ℕ → ℕ) → ((x : ℕ) → rsp ≤ x → x < rsp + saved_slot 0 → end x ≡ mem x) → ((x : ℕ) → InSpilled rsp x → IsMapped mem x → IsMapped end x) → Framed mem totals → Framed end totals
-  framed_below is mem end totals same there h = record {
+  pub framed_below : IsFrame → (c d : Core) (totals : ℕ → ℕ) → ((x : ℕ) → rsp ≤ x → x < rsp + saved_slot 0 → d.memory x ≡ c.memory x) → ((x : ℕ) → InSpilled rsp x → IsMapped c.memory x → IsMapped d.memory x) → Resting c d → Framed c totals → Framed d totals
+  framed_below is c d totals same there rest h = record {
     patterns = λ j l b lb. same (rsp + pattern_slot j + b) (omega arith) (omega (arith, l, lb, is.few_patterns)) ∙ h.patterns j l b lb;
     running = h.running;
     bytes = h.bytes;
-    sums = λ g l b lb. same (rsp + sum_slot g + b) (omega arith) (omega (arith, l, lb, is.few_sums)) ∙ h.sums g l b lb;
+    sums = λ g l b lb. byte_same numbers.last rsp c d g b (rest g) (λ f. same (rsp + sum_slot g + b) (omega arith) (omega (arith, l, lb, is.few_sums))) ∙ h.sums g l b lb;
     totals_are = h.totals_are;
     spilled = λ x i. there x i (h.spilled x i);
   }
 
-  pub framed_same : IsFrame → (mem end : Memory) (totals : ℕ → ℕ) → ((x : ℕ) → rsp ≤ x → x < rsp + frame_size → end x ≡ mem x) → Framed mem totals → Framed end totals
-  framed_same is mem end totals same h =
-      framed_below is mem end totals (λ x l u. same x l (omega (arith, u))) (λ x i m. subst (λ o. is_some o ≡ true) (sym (same x (let l = i.0 in omega (arith, l)) i.1)) m) h
+  pub framed_same : IsFrame → (c d : Core) (totals : ℕ → ℕ) → ((x : ℕ) → rsp ≤ x → x < rsp + frame_size → d.memory x ≡ c.memory x) → Resting c d → Framed c totals → Framed d totals
+  framed_same is c d totals same rest h =
+      framed_below is c d totals (λ x l u. same x l (omega (arith, u))) (λ x i m. subst (λ o. is_some o ≡ true) (sym (same x (let l = i.0 in omega (arith, l)) i.1)) m) rest h
 
-  pub framed_totals : (mem : Memory) (a b : ℕ → ℕ) → ((g : ℕ) → a g ≡ b g) → Framed mem a → Framed mem b
-  framed_totals mem a b e h = record {
+  pub framed_totals : (c : Core) (a b : ℕ → ℕ) → ((g : ℕ) → a g ≡ b g) → Framed c a → Framed c b
+  framed_totals c a b e h = record {
     patterns = h.patterns;
     running = h.running;
     bytes = h.bytes;
@@ -145,24 +153,18 @@ module _ (numbers : Numbers) (rsp : ℕ) where
   }
 
   -- a spill slot was stored
-  pub framed_spilled : IsFrame → (mem end : Memory) (totals : ℕ → ℕ) (k : ℕ) (z : ℕ → ℕ) → IsFill 16 mem (rsp + spill_slot k) z end → Framed mem totals → Framed end totals
-  framed_spilled is mem end totals k z f h = record {
-    patterns = λ j l b lb. f.outside (rsp + pattern_slot j + b) (λ i li q. omega (arith, q, l, lb, is.few_patterns)) ∙ h.patterns j l b lb;
-    running = h.running;
-    bytes = h.bytes;
-    sums = λ g l b lb. f.outside (rsp + sum_slot g + b) (λ i li q. omega (arith, q, l, lb, is.few_sums)) ∙ h.sums g l b lb;
-    totals_are = h.totals_are;
-    spilled = λ x i. ⊎_elim
-        (λ l. beside x (λ j lj q. omega (arith, q, l)) i)
-        (λ g. ⊎_elim (λ l. within x g l) (λ u. beside x (λ j lj q. omega (arith, q, lj, u)) i) (cases_lt x (rsp + spill_slot k + 16)))
-        (cases_lt x (rsp + spill_slot k));
-  }
+  pub framed_spilled : IsFrame → (c d : Core) (totals : ℕ → ℕ) (k : ℕ) (z : ℕ → ℕ) → IsFill 16 c.memory (rsp + spill_slot k) z d.memory → Resting c d → Framed c totals → Framed d totals
+  framed_spilled is c d totals k z f rest h =
+      framed_below is c d totals (λ x l u. f.outside x (λ j lj q. omega (arith, q, u))) (λ x i m. ⊎_elim
+      (λ l. beside x (λ j lj q. omega (arith, q, l)) m)
+      (λ g. ⊎_elim (λ l. within x g l) (λ u. beside x (λ j lj q. omega (arith, q, lj, u)) m) (cases_lt x (rsp + spill_slot k + 16)))
+      (cases_lt x (rsp + spill_slot k))) rest h
     where
-      beside : (x : ℕ) → ((j : ℕ) → j < 16 → x ≢ rsp + spill_slot k + j) → InSpilled rsp x → IsMapped end x
-      beside x out i = ap is_some (f.outside x out) ∙ h.spilled x i
+      beside : (x : ℕ) → ((j : ℕ) → j < 16 → x ≢ rsp + spill_slot k + j) → IsMapped c.memory x → IsMapped d.memory x
+      beside x out m = ap is_some (f.outside x out) ∙ m
 
-      within : (x : ℕ) → rsp + spill_slot k ≤ x → x < rsp + spill_slot k + 16 → IsMapped end x
-      within x g l = ap is_some (ap end (let e : x ≡ rsp + spill_slot k + (x - (rsp + spill_slot k)) = omega (arith, g) in e) ∙ f.inside (x - (rsp + spill_slot k)) (omega (arith, g, l)))
+      within : (x : ℕ) → rsp + spill_slot k ≤ x → x < rsp + spill_slot k + 16 → IsMapped d.memory x
+      within x g l = ap is_some (ap d.memory (let e : x ≡ rsp + spill_slot k + (x - (rsp + spill_slot k)) = omega (arith, g) in e) ∙ f.inside (x - (rsp + spill_slot k)) (omega (arith, g, l)))
 
   added : (m s t v : ℕ) → s % m ≡ t % m → (s + v) % m ≡ (t + v) % m
   added m s t v e = sym (mod_add s v m) ∙ ap (λ x. (x + v) % m) e ∙ mod_add t v m
@@ -170,8 +172,10 @@ module _ (numbers : Numbers) (rsp : ℕ) where
       mod_add : (s v m : ℕ) → (s % m + v) % m ≡ (s + v) % m
       mod_add s v m = ap (λ x. x % m) (let z : s % m + v ≡ v + s % m = omega arith in z) ∙ add-mod-mod v s m ∙ ap (λ x. x % m) (let z : v + s ≡ s + v = omega arith in z)
 
-  -- a running sum has grown
-  module _ (is : IsFrame) (mem end : Memory) (totals : ℕ → ℕ) (h : Framed mem totals) (g v : ℕ) (l : g < numbers.sums) (x : List ℕ) (small : AreBytes x) (f : IsFill 16 mem (rsp + sum_slot g) (λ b. get_or x b 0) end)
+  -- a running sum has grown, and nothing else in the frame
+  module _ (is : IsFrame) (c d : Core) (totals : ℕ → ℕ) (h : Framed c totals) (g v : ℕ) (l : g < numbers.sums) (x : List ℕ) (small : AreBytes x)
+      (there : (b : ℕ) → b < 16 → sum_byte numbers.last rsp d g b ≡ Some (get_or x b 0)) (beside : (k : ℕ) → k < numbers.sums → k ≢ g → (b : ℕ) → b < 16 → sum_byte numbers.last rsp d k b ≡ sum_byte numbers.last rsp c k b)
+      (low : (y : ℕ) → rsp ≤ y → y < rsp + sum_slot 0 → d.memory y ≡ c.memory y) (high : (y : ℕ) → InSpilled rsp y → d.memory y ≡ c.memory y)
       (grows : cut (8 * numbers.width g) (sum_of (numbers.width g) x) ≡ cut (8 * numbers.width g) (sum_of (numbers.width g) (h.running g) + v)) where
     abbrev new : ℕ → List ℕ
     new = change h.running g x
@@ -182,10 +186,10 @@ module _ (numbers : Numbers) (rsp : ℕ) where
         (λ ne. subst AreBytes (sym (change_other h.running g x k ne)) (h.bytes k))
         (cases_eq k g)
 
-    grown_there : (k : ℕ) → k < numbers.sums → (b : ℕ) → b < 16 → end (rsp + sum_slot k + b) ≡ Some (get_or (new k) b 0)
+    grown_there : (k : ℕ) → k < numbers.sums → (b : ℕ) → b < 16 → sum_byte numbers.last rsp d k b ≡ Some (get_or (new k) b 0)
     grown_there k lk b lb = ⊎_elim
-        (λ e. ap (λ k. end (rsp + sum_slot k + b)) e ∙ f.inside b lb ∙ ap (λ y. Some (get_or y b 0)) (sym (ap new e ∙ change_same h.running g x)))
-        (λ ne. f.outside (rsp + sum_slot k + b) (λ j lj q. ne (omega (arith, q, lb, lj))) ∙ h.sums k lk b lb ∙ ap (λ y. Some (get_or y b 0)) (sym (change_other h.running g x k ne)))
+        (λ e. ap (λ k. sum_byte numbers.last rsp d k b) e ∙ there b lb ∙ ap (λ y. Some (get_or y b 0)) (sym (ap new e ∙ change_same h.running g x)))
+        (λ ne. beside k lk ne b lb ∙ h.sums k lk b lb ∙ ap (λ y. Some (get_or y b 0)) (sym (change_other h.running g x k ne)))
         (cases_eq k g)
 
     grown_total : (k : ℕ) → k < numbers.sums → cut (8 * numbers.width k) (sum_of (numbers.width k) (new k)) ≡ cut (8 * numbers.width k) (totals k + adds_to (ToSum g) v k)
@@ -199,12 +203,12 @@ module _ (numbers : Numbers) (rsp : ℕ) where
         ∙ ap (λ b. cut (8 * numbers.width k) (totals k + (if b then v else 0))) (sym (eq_false g k (λ e. ne (sym e)))))
         (cases_eq k g)
 
-    pub framed_grown : Framed end (λ k. totals k + adds_to (ToSum g) v k)
+    pub framed_grown : Framed d (λ k. totals k + adds_to (ToSum g) v k)
     framed_grown = record {
-      patterns = λ j lj b lb. f.outside (rsp + pattern_slot j + b) (λ i li q. omega (arith, q, lj, lb, is.few_patterns)) ∙ h.patterns j lj b lb;
+      patterns = λ j lj b lb. low (rsp + pattern_slot j + b) (omega arith) (omega (arith, lj, lb, is.few_patterns)) ∙ h.patterns j lj b lb;
       running = new;
       bytes = grown_bytes;
       sums = grown_there;
       totals_are = grown_total;
-      spilled = λ x i. ap is_some (f.outside x (λ j lj q. let a = i.0 in omega (arith, q, l, lj, a, is.few_sums))) ∙ h.spilled x i;
+      spilled = λ y i. ap is_some (high y i) ∙ h.spilled y i;
     }

@@ -17,7 +17,7 @@ use Rattle.orc_frame.specs.Layout.{pattern_slot, sum_slot, frame_size, spill_slo
 use Rattle.orc_ops.specs.declared.opcode.Op.{Op}
 use Rattle.orc_ops.specs.Table.{size_of_result, size_of_source}
 use Rattle.orc_region.specs.Stores.{IsMovdquStore}
-use Rattle.orc_region.specs.Code.{Action, IsRule, Source, FromArray, FromPattern, FromPlace, FromSlot, Target, ToArray, ToSum, ToPlace, ToSlot, pointer, first_register, second_register, rule_register, rule_code, source_far_code, sources_far_code, sum_code, result_far_code, results_far_code, action_far_code, actions_far_code}
+use Rattle.orc_region.specs.Code.{Action, IsRule, Source, FromArray, FromPattern, FromPlace, FromSlot, Target, ToArray, ToSum, ToResident, ToPlace, ToSlot, pointer, first_register, second_register, rule_register, rule_code, source_far_code, sources_far_code, sum_code, result_far_code, results_far_code, action_far_code, actions_far_code}
 use Rattle.orc_region.proofs.Arithmetic.Digits.{byte_split, byte_further}
 use Rattle.orc_region.proofs.Block.Cells.{Numbers, Low, IsFrom, AreFrom, IsMade, AreTo, IsKnown, AllKnown, live_act}
 use Rattle.orc_region.proofs.Sizes.Bytes.{vectors_of}
@@ -172,6 +172,7 @@ module _ (n : ℕ) (base size : ℕ → ℕ) (P : ℕ → Type 0) (numbers : Num
       to_cells i (inl h) = inl h
       to_cells i (inr h) = inr (inr (k, record { array = o.of.array; some = o.of.some; few = width_few (count * size k) wide; by = h.0; stores = λ m. (o.dest, (h.1 m).0, (h.1 m).1) }))
   result_goes bytes x (ToSum g) o wide = absurd o
+  result_goes bytes x (ToResident g) o wide = absurd o
   result_goes bytes x (ToPlace p) o wide = tt
   result_goes bytes x (ToSlot k) o wide = (inr (inl (spill_slot k, omega (arith, o), (refl, λ u. refl))), tt)
 
@@ -190,10 +191,12 @@ module _ (n : ℕ) (base size : ℕ → ℕ) (P : ℕ → Type 0) (numbers : Num
   finish_goes : (op : Op) (prefix : ℕ) (rule : List Ins) (ts : List Target) → AreTo n base size P numbers op prefix ts → Each (IsMovedTo count size) ts → Each Goes rule → Each Goes (sum_code ts ++ (rule ++ results_far_code count size far aligned ts))
   finish_goes op prefix rule [] o wide h = absurd o
   finish_goes op prefix rule (ToSum g ∷ []) o wide h = (inr (inl (sum_slot g, in_sum g o.0, (refl, λ u. refl))), each_both Goes rule (result_far_code count size far aligned 0 (ToSum g)) h (inr (inl (sum_slot g, in_sum g o.0, (refl, λ u. refl))), tt))
+  finish_goes op prefix rule (ToResident g ∷ []) o wide h = each_both Goes rule [] h tt
   finish_goes op prefix rule (ToArray k ∷ []) o wide h = each_both Goes rule (result_far_code count size far aligned 0 (ToArray k)) h (result_goes (size_of_result op 0 * prefix) 0 (ToArray k) o.0 wide.0)
   finish_goes op prefix rule (ToPlace p ∷ []) o wide h = each_both Goes rule (result_far_code count size far aligned 0 (ToPlace p)) h (result_goes (size_of_result op 0 * prefix) 0 (ToPlace p) o.0 wide.0)
   finish_goes op prefix rule (ToSlot k ∷ []) o wide h = each_both Goes rule (result_far_code count size far aligned 0 (ToSlot k)) h (result_goes (size_of_result op 0 * prefix) 0 (ToSlot k) o.0 wide.0)
   finish_goes op prefix rule (ToSum g ∷ u ∷ more) o wide h = absurd o.0
+  finish_goes op prefix rule (ToResident g ∷ u ∷ more) o wide h = absurd o.0
   finish_goes op prefix rule (ToArray k ∷ u ∷ more) o wide h = two_finish op prefix rule (ToArray k) u o.0 o.2 wide.0 wide.1.0 h
   finish_goes op prefix rule (ToPlace p ∷ u ∷ more) o wide h = two_finish op prefix rule (ToPlace p) u o.0 o.2 wide.0 wide.1.0 h
   finish_goes op prefix rule (ToSlot k ∷ u ∷ more) o wide h = two_finish op prefix rule (ToSlot k) u o.0 o.2 wide.0 wide.1.0 h

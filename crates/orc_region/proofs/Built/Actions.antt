@@ -15,7 +15,7 @@ use Rattle.sse_acc.specs.Sums.{AddsUp}
 use Rattle.orc_plan.specs.declared.steps.Item.{Item}
 use Rattle.orc_plan.specs.declared.steps.Step.{Step}
 use Rattle.orc_region.specs.declared.span.Span.{Span}
-use Rattle.orc_region.specs.Code.{Action, Target, AreActions, AreBlocks, IsBlocksTurn, used_from, AddsRule, AddsAction, AddsActions, pointer, far_by, aligned_first, source_of, target_of, first_register, second_register, exchange, rule_register, rule_code, sources_far_code, sum_code, results_far_code, action_far_code, actions_far_code, advance_code}
+use Rattle.orc_region.specs.Code.{Action, Target, AreActions, AreBlocks, IsBlocksTurn, used_from, AddsRule, AddsAction, AddsActions, pointer, far_by, aligned_first, source_of, target_of, first_register, second_register, third_register, exchange, rule_register, rule_code, sources_far_code, sum_code, results_far_code, action_far_code, actions_far_code, advance_code}
 
 -- what follows from a fact of a success
 pub on_ok : {A E : Type 0} (r : Result A E) (P Q : Type 0) → (P → Q) → OnOk r P → OnOk r Q
@@ -113,16 +113,16 @@ names_alike : (f g : ℕ → ℕ) → ((r : ℕ) → r < 16 → f r ≡ g r) →
 names_alike f g same [] h = refl
 names_alike f g same (i ∷ is) h = ap₂ (λ (x : Ins) (y : List Ins). x ∷ y) (renamed_alike f g same i h.0) (names_alike f g same is h.1)
 
-pub rule_added : (count : ℕ) (op : Op) (ts : List Target) (x y : ℕ) (map_is : List ℕ) (list old new : List Ins) → x ≡ first_register ts → y ≡ second_register ts → ((r : ℕ) → r < 16 → renaming map_is r ≡ exchange 0 x (exchange 1 y r))
+pub rule_added : (count : ℕ) (op : Op) (ts : List Target) (x y z : ℕ) (map_is : List ℕ) (list old new : List Ins) → x ≡ first_register ts → y ≡ second_register ts → z ≡ third_register ts → ((r : ℕ) → r < 16 → renaming map_is r ≡ exchange 0 x (exchange 1 y (exchange 2 z r)))
     → (is_sum (row op).kind ≡ false → Meets op list) → (is_sum (row op).kind ≡ true → AddsUp op count list) → length list ≤ (row op).class → length list ≤ 100 → Each IsIns list → new ≡ old ++ map (renamed (renaming map_is)) list → AddsRule count op ts old new
-rule_added count op ts x y map_is list old new ex ey is meets adds few short known e = (
+rule_added count op ts x y z map_is list old new ex ey ez is meets adds few short known e = (
   list,
   record { meets = meets; adds = adds; few = few; short = short; known = known },
-  e ∙ ap (λ l. old ++ l) (names_alike (renaming map_is) (rule_register ts) (λ r l. is r l ∙ ap₂ (λ a b. exchange 0 a (exchange 1 b r)) ex ey) list known),
+  e ∙ ap (λ l. old ++ l) (names_alike (renaming map_is) (rule_register ts) (λ r l. is r l ∙ ap₂ (λ a b. exchange 0 a (exchange 1 b (exchange 2 z r))) ex ey ∙ ap (λ c. exchange 0 (first_register ts) (exchange 1 (second_register ts) (exchange 2 c r))) ez) list known),
 )
 
 -- the same where the list is read as a slice
-pub rule_of_slice : (count : ℕ) (op : Op) (ts : List Target) (x y : ℕ) (map_is : List ℕ) (list slice old new : List Ins) → slice ≡ list → x ≡ first_register ts → y ≡ second_register ts → ((r : ℕ) → r < 16 → renaming map_is r ≡ exchange 0 x (exchange 1 y r))
+pub rule_of_slice : (count : ℕ) (op : Op) (ts : List Target) (x y z : ℕ) (map_is : List ℕ) (list slice old new : List Ins) → slice ≡ list → x ≡ first_register ts → y ≡ second_register ts → z ≡ third_register ts → ((r : ℕ) → r < 16 → renaming map_is r ≡ exchange 0 x (exchange 1 y (exchange 2 z r)))
     → (is_sum (row op).kind ≡ false → Meets op list) → (is_sum (row op).kind ≡ true → AddsUp op count list) → length list ≤ (row op).class → length list ≤ 100 → Each IsIns slice → new ≡ old ++ map (renamed (renaming map_is)) slice → AddsRule count op ts old new
-rule_of_slice count op ts x y map_is list slice old new same ex ey is meets adds few short known e =
-    rule_added count op ts x y map_is list old new ex ey is meets adds few short (subst (Each IsIns) same known) (e ∙ ap (λ l. old ++ map (renamed (renaming map_is)) l) same)
+rule_of_slice count op ts x y z map_is list slice old new same ex ey ez is meets adds few short known e =
+    rule_added count op ts x y z map_is list old new ex ey ez is meets adds few short (subst (Each IsIns) same known) (e ∙ ap (λ l. old ++ map (renamed (renaming map_is)) l) same)

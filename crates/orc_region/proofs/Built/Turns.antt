@@ -106,7 +106,7 @@ module _ (f : FunctionValue) (at sizes : List ℕ) (steps : List Step) (x : Lowe
     block_spelled_of aligned list t = block_spelled f x.kept at good count several aligned list t
 
     -- with aligned stores where they were asked for and elements of the first dest fill a register
-    pub does_block : (aligned stored : Bool) → stored ≡ aligned && (count * slice_index sizes 0 == 16) → (list : List Ins) → IsBlock f at count stored list → DoesElements f count aligned list
+    pub does_block : (aligned stored : Bool) → stored ≡ aligned && (count * slice_index sizes 0 == 16) → (list : List Ins) → IsBlock f at count stored list → DoesElements f at count aligned list
     does_block aligned stored e list t = does_elements f x.kept at good count several aligned stored asked given list t
       where
         asked : stored ≡ true → (0 < count_of kind.Dest f.vars) × (count * size_of_slot f.vars 0 ≡ 16) × (aligned ≡ true)
@@ -160,14 +160,14 @@ module _ (f : FunctionValue) (at sizes : List ℕ) (steps : List Step) (x : Lowe
   more_is : IsTurnOf f at (lanes f) false 1 turn
   more_is = subst (λ k. IsTurnOf f at k false 1 turn) n_is more
 
-  pub plain_elements : n * first ≢ 16 → (wide : Tree) → AreWholeTurns f at false b turn (flat_of wide) → (t : Tree) → flat_of t ≡ flat (plain_row n (Plain tail) (Plain (flat_of wide))) → IsElements f t
+  pub plain_elements : n * first ≢ 16 → (wide : Tree) → AreWholeTurns f at false b turn (flat_of wide) → (t : Tree) → flat_of t ≡ flat (plain_row n (Plain tail) (Plain (flat_of wide))) → IsElements f at t
   plain_elements test wide whole t e =
       let w = subst (λ k. AreWholeTurns f at false k turn (flat_of wide)) b_is whole in (
         tail,
         turn,
         [],
         w.0,
-        record { at = at; good = good f at sizes steps x; one = one; more = more_is; stored = λ y. absurd (true≢false (sym y ∙ empty)); many = λ l. subst (λ k. IsTurnOf f at (lanes f) k (blocks_of (length turn)) w.0) (sym empty) (w.1 l) },
+        record { good = good f at sizes steps x; one = one; more = more_is; stored = λ y. absurd (true≢false (sym y ∙ empty)); many = λ l. subst (λ k. IsTurnOf f at (lanes f) k (blocks_of (length turn)) w.0) (sym empty) (w.1 l) },
         e ∙ ap₂ (λ k w. flat (plain_row k (Plain tail) (Plain w))) n_is w.2 ∙ sym (ap (λ k. flat (elements_flow k (shift_of size_first) (lanes f) (blocks_of (length turn)) tail turn [] w.0)) empty),
       )
     where
@@ -184,14 +184,14 @@ module _ (f : FunctionValue) (at sizes : List ℕ) (steps : List Step) (x : Lowe
     wide_flat : flat_of wide ≡ loop_code Ns turn
     wide_flat = wide_is ∙ ap (loop_code Ns) turns_are
 
-    pub aligned_elements : (head : List Ins) (shift : ℕ) → head ≡ tail → shift ≡ shift_of first → (t : Tree) → flat_of t ≡ flat (aligned_row shift n (Plain head) (Plain (flat_of wide)) (Plain (flat_of aligned))) → IsElements f t
+    pub aligned_elements : (head : List Ins) (shift : ℕ) → head ≡ tail → shift ≡ shift_of first → (t : Tree) → flat_of t ≡ flat (aligned_row shift n (Plain head) (Plain (flat_of wide)) (Plain (flat_of aligned))) → IsElements f at t
     aligned_elements head shift same s t e =
         let w = subst (λ k. AreWholeTurns f at true k list (flat_of aligned)) b_is whole in (
           tail,
           turn,
           list,
           w.0,
-          record { at = at; good = good f at sizes steps x; one = one; more = more_is; stored = λ y. subst (λ k. IsTurnOf f at k true 1 list) n_is stored; many = λ l. subst (λ k. IsTurnOf f at (lanes f) k (blocks_of (length turn)) w.0) (sym yes_filled) (w.1 l) },
+          record { good = good f at sizes steps x; one = one; more = more_is; stored = λ y. subst (λ k. IsTurnOf f at k true 1 list) n_is stored; many = λ l. subst (λ k. IsTurnOf f at (lanes f) k (blocks_of (length turn)) w.0) (sym yes_filled) (w.1 l) },
           e
               ∙ ap₂ (λ k h. flat (aligned_row k n (Plain h) (Plain (flat_of wide)) (Plain (flat_of aligned)))) (s ∙ ap shift_of (first_size some_dest)) same
               ∙ ap₂ (λ k w. flat (aligned_row (shift_of size_first) k (Plain tail) (Plain w) (Plain (flat_of aligned)))) n_is wide_flat
@@ -221,8 +221,8 @@ fits_turns lanes b most few large turn h g = go (nat_lt 1 b) refl
     go true e = (let near = blocks_near lanes b most few in let x = fits_larges lanes (b * lanes) 475343 118943 near (omega arith) (omega arith) large turn (g (ltb-true 1 b e)) h in record { allowed = x.allowed; bytes = (let b = x.bytes in omega (arith, b)) })
 
 -- they are allowed, and are few
-pub fits_elements : (f : FunctionValue) → is_function f ≡ true → (single wide aligned large : List Ins) → Turns f single wide aligned large → Fits 960000 (flat (elements_of f single wide aligned large))
-fits_elements f h single wide aligned large t = go (fills f) refl
+pub fits_elements : (f : FunctionValue) → is_function f ≡ true → (at : List ℕ) (single wide aligned large : List Ins) → Turns f at single wide aligned large → Fits 960000 (flat (elements_of f single wide aligned large))
+fits_elements f h at single wide aligned large t = go (fills f) refl
   where
     count : IsCount f (lanes f)
     count = lanes_count f h
@@ -230,11 +230,11 @@ fits_elements f h single wide aligned large t = go (fills f) refl
     most : lanes f ≤ 64
     most = lanes_few f h (lanes f) refl
 
-    fits_turn : (count : ℕ) → IsCount f count → (aligned : Bool) (b n : ℕ) → b ≤ 4 → 143 + b * 118800 ≤ n → (list : List Ins) → IsTurnOf f t.at count aligned b list → Fits n list
+    fits_turn : (count : ℕ) → IsCount f count → (aligned : Bool) (b n : ℕ) → b ≤ 4 → 143 + b * 118800 ≤ n → (list : List Ins) → IsTurnOf f at count aligned b list → Fits n list
     fits_turn count is_count aligned b n few room list x =
         let near = blocks_near count b is_count.most few in
-        let bytes = turn_size f h t.at t.good count is_count aligned b near list x in
-        record { allowed = all_allowed list (turn_fine f h t.at t.good count is_count aligned b near list x); bytes = omega (arith, bytes, room) }
+        let bytes = turn_size f h at t.good count is_count aligned b near list x in
+        record { allowed = all_allowed list (turn_fine f h at t.good count is_count aligned b near list x); bytes = omega (arith, bytes, room) }
 
     fits_one : Fits 118943 single
     fits_one = fits_turn 1 (one_count f h) false 1 118943 (omega arith) (omega arith) single t.one
@@ -258,5 +258,5 @@ fits_elements f h single wide aligned large t = go (fills f) refl
         let fits = fits_plain (Plain single) (turns_flow (lanes f) (blocks_of (length wide)) large wide) (wide_loop (Plain wide)) (lanes f) 118943 594400 118955 most (omega arith) (omega arith) (omega arith) fits_one body (fits_wide 118943 (omega arith) wide fits_more) in
         subst (λ k. Fits 960000 (flat (elements_flow k (shift_of (size_of_slot f.vars 0)) (lanes f) (blocks_of (length wide)) single wide aligned large))) (sym e) (record { allowed = fits.allowed; bytes = (let b = fits.bytes in omega (arith, b)) })
 
-pub elements_few : (f : FunctionValue) → is_function f ≡ true → (t : Tree) → IsElements f t → size (flat_of t) ≤ 960000
-elements_few f h t (single, wide, aligned, large, turns, e) = (let b = (fits_elements f h single wide aligned large turns).bytes in omega (arith, ap size e, b))
+pub elements_few : (f : FunctionValue) → is_function f ≡ true → (at : List ℕ) (t : Tree) → IsElements f at t → size (flat_of t) ≤ 960000
+elements_few f h at t (single, wide, aligned, large, turns, e) = (let b = (fits_elements f h at single wide aligned large turns).bytes in omega (arith, ap size e, b))

@@ -34,7 +34,7 @@ use Rattle.orc_region.proofs.Checked.Several.{IsCount}
 use Rattle.orc_region.proofs.Checked.Slots.{limits}
 use Rattle.orc_region.proofs.Turn.Advancing.{Setting, IsCell, Inside, InBlock, base_from, touches_wide, block_steps}
 use Rattle.orc_region.proofs.Turn.Blocks.{ins_of_block, block_fine, block_few, block_light}
-use Rattle.orc_region.proofs.Turn.Lists.{stand_is, fit_actions}
+use Rattle.orc_region.proofs.Turn.Lists.{fit_actions}
 use Rattle.orc_region.proofs.Calls.Cells.{Arrays, mapped, cell_cells, cell_at, cell_frame}
 use Rattle.orc_region.proofs.Calls.Setting.{meant, base, numbers, Emul, Slot, setting, apart, changed_frame}
 use Rattle.orc_region.proofs.Calls.Holding.{totals_in, framed_in, agrees_in, holds_again}
@@ -71,7 +71,7 @@ module _ (f : FunctionValue) (is : is_function f ≡ true) (at : List ℕ) (plac
   fits = size_of_slot f.vars
 
   module _ (code : Placed) (s : Point) (args : Arguments) (back : ℕ) (good : GoodCall (subject_of f) code s args back) (r : ℕ) (row : r < rows (subject_of f) args) (i : ℕ) (within : i + count ≤ args.n) (at_16 : aligned ≡ true → IsDest f 0 → cell (subject_of f) args 0 r i 0 % 16 ≡ 0)
-      (e : State) (come : HasCome f args s.core.memory r i e) (c : Core) (h : Holds f s.core args e c) (points : PointsAt f args r i c) where
+      (e : State) (come : HasCome f args s.core.memory r i e) (c : Core) (h : Holds f at s.core args e c) (points : PointsAt f args r i c) where
     abbrev Base : ℕ → ℕ
     Base = base f is known code s args back good r row
 
@@ -87,8 +87,8 @@ module _ (f : FunctionValue) (is : is_function f ≡ true) (at : List ℕ) (plac
     abbrev plan : Plan
     plan = plan_with f x.0
 
-    set : Setting args.n Base Slots (numbers f is known code s args back good) low plan Emulates (InFrame low)
-    set = setting f is known code s args back good r row at (stand_is f is at places) come.0 count x.0 x.1
+    set : Setting args.n Base Slots (numbers f is known code s args back good at) low plan Emulates (InFrame low)
+    set = setting f is known code s args back good r row at places come.0 count x.0 x.1
 
     -- where the first dest may be stored a whole register at once by stores that aren't aligned
     abbrev Free : Type 0
@@ -109,25 +109,25 @@ module _ (f : FunctionValue) (is : is_function f ≡ true) (at : List ℕ) (plac
         let begins = cell_begins (args.base 0 + r * args.stride 0) (i * fits 0) (at_16 a.2 a.0) in
         (ap (λ k. count * fits k) first ∙ a.1, ap (λ k. (Base k + i * fits k) % 16) first ∙ begins)
 
-    row_cell : (a : ℕ) → IsCell args.n Base Slots (numbers f is known code s args back good) low plan Emulates (InFrame low) set a → IsCellByte f (meant f is known code s args back good) a
+    row_cell : (a : ℕ) → IsCell args.n Base Slots (numbers f is known code s args back good at) low plan Emulates (InFrame low) set a → IsCellByte f (meant f is known code s args back good) a
     row_cell a w = subst (IsCellByte f (meant f is known code s args back good)) (sym w.6) (cell_cells f known code s args back good r row w.0 w.1 w.2 w.3 w.4 w.5)
 
     abbrev Within : ℕ → Memory → (ℕ → ℕ) → Core → Type 0
-    Within = Inside args.n Base Slots (numbers f is known code s args back good) low plan Emulates (InFrame low) set (s.core.gpr 7) c.memory
+    Within = Inside args.n Base Slots (numbers f is known code s args back good at) low plan Emulates (InFrame low) set (s.core.gpr 7) c.memory
 
-    begins : Within i e.memory (totals_in f is known code s args back good e c h) c
+    begins : Within i e.memory (totals_in f is known code s args back good at e c h) c
     begins = record {
       pointers = λ k hk. points k hk ∙ from_row (args.base k + r * args.stride k) (i * fits k);
       block = h.block;
       calm = record { stack = h.stack; quiet = λ a m n. refl };
       agree = h.agree;
       mapped = λ a w. let m = row_cell a w in subst (λ o. is_some o ≡ true) (h.agree a (cell_frame f known code s args back good a m)) (h.mapped a (mapped f known code s args back good a m));
-      framed = framed_in f is known code s args back good e c h;
+      framed = framed_in f is known code s args back good at e c h;
       bounded = h.bounded;
     }
 
-    reached : Emulates i e.memory (totals_in f is known code s args back good e c h)
-    reached = record { temps = e.temps; sums = e.sums; is = come.2; agrees = agrees_in f is known code s args back good e c h }
+    reached : Emulates i e.memory (totals_in f is known code s args back good at e c h)
+    reached = record { temps = e.temps; sums = e.sums; is = come.2; agrees = agrees_in f is known code s args back good at e c h }
 
     -- ---- the cells of these elements
 
@@ -150,7 +150,7 @@ module _ (f : FunctionValue) (is : is_function f ≡ true) (at : List ℕ) (plac
     further : (b q z y : ℕ) → b + i * z + q * z + y ≡ b + (i + q) * z + y
     further b q z y = omega (arith, add-mul i q z)
 
-    these_arrays : (k : ℕ) → Slots k → (a : ℕ) → InSlot count (base_from args.n Base Slots (numbers f is known code s args back good) low plan Emulates (InFrame low) set (s.core.gpr 7) c.memory count i) fits k a → These (IsArray (subject_of f)) a
+    these_arrays : (k : ℕ) → Slots k → (a : ℕ) → InSlot count (base_from args.n Base Slots (numbers f is known code s args back good at) low plan Emulates (InFrame low) set (s.core.gpr 7) c.memory count i) fits k a → These (IsArray (subject_of f)) a
     these_arrays k hk a t = (k, hk, i + t.0, omega arith, omega (arith, t.1), t.2, t.3, t.4 ∙ further (Base k) t.0 (fits k) t.2 ∙ cell_at f known code s args back good r row k hk (i + t.0) (inside_row t.0 t.1) t.2 t.3)
 
     frame_cells : (a : ℕ) → AtThese a → InFrame low a → ⊥
@@ -159,15 +159,15 @@ module _ (f : FunctionValue) (is : is_function f ≡ true) (at : List ℕ) (plac
     -- ---- on the way
 
     abbrev Here : Core → Ins → Type 0
-    Here = InBlock args.n Base Slots (numbers f is known code s args back good) low plan Emulates (InFrame low) set (s.core.gpr 7) c.memory count Free i c
+    Here = InBlock args.n Base Slots (numbers f is known code s args back good at) low plan Emulates (InFrame low) set (s.core.gpr 7) c.memory count Free i c
 
     abbrev Way : Core → Ins → Type 0
     Way = OnWay f code s args back good r i count Wanted c
 
-    quietly : (u : Core) → ((a : ℕ) → (AtThese a → ⊥) → (InChanged low (numbers f is known code s args back good).sums a → ⊥) → u.memory a ≡ c.memory a) → IsQuiet f s.core args r i count c u
-    quietly u only a nd nf = only a (λ t. nd (these_dests a t)) (λ t. nf (changed_frame f is known code s args back good a t))
+    quietly : (u : Core) → ((a : ℕ) → (AtThese a → ⊥) → (InChanged low (numbers f is known code s args back good at).sums a → ⊥) → u.memory a ≡ c.memory a) → IsQuiet f s.core args r i count c u
+    quietly u only a nd nf = only a (λ t. nd (these_dests a t)) (λ t. nf (changed_frame f is known code s args back good at a t))
 
-    touched : (u : Core) (ins : Ins) → TouchesPart count (base_from args.n Base Slots (numbers f is known code s args back good) low plan Emulates (InFrame low) set (s.core.gpr 7) c.memory count i) fits Slots low Free u ins
+    touched : (u : Core) (ins : Ins) → TouchesPart count (base_from args.n Base Slots (numbers f is known code s args back good at) low plan Emulates (InFrame low) set (s.core.gpr 7) c.memory count i) fits Slots low Free u ins
         → (a : ℕ) → Touches ins u a → These (IsArray (subject_of f)) a ⊎ InFrame low a
     touched u ins (inl g) a t = inr (g a t)
     touched u ins (inr g) a t = inl (these_arrays g.0 g.1 a (g.3 a t))
@@ -178,16 +178,16 @@ module _ (f : FunctionValue) (is : is_function f ≡ true) (at : List ℕ) (plac
       quiet = quietly u q.only;
       inside = touched u ins q.touches;
       wide = part_wide f known code s args back good Wanted (λ w. w.2) r row Free not_free u ins
-          (touches_wide args.n Base Slots (numbers f is known code s args back good) low plan Emulates (InFrame low) set (s.core.gpr 7) c.memory count Free i u ins within q.touches);
+          (touches_wide args.n Base Slots (numbers f is known code s args back good at) low plan Emulates (InFrame low) set (s.core.gpr 7) c.memory count Free i u ins within q.touches);
     }
 
     abbrev Made : (from : ℕ) → Type 0
-    Made from = (y : Done f code s.core args r i count (cost f) (subject_of f).operands from list c) × ((z : ℕ) → z ≢ 0 → y.d.gpr z ≡ c.gpr z) × (Wanted → Each (λ m. StoresFirst (subject_of f) args m → ⊥) y.way)
+    Made from = (y : Done f at code s.core args r i count (cost f) (subject_of f).operands from list c) × ((z : ℕ) → z ≢ 0 → y.d.gpr z ≡ c.gpr z) × (Wanted → Each (λ m. StoresFirst (subject_of f) args m → ⊥) y.way)
 
     made : (from : ℕ) → Stands code from list → Made from
     made from stands =
-        let y = block_steps args.n Base Slots (numbers f is known code s args back good) low plan Emulates (InFrame low) set (s.core.gpr 7) c.memory count Free is_count.some (fit_actions f is at places count is_count x.0 x.1)
-        (far_by 0 fits) (aligned_first stored) (λ a b. (a, b)) 0 (λ k. refl) (ins_of_block f is at places count is_count stored x.0 x.1) i i (let z : i ≡ 0 + i = omega arith in z) (aligns stored refl) e.memory (totals_in f is known code s args back good e c h) c within begins reached in
+        let y = block_steps args.n Base Slots (numbers f is known code s args back good at) low plan Emulates (InFrame low) set (s.core.gpr 7) c.memory count Free is_count.some (fit_actions f is at places count is_count x.0 x.1)
+        (far_by 0 fits) (aligned_first stored) (λ a b. (a, b)) 0 (λ k. refl) (ins_of_block f is at places count is_count stored x.0 x.1) i i (let z : i ≡ 0 + i = omega arith in z) (aligns stored refl) e.memory (totals_in f is known code s args back good at e c h) c within begins reached in
         let d = y.2 in
         let line : Line Here list c d = subst (λ l. Line Here l c d) (sym x.2) y.4 in
         let end = y.5 in
@@ -195,18 +195,18 @@ module _ (f : FunctionValue) (is : is_function f ≡ true) (at : List ℕ) (plac
         let emulated = y.3 in
         let t : State = state memory emulated.temps emulated.sums in
         let does : Does Way (Plain list) c list d = (line_map Here Way on_way list c d line, refl) in
-        let z = doing f code s args back good r i count Wanted c (Plain list) (all_allowed list (block_fine f is at places count is_count stored list x)) from stands (cost f) (subject_of f).operands list d does (record {
+        let z = doing f code s args back good r i count Wanted c at (Plain list) (all_allowed list (block_fine f is at places count is_count stored list x)) from stands (cost f) (subject_of f).operands list d does (record {
           e = t;
           come = (come.0, come.1, subst (λ n. row_of f (meant_call f args) r n come.0 ≡ Ok t) (more_elements i count) emulated.is);
           short = block_few f is at places count is_count stored list x;
           light = block_light f is at places count is_count stored list x by_pointer refl;
           quiet = quietly d y.7;
-          holds = holds_again f is known code s args back good t d y.1 end.framed emulated.agrees end.calm.stack end.block end.agree (λ a m. does_keeps Way a (Plain list) c list d does (h.mapped a m)) end.bounded;
+          holds = holds_again f is known code s args back good at t d y.1 end.framed emulated.agrees end.calm.stack end.block end.agree (λ a m. does_keeps Way a (Plain list) c list d does (h.mapped a m)) end.bounded;
           words = λ a w. y.7 a (λ t. frame_cells a t (words_frame low a w)) (words_kept low (count_of kind.Accumulator f.vars) a known.few.accs w);
         }) in
         (z.0, λ n ne. ap (λ (v : Core). v.gpr n) z.1 ∙ y.6 n ne, z.2)
 
-  pub does_elements : DoesElements f count aligned list
+  pub does_elements : DoesElements f at count aligned list
   does_elements code s args back good from stands r row i within at_16 e come c h points =
       let y = made code s args back good r row i within at_16 e come c h points from stands in
       (y.0, y.1, λ a b alone. y.2 (a, b, alone))

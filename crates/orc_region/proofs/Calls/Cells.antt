@@ -13,6 +13,7 @@ use Rattle.x86_ins.specs.Machine.{Point}
 use Rattle.x86_ins.specs.Way.{Placed}
 use Rattle.orc_frame.specs.Subject.{Call as Arguments, InArray, InDests, VerySame, rows}
 use Rattle.orc_frame.specs.Subject.{cell as slot_cell}
+use Rattle.orc_frame.specs.Layout.{frame_size}
 use Rattle.orc_frame.specs.Parts.{InBlock, InFrame, base_word, stride_word}
 use Rattle.orc_frame.specs.GoodCall.{GoodCall, lowered}
 use Rattle.orc_frame.specs.Function.{IsCellByte, subject_of}
@@ -203,6 +204,10 @@ module _ (f : FunctionValue) (known : Arrays f) (code : Placed) (s : Point) (arg
   -- a dest's cell is one of the call
   pub dest_cell : (a : ℕ) → InDests (subject_of f) args a → IsCellByte f call a
   dest_cell a w = cells_by_slots f known.few args stride_small a (w.0, inl w.1, w.2)
+
+  -- the frame lies low
+  pub stack_room : lowered s.core + (frame_size + 8) ≤ 2 ^ 47
+  stack_room = (let a = good.frame_room in let b = good.return_low in omega (arith, a, b))
 
   pub cell_block : (a : ℕ) → IsCellByte f call a → InBlock (s.core.gpr 7) a → ⊥
   cell_block a w h = (good.disjoint.cells a w).0 h

@@ -31,22 +31,22 @@ module _ (f : FunctionValue) (code : Placed) (s : Point) (args : Arguments) (bac
     pub wide : GoesWide (subject_of f) args A u ins
 
   -- what is left where these instructions were done
-  pub record Leaves (steps touches : ℕ) (done : List Ins) (d : Core) : Type 0 where
+  pub record Leaves (at : List ℕ) (steps touches : ℕ) (done : List Ins) (d : Core) : Type 0 where
     pub e : State
     pub come : HasCome f args s.core.memory r (i + count) e
     pub short : length done ≤ steps
     pub light : weigh cell_weight done ≤ touches
     pub quiet : IsQuiet f s.core args r i count c d
-    pub holds : Holds f s.core args e d
+    pub holds : Holds f at s.core args e d
     pub words : (a : ℕ) → InWords (lowered s.core) a → d.memory a ≡ c.memory a
 
   has_at : (list : List Ins) → Each IsAllowed list → (from : ℕ) → Stands code from list → HasAt code.bytes from list
   has_at list allowed from stands =
       subst (λ n. HasAt code.bytes n list) stands.3 (subst (λ b. HasAt b (length stands.0) list) (sym stands.2) (has_all list stands.0 stands.1 allowed))
 
-  pub doing : (flow : Flow) → Each IsAllowed (flat flow) → (from : ℕ) → Stands code from (flat flow) → (steps touches : ℕ) (done : List Ins) (d : Core) → Does OnWay flow c done d → Leaves steps touches done d
-      → (x : Done f code s.core args r i count steps touches from (flat flow) c) × (x.d ≡ d) × (A → Each (λ m. StoresFirst (subject_of f) args m → ⊥) x.way)
-  doing flow allowed from stands steps touches done d does h =
+  pub doing : (at : List ℕ) (flow : Flow) → Each IsAllowed (flat flow) → (from : ℕ) → Stands code from (flat flow) → (steps touches : ℕ) (done : List Ins) (d : Core) → Does OnWay flow c done d → Leaves at steps touches done d
+      → (x : Done f at code s.core args r i count steps touches from (flat flow) c) × (x.d ≡ d) × (A → Each (λ m. StoresFirst (subject_of f) args m → ⊥) x.way)
+  doing at flow allowed from stands steps touches done d does h =
       let within : from ≤ length code.bytes = omega (arith, stands.3, ap length stands.2, length-append stands.0 (spell_all (flat flow) ++ stands.1)) in
       let leads : Leads code OnWay c from done d (from + size (flat flow)) = flow_leads OnWay code good.code_low flow from within (has_at (flat flow) allowed from stands) c done d does in
       let way = leads.way in

@@ -57,18 +57,18 @@ total_is f sums totals running are agrees g l =
     ∙ ap (λ n. cut (8 * width_of f g) (totals n)) (sym x.number)
     ∙ sym (agrees p x.inside (is_sum_kind (var_at f.vars p).kind x.kind))
 
-module _ (f : FunctionValue) (is : is_function f ≡ true) (known : Arrays f) (code : Placed) (s : Point) (args : Arguments) (back : ℕ) (good : GoodCall (subject_of f) code s args back) where
+module _ (f : FunctionValue) (is : is_function f ≡ true) (known : Arrays f) (code : Placed) (s : Point) (args : Arguments) (back : ℕ) (good : GoodCall (subject_of f) code s args back) (at : List ℕ) where
   fact : Facts (layout_of f)
   fact = facts (layout_of f) (f, is, refl)
 
   -- a byte of a pattern, by the layout and by the function
-  pub pattern_same : (j : ℕ) → j < length (patterns_of f.vars f.insns) → (b : ℕ) → pattern_byte (pattern_at (layout_of f) j).way (held (layout_of f).params.items args.param (pattern_at (layout_of f) j).number) b ≡ pattern_byte (pattern_of f j).way ((numbers f is known code s args back good).number j) b
+  pub pattern_same : (j : ℕ) → j < length (patterns_of f.vars f.insns) → (b : ℕ) → pattern_byte (pattern_at (layout_of f) j).way (held (layout_of f).params.items args.param (pattern_at (layout_of f) j).number) b ≡ pattern_byte (pattern_of f j).way ((numbers f is known code s args back good at).number j) b
   pattern_same j l b =
       let here : pattern_at (layout_of f) j ≡ pattern_of f j = ap (λ ps. get_or ps j no_pattern) (patterns_are f) in
       let within : j < length (layout_of f).patterns.items = subst (λ ps. j < length ps) (sym (patterns_are f)) l in
       let known_is = fact.known j within in
       let params = params_are f in
-      let number : held (layout_of f).params.items args.param (pattern_at (layout_of f) j).number ≡ (numbers f is known code s args back good).number j =
+      let number : held (layout_of f).params.items args.param (pattern_at (layout_of f) j).number ≡ (numbers f is known code s args back good at).number j =
       ap₂ (λ ps p. held ps args.param p.number) params here
       ∙ number_is f args.n args.m args.base args.stride args.param (number_of f j)
       (subst (λ p. IsKnown (places_of kind.Param f.vars) (length (places_of kind.Param f.vars)) p.number) here (subst (λ ps. IsKnown ps (length ps) (pattern_at (layout_of f) j).number) params known_is)) in
@@ -76,11 +76,11 @@ module _ (f : FunctionValue) (is : is_function f ≡ true) (known : Arrays f) (c
 
   -- ---- from the layout
 
-  module _ (e : State) (c : Core) (h : Holds f s.core args e c) where
+  module _ (e : State) (c : Core) (h : Holds f at s.core args e c) where
     abbrev pub totals_in : ℕ → ℕ
     totals_in g = sum_of (acc_size (layout_of f) g) (h.running g)
 
-    pub framed_in : Framed (numbers f is known code s args back good) (lowered s.core) c.memory totals_in
+    pub framed_in : Framed (numbers f is known code s args back good at) (lowered s.core) c totals_in
     framed_in = record {
       patterns = λ j l b lb. h.patterns j (subst (λ ps. j < length ps) (sym (patterns_are f)) l) b lb ∙ ap Some (pattern_same j l b);
       running = h.running;
@@ -101,8 +101,8 @@ module _ (f : FunctionValue) (is : is_function f ≡ true) (known : Arrays f) (c
 
   -- ---- to the layout
 
-  pub holds_again : (e : State) (c : Core) (totals : ℕ → ℕ) → Framed (numbers f is known code s args back good) (lowered s.core) c.memory totals → Agrees f e.sums totals
-      → c.gpr 4 ≡ lowered s.core → c.gpr 7 ≡ s.core.gpr 7 → ((a : ℕ) → (InFrame (lowered s.core) a → ⊥) → c.memory a ≡ e.memory a) → ((a : ℕ) → IsMapped s.core.memory a → IsMapped c.memory a) → Bounded c → Holds f s.core args e c
+  pub holds_again : (e : State) (c : Core) (totals : ℕ → ℕ) → Framed (numbers f is known code s args back good at) (lowered s.core) c totals → Agrees f e.sums totals
+      → c.gpr 4 ≡ lowered s.core → c.gpr 7 ≡ s.core.gpr 7 → ((a : ℕ) → (InFrame (lowered s.core) a → ⊥) → c.memory a ≡ e.memory a) → ((a : ℕ) → IsMapped s.core.memory a → IsMapped c.memory a) → Bounded c → Holds f at s.core args e c
   holds_again e c totals framed agrees stack block agree mapped bounded = record {
     stack = stack;
     block = block;

@@ -38,8 +38,8 @@ use Rattle.orc_region.proofs.Turn.Advancing.{Setting, Able, IsCell, IsDestCell, 
 use Rattle.orc_region.proofs.Turn.Lists.{turns_map, few_blocks, blocks_near, stand_is, fit_actions, ins_blocks, turn_ins, turn_few}
 use Rattle.orc_region.proofs.Turn.Operands.{turn_light}
 use Rattle.orc_region.proofs.Turn.Rounds.{Outside, At, Round, plain_done, aligned_done}
-use Rattle.orc_region.proofs.Calls.Cells.{Arrays, mapped, cell_cells, cell_at, cell_frame}
-use Rattle.orc_region.proofs.Calls.Setting.{meant, base, numbers, Emul, Slot, setting, apart, changed_frame, stack_room}
+use Rattle.orc_region.proofs.Calls.Cells.{Arrays, stack_room, mapped, cell_cells, cell_at, cell_frame}
+use Rattle.orc_region.proofs.Calls.Setting.{meant, base, numbers, Emul, Slot, setting, apart, changed_frame}
 use Rattle.orc_region.proofs.Calls.Holding.{totals_in, framed_in, agrees_in, holds_again}
 use Rattle.orc_region.proofs.Calls.Wide.{by_pointer, cell_weight, part_wide}
 use Rattle.orc_region.proofs.Calls.Doing.{OnWay, Leaves, doing}
@@ -77,12 +77,9 @@ many_short b c a some =
 roomy : (list : List Ins) (besides t turn more : ℕ) → turn ≤ more → length list ≤ besides + t * turn → length list ≤ besides + t * more
 roomy list besides t turn more l h = (let m : t * turn ≤ t * more = mul-le-mul_left t l in omega (arith, h, m))
 
-module _ (f : FunctionValue) (is : is_function f ≡ true) (single wide aligned large : List Ins) (x : Turns f single wide aligned large) where
+module _ (f : FunctionValue) (is : is_function f ≡ true) (at : List ℕ) (single wide aligned large : List Ins) (x : Turns f at single wide aligned large) where
   abbrev known : Arrays f
   known = arrays_known f is
-
-  abbrev at : List ℕ
-  at = x.at
 
   abbrev size : ℕ → ℕ
   size = size_of_slot f.vars
@@ -110,12 +107,12 @@ module _ (f : FunctionValue) (is : is_function f ≡ true) (single wide aligned 
     abbrev low : ℕ
     low = lowered s.core
 
-    module _ (e : State) (come : HasCome f args s.core.memory r 0 e) (c : Core) (h : Holds f s.core args e c) (points : PointsAt f args r 0 c) (counter : c.gpr 1 ≡ args.n) where
+    module _ (e : State) (come : HasCome f args s.core.memory r 0 e) (c : Core) (h : Holds f at s.core args e c) (points : PointsAt f args r 0 c) (counter : c.gpr 1 ≡ args.n) where
       abbrev Emulates : ℕ → Memory → (ℕ → ℕ) → Type 0
       Emulates = Emul f is known code s args back good r row come.0
 
-      set : (count : ℕ) (actions : List Action) → AreActions at count (steps_of f) actions → Setting args.n Base Slots (numbers f is known code s args back good) low (plan_with f actions) Emulates (InFrame low)
-      set count actions are = setting f is known code s args back good r row at (stand_is f is at x.good) come.0 count actions are
+      set : (count : ℕ) (actions : List Action) → AreActions at count (steps_of f) actions → Setting args.n Base Slots (numbers f is known code s args back good at) low (plan_with f actions) Emulates (InFrame low)
+      set count actions are = setting f is known code s args back good r row at x.good come.0 count actions are
 
       abbrev one : List Action
       one = x.one.1.1
@@ -123,29 +120,29 @@ module _ (f : FunctionValue) (is : is_function f ≡ true) (single wide aligned 
       abbrev plan : Plan
       plan = plan_with f one
 
-      first : Setting args.n Base Slots (numbers f is known code s args back good) low plan Emulates (InFrame low)
+      first : Setting args.n Base Slots (numbers f is known code s args back good at) low plan Emulates (InFrame low)
       first = set 1 one x.one.1.3
 
       abbrev Within : ℕ → Memory → (ℕ → ℕ) → Core → Type 0
-      Within = Inside args.n Base Slots (numbers f is known code s args back good) low plan Emulates (InFrame low) first (s.core.gpr 7) c.memory
+      Within = Inside args.n Base Slots (numbers f is known code s args back good at) low plan Emulates (InFrame low) first (s.core.gpr 7) c.memory
 
       abbrev IsRowCell : ℕ → Type 0
-      IsRowCell = IsCell args.n Base Slots (numbers f is known code s args back good) low plan Emulates (InFrame low) first
+      IsRowCell = IsCell args.n Base Slots (numbers f is known code s args back good at) low plan Emulates (InFrame low) first
 
       abbrev IsRowDest : ℕ → Type 0
-      IsRowDest = IsDestCell args.n Base Slots (numbers f is known code s args back good) low plan Emulates (InFrame low) first
+      IsRowDest = IsDestCell args.n Base Slots (numbers f is known code s args back good at) low plan Emulates (InFrame low) first
 
       row_cell : (a : ℕ) → IsRowCell a → IsCellByte f (meant f is known code s args back good) a
       row_cell a w = subst (IsCellByte f (meant f is known code s args back good)) (sym w.6) (cell_cells f known code s args back good r row w.0 w.1 w.2 w.3 w.4 w.5)
 
-      begins : Within 0 e.memory (totals_in f is known code s args back good e c h) c
+      begins : Within 0 e.memory (totals_in f is known code s args back good at e c h) c
       begins = record {
         pointers = λ k hk. points k hk ∙ from_row (args.base k + r * args.stride k) (0 * size k);
         block = h.block;
         calm = record { stack = h.stack; quiet = λ a m n. refl };
         agree = h.agree;
         mapped = λ a w. let m = row_cell a w in subst (λ o. is_some o ≡ true) (h.agree a (cell_frame f known code s args back good a m)) (h.mapped a (mapped f known code s args back good a m));
-        framed = framed_in f is known code s args back good e c h;
+        framed = framed_in f is known code s args back good at e c h;
         bounded = h.bounded;
       }
 
@@ -184,10 +181,10 @@ module _ (f : FunctionValue) (is : is_function f ≡ true) (single wide aligned 
       Q = OnWay f code s args back good r 0 args.n Wanted c
 
       abbrev Calm : Core → Type 0
-      Calm = Outside args.n Base Slots (numbers f is known code s args back good) low plan Emulates (InFrame low) first (s.core.gpr 7) c.memory Q (stack_room f is known code s args back good) in_frame
+      Calm = Outside args.n Base Slots (numbers f is known code s args back good at) low plan Emulates (InFrame low) first (s.core.gpr 7) c.memory Q (stack_room f known code s args back good) in_frame
 
-      quietly : (u : Core) → ((a : ℕ) → (IsRowDest a → ⊥) → (InChanged low (numbers f is known code s args back good).sums a → ⊥) → (InFree a → ⊥) → u.memory a ≡ c.memory a) → IsQuiet f s.core args r 0 args.n c u
-      quietly u w a nd nf = w a (λ t. nd (row_dests a t)) (λ t. nf (changed_frame f is known code s args back good a t)) (λ t. nf (free_frame a t))
+      quietly : (u : Core) → ((a : ℕ) → (IsRowDest a → ⊥) → (InChanged low (numbers f is known code s args back good at).sums a → ⊥) → (InFree a → ⊥) → u.memory a ≡ c.memory a) → IsQuiet f s.core args r 0 args.n c u
+      quietly u w a nd nf = w a (λ t. nd (row_dests a t)) (λ t. nf (changed_frame f is known code s args back good at a t)) (λ t. nf (free_frame a t))
 
       touched : (u : Core) (ins : Ins) → TouchesPart args.n Base size Slots low Free u ins → (a : ℕ) → Touches ins u a → These (IsArray (subject_of f)) a ⊎ InFrame low a
       touched u ins (inl g) a t = inr (g a t)
@@ -202,16 +199,16 @@ module _ (f : FunctionValue) (is : is_function f ≡ true) (single wide aligned 
       }
 
       abbrev Place : ℕ → Core → Type 0
-      Place = At args.n Base Slots (numbers f is known code s args back good) low plan Emulates (InFrame low) first (s.core.gpr 7) c.memory Q (stack_room f is known code s args back good) in_frame
+      Place = At args.n Base Slots (numbers f is known code s args back good at) low plan Emulates (InFrame low) first (s.core.gpr 7) c.memory Q (stack_room f known code s args back good) in_frame
 
       place_first : Place 0 c
       place_first = record {
         e = e.memory;
-        totals = totals_in f is known code s args back good e c h;
+        totals = totals_in f is known code s args back good at e c h;
         mem = c.memory;
         near = λ a k t w. refl;
         inside = begins;
-        emulated = record { temps = e.temps; sums = e.sums; is = come.2; agrees = agrees_in f is known code s args back good e c h };
+        emulated = record { temps = e.temps; sums = e.sums; is = come.2; agrees = agrees_in f is known code s args back good at e c h };
         there = λ a w. h.mapped a (good.frame a (free_frame a w));
       }
 
@@ -221,7 +218,7 @@ module _ (f : FunctionValue) (is : is_function f ≡ true) (single wide aligned 
       -- ---- turns
 
       abbrev Turned : ℕ → Bool → ℕ → List Ins → Type 0
-      Turned count aligned = Round args.n Base Slots (numbers f is known code s args back good) low plan Emulates (InFrame low) first (s.core.gpr 7) c.memory Q (stack_room f is known code s args back good) in_frame Free calmly by_pointer refl each some count (aligned_first aligned)
+      Turned count aligned = Round args.n Base Slots (numbers f is known code s args back good at) low plan Emulates (InFrame low) first (s.core.gpr 7) c.memory Q (stack_room f known code s args back good) in_frame Free calmly by_pointer refl each some count (aligned_first aligned)
 
       turned : (count : ℕ) → IsCount f count → (aligned : Bool) (blocks : ℕ) → 0 < blocks → blocks ≤ 4 → (list : List Ins) → IsTurnOf f at count aligned blocks list → Turned count aligned blocks list
       turned count is_count aligned blocks some_blocks few list t =
@@ -229,7 +226,7 @@ module _ (f : FunctionValue) (is : is_function f ≡ true) (single wide aligned 
           let short = turn_few f is at x.good count is_count aligned blocks near list t in
           let spread = many_short blocks (cost f) (arrays_of f) some_blocks in
           record {
-            turn = turns_map (AreActions at count (steps_of f)) (Able args.n Base Slots (numbers f is known code s args back good) low plan Emulates (InFrame low) count (aligned_first aligned)) count size (aligned_first aligned)
+            turn = turns_map (AreActions at count (steps_of f)) (Able args.n Base Slots (numbers f is known code s args back good at) low plan Emulates (InFrame low) count (aligned_first aligned)) count size (aligned_first aligned)
                 (λ actions are. record { set = set count actions are; fit = fit_actions f is at x.good count is_count actions are; known = ins_blocks f is at x.good count is_count actions are aligned })
                 (count_of kind.Dest f.vars) (count_of kind.Source f.vars) blocks list t;
             known = turn_ins f is at x.good count is_count aligned blocks near list t;
@@ -252,7 +249,7 @@ module _ (f : FunctionValue) (is : is_function f ≡ true) (single wide aligned 
 
       plain : fills f ≡ false → Goes (elements_flow false (shift_of (size 0)) (lanes f) b single wide aligned large) 7
       plain empty =
-          let y = plain_done args.n Base Slots (numbers f is known code s args back good) low plan Emulates (InFrame low) first (s.core.gpr 7) c.memory Q (stack_room f is known code s args back good) in_frame Free calmly by_pointer refl each some (lanes f) (lanes_count f is).some (lanes_count f is).most b (few_blocks (length wide))
+          let y = plain_done args.n Base Slots (numbers f is known code s args back good at) low plan Emulates (InFrame low) first (s.core.gpr 7) c.memory Q (stack_room f known code s args back good) in_frame Free calmly by_pointer refl each some (lanes f) (lanes_count f is).some (lanes_count f is).most b (few_blocks (length wide))
           single one_is wide more_is large (none_filled empty) (many_is false empty) c place_first counter in
           (y.0, y.1, y.2, y.3, roomy y.0 7 (turns (lanes f) args.n) (2 + each) (2 + most_turn f) (omega arith) y.4, y.5)
 
@@ -265,7 +262,7 @@ module _ (f : FunctionValue) (is : is_function f ≡ true) (single wide aligned 
       filled : fills f ≡ true → Goes (elements_flow true (shift_of (size 0)) (lanes f) b single wide aligned large) 19
       filled full =
           let y = filled_first f is full in
-          let z = aligned_done args.n Base Slots (numbers f is known code s args back good) low plan Emulates (InFrame low) first (s.core.gpr 7) c.memory Q (stack_room f is known code s args back good) in_frame Free calmly by_pointer refl each some (lanes f) (lanes_count f is).some (lanes_count f is).most b (few_blocks (length wide))
+          let z = aligned_done args.n Base Slots (numbers f is known code s args back good at) low plan Emulates (InFrame low) first (s.core.gpr 7) c.memory Q (stack_room f known code s args back good) in_frame Free calmly by_pointer refl each some (lanes f) (lanes_count f is).some (lanes_count f is).most b (few_blocks (length wide))
           single one_is wide more_is large aligned (turned (lanes f) (lanes_count f is) true 1 (omega arith) (omega arith) aligned (x.stored full)) (shift_of (size 0)) y.shift y.full y.some y.size_is (many_is true full) (some_reached (shift_of (size 0)) y.size_is) c place_first counter in
           (z.0, z.1, z.2, z.3, roomy z.0 19 (turns (lanes f) args.n) (3 + (2 + each)) (2 + most_turn f) (omega arith) z.4, z.5)
 
@@ -280,7 +277,7 @@ module _ (f : FunctionValue) (is : is_function f ≡ true) (single wide aligned 
       -- ---- what they leave
 
       abbrev Left : ℕ → List Ins → Core → Type 0
-      Left steps = Leaves f code s args back good r 0 args.n Wanted c steps (turns (lanes f) args.n * some)
+      Left steps = Leaves f code s args back good r 0 args.n Wanted c at steps (turns (lanes f) args.n * some)
 
       pub row_does : (done : List Ins) × (d : Core) × Does Q (elements_of f single wide aligned large) c done d × Left (regions_of (most_besides f) (lanes f) (most_turn f) args.n) done d
       row_does =
@@ -289,7 +286,7 @@ module _ (f : FunctionValue) (is : is_function f ≡ true) (single wide aligned 
           let p = y.3 in
           let w = p.inside in
           let t : State = state p.e p.emulated.temps p.emulated.sums in
-          let only : (a : ℕ) → (IsRowDest a → ⊥) → (InChanged low (numbers f is known code s args back good).sums a → ⊥) → (InFree a → ⊥) → d.memory a ≡ c.memory a = λ a k t z. w.calm.quiet a k t ∙ p.near a k t z in (
+          let only : (a : ℕ) → (IsRowDest a → ⊥) → (InChanged low (numbers f is known code s args back good at).sums a → ⊥) → (InFree a → ⊥) → d.memory a ≡ c.memory a = λ a k t z. w.calm.quiet a k t ∙ p.near a k t z in (
             y.0,
             d,
             y.2,
@@ -299,22 +296,22 @@ module _ (f : FunctionValue) (is : is_function f ≡ true) (single wide aligned 
               short = (let b = few_besides (fills f) refl in omega (arith, y.4, b));
               light = y.5;
               quiet = quietly d only;
-              holds = holds_again f is known code s args back good t d p.totals w.framed p.emulated.agrees w.calm.stack w.block w.agree (λ a m. does_keeps Q a (elements_of f single wide aligned large) c y.0 d y.2 (h.mapped a m)) w.bounded;
+              holds = holds_again f is known code s args back good at t d p.totals w.framed p.emulated.agrees w.calm.stack w.block w.agree (λ a m. does_keeps Q a (elements_of f single wide aligned large) c y.0 d y.2 (h.mapped a m)) w.bounded;
               words = λ a q. only a (λ t. dest_frame a t (words_frame low a q)) (words_kept low (count_of kind.Accumulator f.vars) a known.few.accs q) (λ z. omega (arith, q.1, z.0));
             },
           )
 
   -- ---- wherever they stand
 
-  pub does_flow : DoesRow f (flat (elements_of f single wide aligned large))
+  pub does_flow : DoesRow f at (flat (elements_of f single wide aligned large))
   does_flow code s args back good from stands r row e come c h points counter =
       let y = row_does code s args back good r row e come c h points counter in
       let l = y.3 in
       let steps : 2 + most_turn f ≡ cost f + arrays_of f + 6 = omega arith in
-      let z = doing f code s args back good r 0 args.n (Wanted code s args back good r row) c (elements_of f single wide aligned large) (fits_elements f is single wide aligned large x).allowed from stands
+      let z = doing f code s args back good r 0 args.n (Wanted code s args back good r row) c at (elements_of f single wide aligned large) (fits_elements f is at single wide aligned large x).allowed from stands
       (most_besides f + turns (lanes f) args.n * (cost f + arrays_of f + 6)) (turns (lanes f) args.n * some) y.0 y.1 y.2 (record { e = l.e; come = l.come; short = subst (λ k. length y.0 ≤ most_besides f + turns (lanes f) args.n * k) steps l.short; light = l.light; quiet = l.quiet; holds = l.holds; words = l.words }) in
       (z.0, λ full reached alone. z.2 (full, reached, alone))
 
 -- as the tree is built
-pub does_tree : (f : FunctionValue) → is_function f ≡ true → (tree : Tree) → IsElements f tree → DoesRow f (flat_of tree)
-does_tree f is tree (single, wide, aligned, large, turns, e) = subst (DoesRow f) (sym e) (does_flow f is single wide aligned large turns)
+pub does_tree : (f : FunctionValue) → is_function f ≡ true → (at : List ℕ) (tree : Tree) → IsElements f at tree → DoesRow f at (flat_of tree)
+does_tree f is at tree (single, wide, aligned, large, turns, e) = subst (DoesRow f at) (sym e) (does_flow f is at single wide aligned large turns)

@@ -1,5 +1,5 @@
 -- The elements of a row of a good call are what the laws of blocks, turns and rows ask for.
-use Rattle.std.proofs.Common.{◌≡◌, ℕ, ◌+◌, ◌*◌, ◌^◌, ◌<◌, ◌≤◌, true, List, [], length, refl, sym, ap, ◌∙◌, subst, arith, ⊎_elim}
+use Rattle.std.proofs.Common.{◌≡◌, ℕ, ◌+◌, ◌*◌, ◌<◌, ◌≤◌, true, List, [], length, refl, sym, ap, ◌∙◌, subst, arith, ⊎_elim}
 use Rattle.orc_bits.specs.Memory.{Memory}
 use Rattle.orc_program.specs.declared.program.VarKind.TheVariants as kind
 use Rattle.orc_program.specs.declared.call.Call.{Call}
@@ -9,9 +9,10 @@ use Rattle.orc_program.specs.Kept.{is_function}
 use Rattle.orc_program.specs.Meaning.{State, cell}
 use Rattle.orc_program.specs.Slots.{slot_of, size_of_slot}
 use Rattle.orc_plan.specs.Lowered.{steps_of}
+use Rattle.orc_plan.specs.Places.{GoodPlaces}
 use Rattle.x86_ins.specs.Machine.{Point}
 use Rattle.x86_ins.specs.Way.{Placed}
-use Rattle.orc_frame.specs.Layout.{layout_of, frame_size}
+use Rattle.orc_frame.specs.Layout.{layout_of}
 use Rattle.orc_frame.specs.Parts.{InFrame, InChanged}
 use Rattle.orc_frame.specs.Subject.{Call as Arguments, rows}
 use Rattle.orc_frame.specs.GoodCall.{GoodCall, lowered}
@@ -21,14 +22,16 @@ use Rattle.orc_frame.proofs.Apart.{length-acc_sizes_of}
 use Rattle.orc_region.specs.Code.{Action, AreActions, plan_with}
 use Rattle.orc_region.proofs.Block.Cells.{Numbers, IsOf}
 use Rattle.orc_region.proofs.Block.Frames.{IsFrame}
+use Rattle.orc_region.proofs.Block.Sums.{last_below}
 use Rattle.orc_region.proofs.Block.Emulated.{IsCells}
 use Rattle.orc_region.proofs.Block.Elements.{Reached, reaches}
 use Rattle.orc_region.proofs.Checked.Direct.{number_of}
-use Rattle.orc_region.proofs.Checked.Acts.{AllPlaced, StandsIn, nothing_stands}
+use Rattle.orc_region.proofs.Checked.Acts.{StandsIn, nothing_stands}
 use Rattle.orc_region.proofs.Checked.Knows.{numbers_of, all_meant, all_known}
 use Rattle.orc_region.proofs.Checked.Layouts.{patterns_are, sizes_are}
 use Rattle.orc_region.proofs.Turn.Advancing.{Setting}
-use Rattle.orc_region.proofs.Calls.Cells.{Arrays, arrays, call, P, row_base, low, separate, decided, slot_at, cell_is, cell_cells, cell_frame}
+use Rattle.orc_region.proofs.Turn.Lists.{stand_is}
+use Rattle.orc_region.proofs.Calls.Cells.{Arrays, stack_room, arrays, call, P, row_base, low, separate, decided, slot_at, cell_is, cell_cells, cell_frame}
 
 -- the accumulators of a function, by its layout
 pub sums_count : (f : FunctionValue) → length (layout_of f).acc_sizes.items ≡ count_of kind.Accumulator f.vars
@@ -39,8 +42,8 @@ module _ (f : FunctionValue) (is : is_function f ≡ true) (known : Arrays f) (c
   abbrev pub meant : Call
   meant = call f known code s args back good
 
-  abbrev pub numbers : Numbers
-  numbers = numbers_of f meant
+  abbrev pub numbers : List ℕ → Numbers
+  numbers at = numbers_of f at meant
 
   abbrev pub rsp : ℕ
   rsp = lowered s.core
@@ -48,20 +51,17 @@ module _ (f : FunctionValue) (is : is_function f ≡ true) (known : Arrays f) (c
   abbrev pub Frame : ℕ → Type 0
   Frame = InFrame rsp
 
-  pub stack_room : rsp + (frame_size + 8) ≤ 2 ^ 47
-  stack_room = (let a = good.frame_room in let b = good.return_low in omega (arith, a, b))
-
   fact : Facts (layout_of f)
   fact = facts (layout_of f) (f, is, refl)
 
   few_patterns : length (patterns_of f.vars f.insns) ≤ 48
   few_patterns = (let a = fact.few_patterns in subst (λ l. length l ≤ 48) (patterns_are f) a)
 
-  pub is_frame : IsFrame numbers rsp
-  is_frame = record { few_patterns = few_patterns; few_sums = known.few.accs; low = (let a = stack_room in omega (arith, a)) }
+  pub is_frame : (at : List ℕ) → GoodPlaces (steps_of f) at → IsFrame (numbers at) rsp
+  is_frame at places_are = record { few_patterns = few_patterns; few_sums = known.few.accs; low = (let a = stack_room f known code s args back good in omega (arith, a)); few_places = last_below at places_are.below }
 
-  pub changed_frame : (a : ℕ) → InChanged rsp numbers.sums a → Frame a
-  changed_frame a h = ⊎_elim (λ i. (omega (arith, i.0), omega (arith, i.1, known.few.accs))) (λ i. (omega (arith, i.0), i.1)) h
+  pub changed_frame : (at : List ℕ) (a : ℕ) → InChanged rsp (numbers at).sums a → Frame a
+  changed_frame at a h = ⊎_elim (λ i. (omega (arith, i.0), omega (arith, i.1, known.few.accs))) (λ i. (omega (arith, i.0), i.1)) h
 
   module _ (r : ℕ) (row : r < rows (subject_of f) args) where
     abbrev pub base : ℕ → ℕ
@@ -86,12 +86,12 @@ module _ (f : FunctionValue) (is : is_function f ≡ true) (known : Arrays f) (c
     abbrev pub Emul : State → ℕ → Memory → (ℕ → ℕ) → Type 0
     Emul = Reached f meant r
 
-    pub setting : (at : List ℕ) → AllPlaced f at → (e : State) (count : ℕ) (actions : List Action) → AreActions at count (steps_of f) actions → Setting args.n base Slot numbers rsp (plan_with f actions) (Emul e) Frame
-    setting at stand e count actions are = record {
+    pub setting : (at : List ℕ) → GoodPlaces (steps_of f) at → (e : State) (count : ℕ) (actions : List Action) → AreActions at count (steps_of f) actions → Setting args.n base Slot (numbers at) rsp (plan_with f actions) (Emul e) Frame
+    setting at places_are e count actions are = let stand = stand_is f is at places_are in record {
       ground = record {
         separate = separate f known code s args back good r row;
         low = low f known code s args back good r row;
-        frame = is_frame;
+        frame = is_frame at places_are;
         apart = λ k h i l j lj x y. apart k h i l j lj (x, y);
       };
       decided = decided f known code s args back good r row;
@@ -100,7 +100,7 @@ module _ (f : FunctionValue) (is : is_function f ≡ true) (known : Arrays f) (c
       few_dests = known.few.dests;
       few_sources = known.few.sources;
       few = (arrays f known code s args back good).few;
-      emulates = reaches f meant r base size Slot (separate f known code s args back good r row) (low f known code s args back good r row) has cells numbers (number_of f) (λ j. refl) (StandsIn at) actions ([], steps_of f) (nothing_stands at (steps_of f)) (all_meant f is at stand count actions are) e;
+      emulates = reaches f meant r base size Slot (separate f known code s args back good r row) (low f known code s args back good r row) has cells (numbers at) (number_of f) (λ j. refl) (StandsIn at) actions ([], steps_of f) (nothing_stands at (steps_of f)) (all_meant f is at stand count actions are) e;
       apart = apart;
-      changed = changed_frame;
+      changed = changed_frame at;
     }

@@ -9,7 +9,7 @@ use Rattle.orc_program.specs.declared.program.Operand.{Operand}
 use Rattle.orc_program.specs.declared.program.Operand.TheVariants as operand
 use Rattle.orc_program.specs.declared.program.Insn.{Insn}
 use Rattle.orc_program.specs.declared.program.Pattern.{Pattern}
-use Rattle.orc_program.specs.Program.{FunctionValue, var_at, same_kind, is_of, temps_among, is_temp}
+use Rattle.orc_program.specs.Program.{FunctionValue, var_at, same_kind, is_of, temps_among, is_temp, count_before}
 use Rattle.orc_program.specs.Checks.{number_in, way_of, uses_from, patterns_of, source_fault, sources_fault, result_fault, results_fault, insn_fault}
 use Rattle.orc_program.specs.Kept.{is_function, all_pass, is_shaped, is_in_range, has_no_fault, result_count, source_count}
 use Rattle.orc_program.specs.Need.{is_in, made_by, read_by, places, registers, spills}
@@ -25,6 +25,7 @@ use Rattle.orc_plan.proofs.Last.{last_below}
 use Rattle.orc_program.specs.Slots.{slot_of}
 use Rattle.orc_region.specs.Code.{Source, FromArray, FromPattern, FromPlace, FromSlot, Target, ToPlace, to_place, source_of, target_of, patterns_in, place_register, made_in, first_register, second_register}
 use Rattle.orc_region.proofs.Block.Places.{by_target}
+use Rattle.orc_region.proofs.Block.Sums.{by_sum}
 use Rattle.orc_region.proofs.Block.Emulated.{IsTemp}
 use Rattle.orc_region.proofs.Block.Elements.{Follows}
 use Rattle.orc_region.proofs.Checked.Passing.{none_left, Checked, checked}
@@ -211,7 +212,7 @@ module _ (f : FunctionValue) (at temps : List ℕ) (insn : Insn) (rest : List In
   plain_follows (operand.Var p) V W k = go (is_of kind.Accumulator (var_at f.vars p))
     where
       go : (b : Bool) → Follows V (operand.Var p) (target_of at (if b then acc_item f.vars p else item.Array (slot_of f.vars p))) W
-      go true = k
+      go true = by_sum (λ t. Follows V (operand.Var p) t W) at (count_before kind.Accumulator f.vars p) (λ l. k) (λ l. k)
       go false = k
 
   temp_follows : (o : Operand) (y a : ℕ) (V W : ℕ → ℕ → Type 0) → o ≡ operand.Var y → ((x p : ℕ) → W x p → ((x ≡ y) × (p ≡ a)) ⊎ ((x ≢ y) × (p ≢ a) × V x p)) → Follows V o (to_place a) W
@@ -225,7 +226,7 @@ module _ (f : FunctionValue) (at temps : List ℕ) (insn : Insn) (rest : List In
   plain_made i (operand.Var p) = go (is_of kind.Accumulator (var_at f.vars p))
     where
       go : (b : Bool) → made_in i (target_of at (if b then acc_item f.vars p else item.Array (slot_of f.vars p))) ≡ i
-      go true = refl
+      go true = by_sum (λ t. made_in i t ≡ i) at (count_before kind.Accumulator f.vars p) (λ l. refl) (λ l. refl)
       go false = refl
 
   -- what the checks say of a result

@@ -24,8 +24,9 @@ use Rattle.orc_plan.specs.Standing.{Stands}
 use Rattle.orc_frame.specs.Frame.{no_pattern}
 use Rattle.orc_program.specs.Need.{places, registers, spills}
 use Rattle.orc_frame.specs.Layout.{spill_slots}
-use Rattle.orc_region.specs.Code.{Source, FromArray, FromPattern, FromPlace, FromSlot, Target, ToArray, ToSum, ToPlace, ToSlot, slot_place, to_place, source_of, target_of, patterns_in}
+use Rattle.orc_region.specs.Code.{Source, FromArray, FromPattern, FromPlace, FromSlot, Target, ToArray, ToSum, ToResident, ToPlace, ToSlot, slot_place, to_place, source_of, target_of, patterns_in}
 use Rattle.orc_region.proofs.Block.Places.{by_source, by_target}
+use Rattle.orc_region.proofs.Block.Sums.{by_sum}
 use Rattle.orc_region.proofs.Block.Emulated.{IsCells, IsDest, IsSum, IsTemp}
 use Rattle.orc_region.proofs.Checked.Passing.{none_left, unchecked, size_ok, no_sum}
 use Rattle.orc_program.proofs.KnownPatterns.{Has, pattern_found, used}
@@ -49,6 +50,7 @@ IsSourced f at temps steps op prefix position o (FromSlot k) =
 abbrev pub IsTargeted : FunctionValue → Op → ℕ → ℕ → Operand → Target → Type 0
 IsTargeted f op prefix position o (ToArray k) = (p : ℕ) × (o ≡ operand.Var p) × IsCells f p (size_of_result op position * prefix) × IsDest f p × (slot_of f.vars p ≡ k) × (is_sum (row op).kind ≡ false)
 IsTargeted f op prefix position o (ToSum g) = (p : ℕ) × (o ≡ operand.Var p) × IsSum f p (size_of_result op position * prefix) × (count_before kind.Accumulator f.vars p ≡ g) × (is_sum (row op).kind ≡ true)
+IsTargeted f op prefix position o (ToResident g) = (p : ℕ) × (o ≡ operand.Var p) × IsSum f p (size_of_result op position * prefix) × (count_before kind.Accumulator f.vars p ≡ g) × (is_sum (row op).kind ≡ true)
 IsTargeted f op prefix position o (ToPlace a) = (x : ℕ) × (o ≡ operand.Var x) × IsTemp f x × ((var_at f.vars x).size ≡ size_of_result op position * prefix) × (is_sum (row op).kind ≡ false) × (a < registers)
 IsTargeted f op prefix position o (ToSlot k) =
     (x : ℕ) × (o ≡ operand.Var x) × IsTemp f x × ((var_at f.vars x).size ≡ size_of_result op position * prefix) × (is_sum (row op).kind ≡ false) × (k < spill_slots) × (spills f ≡ true)
@@ -213,7 +215,10 @@ module _ (f : FunctionValue) (at : List ℕ) (op : Op) (prefix position : ℕ) w
       same_size (var_at f.vars p).size bytes (sym (ap (λ b. not b && not ((var_at f.vars p).size == bytes)) s) ∙ subst (λ k. (not (is_scalar (Some k)) && not ((var_at f.vars p).size == bytes)) ≡ false) e w)
 
   sum_targeted : (p : ℕ) → p < length f.vars → (var_at f.vars p).kind ≡ kind.Accumulator → is_sum (row op).kind ≡ true → is_wrong_size f.vars bytes (operand.Var p) ≡ false → Targeted (operand.Var p) (to_of (operand.Var p))
-  sum_targeted p l e sums w = subst (Targeted (operand.Var p)) (ap (to_kind p) (sym e)) (p, refl, record { inside = l; sum = e; size = kind_size p kind.Accumulator e refl w }, refl, sums)
+  sum_targeted p l e sums w = subst (Targeted (operand.Var p)) (ap (to_kind p) (sym e)) (by_sum (Targeted (operand.Var p)) at (count_before kind.Accumulator f.vars p) (λ l. is) (λ l. is))
+    where
+      is : Targeted (operand.Var p) (ToSum (count_before kind.Accumulator f.vars p))
+      is = (p, refl, record { inside = l; sum = e; size = kind_size p kind.Accumulator e refl w }, refl, sums)
 
   -- what the checks say of a result that is no temp
   pub targeted : (o : Operand) → is_temp f.vars o ≡ false → is_in_range f.vars o ≡ true → has_no_fault (result_fault f.vars op prefix position o) ≡ true → Targeted o (to_of o)

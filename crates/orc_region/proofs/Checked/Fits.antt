@@ -20,7 +20,7 @@ use Rattle.orc_plan.specs.declared.steps.Step.{Step}
 use Rattle.orc_plan.specs.Lowered.{steps_after, steps_of}
 use Rattle.orc_plan.specs.Lowered.{sizes_of, is_used}
 use Rattle.orc_plan.proofs.SlotSizes.{array_sized, used_sized}
-use Rattle.orc_region.specs.Code.{Action, Source, FromArray, FromPattern, FromPlace, FromSlot, Target, ToArray, ToSum, ToPlace, ToSlot, AreActions, plan_with}
+use Rattle.orc_region.specs.Code.{Action, Source, FromArray, FromPattern, FromPlace, FromSlot, Target, ToArray, ToSum, ToResident, ToPlace, ToSlot, AreActions, plan_with}
 use Rattle.orc_region.proofs.Block.Emulated.{IsCells}
 use Rattle.orc_region.proofs.Checked.Slots.{Limits, limits, SlotIs, slot_is}
 use Rattle.orc_region.proofs.Block.Actions.{IsMovedFrom, IsMovedTo}
@@ -127,6 +127,7 @@ module _ (f : FunctionValue) (h : is_function f ≡ true) where
     moved_to [] h = tt
     moved_to (ToArray k ∷ ts) h = (h.0.0, moved_to ts h.1)
     moved_to (ToSum g ∷ ts) h = (tt, moved_to ts h.1)
+    moved_to (ToResident g ∷ ts) h = (tt, moved_to ts h.1)
     moved_to (ToPlace p ∷ ts) h = (tt, moved_to ts h.1)
     moved_to (ToSlot k ∷ ts) h = (tt, moved_to ts h.1)
 

@@ -27,7 +27,7 @@ use Rattle.orc_frame.specs.Frame.{period}
 use Rattle.orc_frame.specs.Layout.{layout_of}
 use Rattle.orc_frame.proofs.Apart.{length-acc_sizes_of}
 use Rattle.orc_program.specs.declared.program.Pattern.{Pattern}
-use Rattle.orc_region.specs.Code.{Action, Source, FromArray, FromPattern, FromPlace, FromSlot, Target, ToArray, ToSum, ToPlace, ToSlot, slot_place, source_of, target_of, IsAction, AreActions, IsLoaded, IsStored, IsReady, patterns_in, first_register, second_register, at_pointer, unaligned, action_code, IsMoved}
+use Rattle.orc_region.specs.Code.{Action, Source, FromArray, FromPattern, FromPlace, FromSlot, Target, ToArray, ToSum, ToResident, ToPlace, ToSlot, slot_place, source_of, target_of, IsAction, AreActions, IsLoaded, IsStored, IsReady, patterns_in, first_register, second_register, at_pointer, unaligned, action_code, IsMoved, last_place}
 use Rattle.orc_region.proofs.Block.Cells.{Numbers, IsOf, IsTo, IsFrom, IsBeside, AreFrom, IsMade, AreTo, IsKept, IsKnown, AllKnown, live_target, live_targets, live_act, no_values}
 use Rattle.orc_region.proofs.Block.Emulated.{IsCells, IsSum, meant}
 use Rattle.orc_region.proofs.Block.Elements.{IsRead, AreRead, Follows, IsWritten, AreWritten, IsMeant, AreMeant}
@@ -41,6 +41,7 @@ use Rattle.orc_region.proofs.Sizes.Counts.{IsFromSlot, IsToSlot, IsMovable}
 use Rattle.orc_region.proofs.Sizes.Bytes.{fine_action}
 use Rattle.orc_region.proofs.Checked.Sized.{HasPrefix, first_period, second_period}
 use Rattle.orc_region.proofs.Checked.Direct.{pattern_of, number_of, IsSourced, IsTargeted}
+use Rattle.orc_region.proofs.Block.Sums.{SourceWithin, TargetWithin, sources_within, targets_within}
 use Rattle.orc_region.proofs.Checked.Acts.{AllPlaced, View, StandsIn, nothing_stands, place_in, AreSourced, AreTargeted, AreFollowed, IsClear, IsPlanned, ArePlanned, are_planned}
 use Rattle.orc_region.proofs.Checked.Layouts.{patterns_are, sizes_are}
 use Rattle.orc_region.proofs.Turn.SameSizes.{SameFrom, SameTo, SameFor}
@@ -51,14 +52,15 @@ use Rattle.orc_region.proofs.Checked.Fits.{slot_small, slot_same, slot_width, mo
 abbrev pub width_of : FunctionValue → ℕ → ℕ
 width_of f g = (var_at f.vars (slice_index (places_of kind.Accumulator f.vars) g)).size
 
--- the patterns and the running sums of a function in a call
-abbrev pub numbers_of : FunctionValue → Call → Numbers
-numbers_of f call = record {
+-- the patterns and the running sums of a function in a call, and the last of its values' places
+abbrev pub numbers_of : FunctionValue → List ℕ → Call → Numbers
+numbers_of f at call = record {
   patterns = length (patterns_in f);
   number = λ j. meant f call (number_of f j);
   period = λ j. period (pattern_of f j).way;
   sums = count_of kind.Accumulator f.vars;
   width = width_of f;
+  last = last_place at;
 }
 
 -- ---- an instruction's step
@@ -104,6 +106,7 @@ module _ (f : FunctionValue) (at : List ℕ) where
   is_written : (op : Op) (prefix position : ℕ) (o : Operand) (t : Target) → HasPrefix op prefix → IsTargeted f op prefix position o t → IsWritten f (size_of_result op position) prefix o t
   is_written op prefix position o (ToArray k) p h = (h.0, h.1, h.2, h.3, h.4)
   is_written op prefix position o (ToSum g) p h = (h.0, h.1, subst (IsSum f h.0) (one_size (size_of_result op position) prefix (p.one h.4)) h.2, h.3)
+  is_written op prefix position o (ToResident g) p h = (h.0, h.1, subst (IsSum f h.0) (one_size (size_of_result op position) prefix (p.one h.4)) h.2, h.3)
   is_written op prefix position o (ToPlace a) p h = (h.0, h.1, h.2)
   is_written op prefix position o (ToSlot k) p h = (h.0, h.1, h.2)
 
@@ -160,6 +163,7 @@ module _ (f : FunctionValue) (at : List ℕ) where
   sizes_after : (live : ℕ → ℕ) (op : Op) (prefix position : ℕ) (o : Operand) (t : Target) (V W : ℕ → ℕ → Type 0) → IsTargeted f op prefix position o t → Follows V o t W → AreSized f V live → AreSized f W (live_target live t (size_of_result op position * prefix))
   sizes_after live op prefix position o (ToArray k) V W h k' sizes x p w = sizes x p (k' x p w)
   sizes_after live op prefix position o (ToSum g) V W h k sizes x p w = sizes x p (k x p w)
+  sizes_after live op prefix position o (ToResident g) V W h k sizes x p w = sizes x p (k x p w)
   sizes_after live op prefix position o (ToPlace a) V W h k sizes x p w = temp_sizes live (size_of_result op position * prefix) o h.0 a V W h.1 h.3 k sizes x p w
   sizes_after live op prefix position o (ToSlot j) V W h k sizes x p w = temp_sizes live (size_of_result op position * prefix) o h.0 (slot_place j) V W h.1 h.3 k sizes x p w
 
@@ -177,7 +181,7 @@ module _ (f : FunctionValue) (at : List ℕ) where
 
 module _ (f : FunctionValue) (at : List ℕ) (call : Call) (n : ℕ) (base : ℕ → ℕ) (P : ℕ → Type 0) (has : (p b : ℕ) → IsCells f p b → IsOf n base (size_of_slot f.vars) P (slot_of f.vars p) b) (few : count_of kind.Dest f.vars ≤ 4) where
   abbrev Of : Numbers
-  Of = numbers_of f call
+  Of = numbers_of f at call
 
   abbrev From : (ℕ → ℕ) → ℕ → ℕ → Source → Type 0
   From = IsFrom n base (size_of_slot f.vars) P Of
@@ -233,6 +237,7 @@ module _ (f : FunctionValue) (at : List ℕ) (call : Call) (n : ℕ) (base : ℕ
   is_made : (op : Op) (prefix position : ℕ) (o : Operand) (t : Target) → is_sum (row op).kind ≡ false → IsTargeted f op prefix position o t → IsMade n base (size_of_slot f.vars) P Of (size_of_result op position * prefix) t
   is_made op prefix position o (ToArray k) plain h = is_array op prefix position o k h
   is_made op prefix position o (ToSum g) plain h = absurd (true≢false (sym h.4 ∙ plain))
+  is_made op prefix position o (ToResident g) plain h = absurd (true≢false (sym h.4 ∙ plain))
   is_made op prefix position o (ToPlace a) plain h = h.5
   is_made op prefix position o (ToSlot k) plain h = h.5
 
@@ -243,6 +248,9 @@ module _ (f : FunctionValue) (at : List ℕ) (call : Call) (n : ℕ) (base : ℕ
   are_to op prefix (x ∷ []) (ToSum g ∷ []) p h =
       let s = sum_number h.0 (size_of_result op 0 * prefix) g h.2 h.3 in
       (s.0, h.4, s.1 ∙ one_size (size_of_result op 0) prefix (p.one h.4), p.one h.4)
+  are_to op prefix (x ∷ []) (ToResident g ∷ []) p h =
+      let s = sum_number h.0 (size_of_result op 0 * prefix) g h.2 h.3 in
+      (s.0, h.4, s.1 ∙ one_size (size_of_result op 0) prefix (p.one h.4), p.one h.4)
   are_to op prefix (x ∷ []) (ToPlace a ∷ []) p h = (h.5, h.4)
   are_to op prefix (x ∷ []) (ToSlot k ∷ []) p h = (h.5, h.4)
   are_to op prefix (x ∷ []) (t ∷ u ∷ more) p h = absurd h
@@ -250,6 +258,7 @@ module _ (f : FunctionValue) (at : List ℕ) (call : Call) (n : ℕ) (base : ℕ
   are_to op prefix (x ∷ y ∷ []) (t ∷ []) p h = absurd h
   are_to op prefix (x ∷ y ∷ []) (ToArray k ∷ u ∷ []) p h = (is_array op prefix 0 x k h.0, h.2, is_made op prefix 1 y u h.2 h.1)
   are_to op prefix (x ∷ y ∷ []) (ToSum g ∷ u ∷ []) p h = absurd (true≢false (sym h.0.4 ∙ h.2))
+  are_to op prefix (x ∷ y ∷ []) (ToResident g ∷ u ∷ []) p h = absurd (true≢false (sym h.0.4 ∙ h.2))
   are_to op prefix (x ∷ y ∷ []) (ToPlace a ∷ u ∷ []) p h = (h.0.5, h.2, is_made op prefix 1 y u h.2 h.1)
   are_to op prefix (x ∷ y ∷ []) (ToSlot k ∷ u ∷ []) p h = (h.0.5, h.2, is_made op prefix 1 y u h.2 h.1)
   are_to op prefix (x ∷ y ∷ []) (t ∷ u ∷ v ∷ more) p h = absurd h
@@ -264,19 +273,22 @@ module _ (f : FunctionValue) (at : List ℕ) (call : Call) (n : ℕ) (base : ℕ
 
   -- an action of these targets and sources
   known_with : (live : ℕ → ℕ) (a : Action) (op : Op) (prefix : ℕ) (ts : List Target) (ss : List Source) → a.op ≡ op → a.prefix ≡ prefix → a.to ≡ ts → a.sources ≡ ss
-      → AreTo n base (size_of_slot f.vars) P Of op prefix ts → AreFrom n base (size_of_slot f.vars) P Of live op prefix ss → Each (IsClear ts) ss → first_register ts ≢ second_register ts → Known live a
-  known_with live a op prefix ts ss o k t s to from clear apart = record {
+      → AreTo n base (size_of_slot f.vars) P Of op prefix ts → AreFrom n base (size_of_slot f.vars) P Of live op prefix ss → Each (IsClear ts) ss → first_register ts ≢ second_register ts → Each (TargetWithin (last_place at)) ts → Each (SourceWithin (last_place at)) ss → Known live a
+  known_with live a op prefix ts ss o k t s to from clear apart to_in from_in = record {
     to = subst (λ o. AreTo n base (size_of_slot f.vars) P Of o a.prefix a.to) (sym o) (subst (λ k. AreTo n base (size_of_slot f.vars) P Of op k a.to) (sym k) (subst (AreTo n base (size_of_slot f.vars) P Of op prefix) (sym t) to));
     sources = subst (λ o. AreFrom n base (size_of_slot f.vars) P Of live o a.prefix a.sources) (sym o)
         (subst (λ k. AreFrom n base (size_of_slot f.vars) P Of live op k a.sources) (sym k) (subst (AreFrom n base (size_of_slot f.vars) P Of live op prefix) (sym s) from));
     kept = subst (λ (ts : List Target). Each (IsKept n base (size_of_slot f.vars) P Of ts) a.sources) (sym t) (subst (Each (IsKept n base (size_of_slot f.vars) P Of ts)) (sym s) (kept ts ss clear));
     apart = subst (λ (ts : List Target). first_register ts ≢ second_register ts) (sym t) apart;
+    to_within = subst (Each (TargetWithin (last_place at))) (sym t) to_in;
+    from_within = subst (Each (SourceWithin (last_place at))) (sym s) from_in;
   }
 
   known_one : (count : ℕ) (live : ℕ → ℕ) (temps : List ℕ) (insn : Insn) (rest : List Insn) (a : Action) → AreSized f (StandsIn at (temps, steps_from f temps (insn ∷ rest))) live → IsPlanned f at temps insn rest → IsAction at count (step_at f temps insn) a → Known live a
   known_one count live temps insn rest a sizes d is =
       known_with live a insn.op insn.prefix (targets_at f at temps insn) (sources_at f at temps insn) is.op is.prefix is.to is.sources (are_to insn.op insn.prefix insn.results.items (targets_at f at temps insn) d.prefix d.to)
       (are_from live temps (steps_from f temps (insn ∷ rest)) sizes insn.op insn.prefix insn.sources.items (sources_at f at temps insn) d.sources) d.clear d.apart
+      (targets_within at (result_items f.vars (length temps) insn.results.items)) (sources_within at (source_items f.vars (patterns_in f) temps insn.op 0 insn.sources.items))
 
   -- the sizes after an action
   sizes_on : (count : ℕ) (live : ℕ → ℕ) (temps : List ℕ) (insn : Insn) (rest : List Insn) (a : Action) → AreSized f (StandsIn at (temps, steps_from f temps (insn ∷ rest))) live → IsPlanned f at temps insn rest → IsAction at count (step_at f temps insn) a
@@ -312,6 +324,7 @@ module _ (f : FunctionValue) (h : is_function f ≡ true) (at : List ℕ) (count
   to_slot : (op : Op) (prefix position : ℕ) (o : Operand) (t : Target) → IsTargeted f op prefix position o t → IsToSlot count (size_of_slot f.vars) t
   to_slot op prefix position o (ToArray k) d = subst (λ k. IsWidth (count * size_of_slot f.vars k) × (k < 12)) d.4 (slot_width f h count is_count d.0 (size_of_result op position * prefix) d.2, slot_small f h d.0 (size_of_result op position * prefix) d.2)
   to_slot op prefix position o (ToSum g) d = let l = before_less kind.Accumulator f.vars d.0 d.2.inside (ap (same_kind kind.Accumulator) d.2.sum) in omega (arith, l, d.3, (limits f h).accs)
+  to_slot op prefix position o (ToResident g) d = let l = before_less kind.Accumulator f.vars d.0 d.2.inside (ap (same_kind kind.Accumulator) d.2.sum) in omega (arith, l, d.3, (limits f h).accs)
   to_slot op prefix position o (ToPlace a) d = d.5
   to_slot op prefix position o (ToSlot k) d = d.5
 
@@ -343,12 +356,16 @@ module _ (f : FunctionValue) (h : is_function f ≡ true) (at : List ℕ) (count
   to_stored op prefix position o (ToSum g) d =
       let l = before_less kind.Accumulator f.vars d.0 d.2.inside (ap (same_kind kind.Accumulator) d.2.sum) in
       omega (arith, l, d.3, ap length (sizes_are f), length-acc_sizes_of f)
+  to_stored op prefix position o (ToResident g) d =
+      let l = before_less kind.Accumulator f.vars d.0 d.2.inside (ap (same_kind kind.Accumulator) d.2.sum) in
+      omega (arith, l, d.3, ap length (sizes_are f), length-acc_sizes_of f)
   to_stored op prefix position o (ToPlace a) d = d.5
   to_stored op prefix position o (ToSlot k) d = d.5
 
   to_same : (op : Op) (prefix position : ℕ) (o : Operand) (t : Target) → IsTargeted f op prefix position o t → SameTo sizes (size_of_slot f.vars) t
   to_same op prefix position o (ToArray k) d = same_size d.0 (size_of_result op position * prefix) k d.2 d.4
   to_same op prefix position o (ToSum g) d = tt
+  to_same op prefix position o (ToResident g) d = tt
   to_same op prefix position o (ToPlace a) d = tt
   to_same op prefix position o (ToSlot k) d = tt
 
@@ -390,6 +407,7 @@ module _ (f : FunctionValue) (h : is_function f ≡ true) (at : List ℕ) (count
       let e : to_price o ≡ 2 = ap to_price d.1 ∙ ap price_of_kind d.3 in omega (arith, e)
   to_cost op prefix position o (ToSum g) d =
       let e : to_price o ≡ 2 = ap to_price d.1 ∙ ap price_of_kind d.2.sum in omega (arith, e)
+  to_cost op prefix position o (ToResident g) d = omega arith
   to_cost op prefix position o (ToPlace a) d = omega arith
   to_cost op prefix position o (ToSlot k) d =
       let e : to_price o ≡ 1 = ap to_price d.1 ∙ ap price_of_kind d.2 ∙ ap (λ b. if b && true then 1 else 0) d.6 in omega (arith, e)

@@ -17,7 +17,7 @@ use Rattle.x86_ins.specs.Way.{Each}
 use Rattle.x86_flow.specs.Moves.{IsWidth, away, store_either_code}
 use Rattle.x86_flow.proofs.Spelled.{IsFine, fine_alu_imm, fits_up, each_both, fine_load_far, fine_store_far, fine_aligned_store, fine_vec_load, fine_vec_store}
 use Rattle.orc_frame.specs.Layout.{pattern_slot, sum_slot, spill_slot}
-use Rattle.orc_region.specs.Code.{Action, IsRule, Source, FromArray, FromPattern, FromPlace, FromSlot, Target, ToArray, ToSum, ToPlace, ToSlot, Plan, pointer, place_register, made_in, first_register, second_register, rule_register, rule_code, AreBlocks, IsBlocksTurn, far_by, source_far_code, sources_far_code, sum_code, result_far_code, results_far_code, action_far_code, actions_far_code, advance_code}
+use Rattle.orc_region.specs.Code.{Action, IsRule, Source, FromArray, FromPattern, FromPlace, FromSlot, Target, ToArray, ToSum, ToResident, ToPlace, ToSlot, Plan, pointer, place_register, made_in, sum_home, first_register, second_register, third_register, rule_register, rule_code, AreBlocks, IsBlocksTurn, far_by, source_far_code, sources_far_code, sum_code, result_far_code, results_far_code, action_far_code, actions_far_code, advance_code}
 use Rattle.orc_region.proofs.Block.Keeping.{ins_of}
 use Rattle.orc_region.proofs.Block.RuleRegisters.{register_small}
 use Rattle.orc_region.proofs.Sizes.Cost.{from_weights, to_weights, weights}
@@ -67,6 +67,7 @@ module _ (count : ℕ) (size far : ℕ → ℕ) (aligned : ℕ → Bool) (near :
   fine_sum : (ts : List Target) → Each (IsToSlot count size) ts → Each IsFine (sum_code ts)
   fine_sum [] h = tt
   fine_sum (ToArray k ∷ more) h = tt
+  fine_sum (ToResident g ∷ more) h = tt
   fine_sum (ToPlace p ∷ more) h = tt
   fine_sum (ToSlot k ∷ more) h = tt
   fine_sum (ToSum g ∷ more) h = (fine_vec_load Movdqu 2 (away 4 (sum_slot g)) (omega arith) (omega arith) (fits_up (sum_slot g) (let l : g < 4 = h.0 in omega (arith, l))), tt)
@@ -74,6 +75,7 @@ module _ (count : ℕ) (size far : ℕ → ℕ) (aligned : ℕ → Bool) (near :
   fine_result : (x : ℕ) (t : Target) → x < 16 → IsToSlot count size t → Each IsFine (result_far_code count size far aligned x t)
   fine_result x (ToArray k) l h = fine_store_either (aligned k) (count * size k) x (pointer k) (far k) h.0 l (pointer_small k h.1) (near k)
   fine_result x (ToSum g) l h = (fine_vec_store Movdqu 2 (away 4 (sum_slot g)) (omega arith) (omega arith) (fits_up (sum_slot g) (omega (arith, h))), tt)
+  fine_result x (ToResident g) l h = tt
   fine_result x (ToPlace p) l h = tt
   fine_result x (ToSlot k) l h = (fine_vec_store Movdqu x (away 4 (spill_slot k)) l (omega arith) (fits_up (spill_slot k) (omega (arith, h))), tt)
 
@@ -86,6 +88,7 @@ module _ (count : ℕ) (size far : ℕ → ℕ) (aligned : ℕ → Bool) (near :
   made_small : (x : ℕ) (t : Target) → x < 16 → IsToSlot count size t → made_in x t < 16
   made_small x (ToArray k) l h = l
   made_small x (ToSum g) l h = l
+  made_small x (ToResident g) l h = l
   made_small x (ToPlace p) l h = omega (arith, h)
   made_small x (ToSlot k) l h = l
 
@@ -98,10 +101,21 @@ module _ (count : ℕ) (size far : ℕ → ℕ) (aligned : ℕ → Bool) (near :
   second_small (t ∷ []) h = omega arith
   second_small (t ∷ u ∷ more) h = made_small 1 u (omega arith) h.1.0
 
+  home_small : (t : Target) → IsToSlot count size t → sum_home t < 16
+  home_small (ToArray k) h = omega arith
+  home_small (ToSum g) h = omega arith
+  home_small (ToResident g) h = omega arith
+  home_small (ToPlace p) h = omega arith
+  home_small (ToSlot k) h = omega arith
+
+  third_small : (ts : List Target) → Each (IsToSlot count size) ts → third_register ts < 16
+  third_small [] h = omega arith
+  third_small (t ∷ more) h = home_small t h.0
+
   fine_renamed : (a : Action) → IsMovable count size a → Each IsFine (rule_code a)
   fine_renamed a h =
       let f : ℕ → ℕ = rule_register a.to in
-      fine_rule (rule_code a) (simd_renamed f a.rule ∙ vectors_of count a.op a.rule h.rule) (each_renamed f (register_small a.to (first_small a.to h.to) (second_small a.to h.to)) a.rule h.rule.known)
+      fine_rule (rule_code a) (simd_renamed f a.rule ∙ vectors_of count a.op a.rule h.rule) (each_renamed f (register_small a.to (first_small a.to h.to) (second_small a.to h.to) (third_small a.to h.to)) a.rule h.rule.known)
 
   pub fine_action : (a : Action) → IsMovable count size a → Each IsFine (action_far_code count size far aligned a)
   fine_action a h =
@@ -132,6 +146,7 @@ to_few : (ts : List Target) → to_weights ts ≤ 2 * length ts
 to_few [] = omega arith
 to_few (ToArray k ∷ ts) = omega (arith, to_few ts)
 to_few (ToSum g ∷ ts) = omega (arith, to_few ts)
+to_few (ToResident g ∷ ts) = omega (arith, to_few ts)
 to_few (ToPlace p ∷ ts) = omega (arith, to_few ts)
 to_few (ToSlot k ∷ ts) = omega (arith, to_few ts)
 

@@ -1,6 +1,6 @@
--- The steps of actions: two instructions for each array that is read or written and for each sum, one for each other source and for a result that goes to a spill slot, none for one that goes to a place's register, and a rule.
+-- The steps of actions: two instructions for each array that is read or written and for each sum of the frame, one for each other source and for a result that goes to a spill slot, none for one that goes to a register of its own, and a rule.
 use Rattle.std.proofs.Common.{ℕ, ◌+◌, List, [], ◌∷◌, length}
-use Rattle.orc_region.specs.Code.{Action, Source, FromArray, FromPattern, FromPlace, FromSlot, Target, ToArray, ToSum, ToPlace, ToSlot}
+use Rattle.orc_region.specs.Code.{Action, Source, FromArray, FromPattern, FromPlace, FromSlot, Target, ToArray, ToSum, ToResident, ToPlace, ToSlot}
 
 abbrev pub from_weight : Source → ℕ
 from_weight (FromArray k) = 2
@@ -15,6 +15,7 @@ from_weights (s ∷ rest) = from_weight s + from_weights rest
 abbrev pub to_weight : Target → ℕ
 to_weight (ToArray k) = 2
 to_weight (ToSum g) = 2
+to_weight (ToResident g) = 0
 to_weight (ToPlace p) = 0
 to_weight (ToSlot k) = 1
 

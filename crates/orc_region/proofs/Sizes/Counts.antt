@@ -10,7 +10,7 @@ use Rattle.x86_flow.specs.Moves.{IsWidth, load_far_code, store_either_code}
 use Rattle.x86_flow.proofs.Moves.{each_width}
 use Rattle.orc_program.specs.Need.{registers}
 use Rattle.orc_frame.specs.Layout.{spill_slots}
-use Rattle.orc_region.specs.Code.{Action, IsRule, Source, FromArray, FromPattern, FromPlace, FromSlot, Target, ToArray, ToSum, ToPlace, ToSlot, AreBlocks, IsBlocksTurn, pointer, far_by, first_register, second_register, rule_register, rule_code, source_far_code, sources_far_code, sum_code, result_far_code, results_far_code, action_far_code, actions_far_code, advance_code}
+use Rattle.orc_region.specs.Code.{Action, IsRule, Source, FromArray, FromPattern, FromPlace, FromSlot, Target, ToArray, ToSum, ToResident, ToPlace, ToSlot, AreBlocks, IsBlocksTurn, pointer, far_by, first_register, second_register, rule_register, rule_code, source_far_code, sources_far_code, sum_code, result_far_code, results_far_code, action_far_code, actions_far_code, advance_code}
 use Rattle.orc_region.proofs.Sizes.Cost.{from_weight, from_weights, to_weight, to_weights, weight, weights}
 
 -- a slot of an array whose elements can be moved so many at once, one of the frame, or a place's register
@@ -23,6 +23,7 @@ IsFromSlot count size (FromSlot k) = k < spill_slots
 abbrev pub IsToSlot : ℕ → (ℕ → ℕ) → Target → Type 0
 IsToSlot count size (ToArray k) = IsWidth (count * size k) × (k < 12)
 IsToSlot count size (ToSum g) = g < 4
+IsToSlot count size (ToResident g) = g < 4
 IsToSlot count size (ToPlace p) = p < registers
 IsToSlot count size (ToSlot k) = k < spill_slots
 
@@ -56,12 +57,14 @@ module _ (count : ℕ) (size far : ℕ → ℕ) (aligned : ℕ → Bool) where
   result_length : (x : ℕ) (t : Target) → IsToSlot count size t → length (sum_code (t ∷ [])) + length (result_far_code count size far aligned x t) ≤ to_weight t
   result_length x (ToArray k) h = let l = store_count (aligned k) (count * size k) x (pointer k) (far k) h.0 in omega (arith, l)
   result_length x (ToSum g) h = omega arith
+  result_length x (ToResident g) h = omega arith
   result_length x (ToPlace p) h = omega arith
   result_length x (ToSlot k) h = omega arith
 
   sum_first : (t : Target) (more : List Target) → length (sum_code (t ∷ more)) ≡ length (sum_code (t ∷ []))
   sum_first (ToArray k) more = refl
   sum_first (ToSum g) more = refl
+  sum_first (ToResident g) more = refl
   sum_first (ToPlace p) more = refl
   sum_first (ToSlot k) more = refl
 

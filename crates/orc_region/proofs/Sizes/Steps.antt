@@ -7,7 +7,7 @@ abbrev pub regions_of : ℕ → ℕ → ℕ → ℕ → ℕ
 regions_of besides lanes turn n = besides + turns lanes n * (2 + turn)
 
 -- what is left for a row's elements besides their turns: 17 and 3 for each array
-pub regions_steps : (lanes cost patterns sums arrays lists besides turn n rows : ℕ) → lists ≤ 15 + 8 * patterns + 16 * sums → turn ≤ cost + arrays + 4 → besides ≤ 17 + 3 * arrays → arrays ≤ 12
+pub regions_steps : (lanes cost patterns sums arrays lists besides turn n rows : ℕ) → lists ≤ 23 + 8 * patterns + 16 * sums → turn ≤ cost + arrays + 4 → besides ≤ 17 + 3 * arrays → arrays ≤ 12
     → lists + (2 * arrays + 3) + (1 + rows * (2 + (regions_of besides lanes turn n + 5 * arrays + 5))) + 1 ≤ steps_with lanes cost patterns sums arrays n rows
 regions_steps lanes cost patterns sums arrays lists besides turn n rows short few_turn few_besides few =
     let t = turns lanes n in

@@ -17,11 +17,11 @@ use Rattle.x86_flow.proofs.Moves.{line_append}
 use Rattle.x86_flow.proofs.Touching.{touches_none}
 use Rattle.x86_flow.proofs.Plans.{line_map}
 use Rattle.orc_frame.specs.Parts.{InChanged}
-use Rattle.orc_region.specs.Code.{Plan, Action, AreBlocks, IsBlocksTurn, pointer, far_by, action_far_code, actions_far_code, advance_code}
+use Rattle.orc_region.specs.Code.{Plan, Action, AreBlocks, IsBlocksTurn, pointer, sum_register, far_by, action_far_code, actions_far_code, advance_code}
 use Rattle.orc_region.proofs.Block.Registers.{not_0, not_1, not_4, not_7, pointer_one}
 use Rattle.sse_acc.specs.Sums.{sum_below}
 use Rattle.orc_region.proofs.Block.Cells.{Numbers, OfDests, Local, no_values, Lanes, Others, AtElements, AllKnown, Decided, Low, local, adds, elements_or_not, same_end}
-use Rattle.orc_region.proofs.Block.Frames.{Framed}
+use Rattle.orc_region.proofs.Block.Frames.{Framed, framed_same}
 use Rattle.orc_region.proofs.Arithmetic.Digits.{number_of, digit_of}
 use Rattle.orc_region.proofs.Block.Keeping.{line_bounded}
 use Rattle.orc_region.proofs.Row.Counters.{Tested}
@@ -33,10 +33,11 @@ pub record Advanced (size : ℕ → ℕ) (count first m : ℕ) (c d : Core) : Ty
   pub moved : (k : ℕ) → first ≤ k → k < first + m → d.gpr (pointer k) ≡ (c.gpr (pointer k) + count * size k) % 2 ^ 64
   pub others : (r : ℕ) → ((k : ℕ) → first ≤ k → k < first + m → r ≢ pointer k) → d.gpr r ≡ c.gpr r
   pub memory : d.memory ≡ c.memory
+  pub xmm : d.xmm ≡ c.xmm
 
 module _ (Q : Core → Ins → Type 0) (size : ℕ → ℕ) (count : ℕ) where
   pub advance_line : (first m : ℕ) (c : Core) → ((u : Core) (i : Ins) → u.memory ≡ c.memory → u.gpr 4 ≡ c.gpr 4 → (span i u).1 ≡ 0 → Q u i) → (d : Core) × Line Q (advance_code size count first m) c d × Advanced size count first m c d
-  advance_line first zero c keeps = (c, refl, record { moved = λ k l h. absurd (omega (arith, l, h)); others = λ r h. refl; memory = refl })
+  advance_line first zero c keeps = (c, refl, record { moved = λ k l h. absurd (omega (arith, l, h)); others = λ r h. refl; memory = refl; xmm = refl })
   advance_line first (suc m) c keeps =
       let a = advance_line first m c keeps in
       let b = a.0 in
@@ -58,6 +59,7 @@ module _ (Q : Core → Ins → Type 0) (size : ℕ → ℕ) (count : ℕ) where
           moved = λ k l h. go k l h (cases_eq k (first + m));
           others = λ x h. change_other b.gpr r new x (h (first + m) (omega arith) (omega arith)) ∙ g.others x (λ k l s. h k l (omega (arith, s)));
           memory = g.memory;
+          xmm = g.xmm;
         },
       )
 
@@ -108,7 +110,7 @@ module _ (n : ℕ) (base : ℕ → ℕ) (P : ℕ → Type 0) (numbers : Numbers)
       pub calm : Calm c
       pub agree : (a : ℕ) → (F a → ⊥) → c.memory a ≡ e a
       pub mapped : (a : ℕ) → IsCell a → IsMapped e a
-      pub framed : Framed numbers rsp c.memory totals
+      pub framed : Framed numbers rsp c totals
       pub bounded : Bounded c
 
     -- ---- a block of so many elements
@@ -280,7 +282,7 @@ module _ (n : ℕ) (base : ℕ → ℕ) (P : ℕ → Type 0) (numbers : Numbers)
               calm = record { stack = calm.stack; quiet = calm.quiet };
               agree = λ t nf. ap (λ f. f t) memory ∙ g.agree t nf;
               mapped = g.mapped;
-              framed = subst (λ m. Framed numbers rsp m new) (sym memory) g.framed;
+              framed = framed_same numbers rsp set.ground.frame b d new (λ t l u. ap (λ f. f t) memory) (λ k l. ap (λ f. f (sum_register k)) (y.2.xmm ∙ x.2.xmm)) g.framed;
               bounded = line_bounded Q (code ++ (advance_code p.size by 0 p.dests ++ (advance_code p.size by 4 p.sources ++ AluImm Sub 1 (pos by) ∷ []))) c d known line bounded;
             },
             fewer_is,

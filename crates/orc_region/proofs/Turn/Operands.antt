@@ -17,7 +17,7 @@ use Rattle.orc_frame.specs.Function.{array_operands, subject_of}
 use Rattle.x86_ins.specs.declared.ins.Ins.{Ins}
 use Rattle.x86_flow.specs.Touching.{touch_weight}
 use Rattle.x86_flow.proofs.Plans.{weigh}
-use Rattle.orc_region.specs.Code.{Action, Source, FromArray, FromPattern, FromPlace, FromSlot, Target, ToArray, ToSum, ToPlace, ToSlot, source_of, target_of, IsAction, AreActions, patterns_in, aligned_first, IsTurnOf}
+use Rattle.orc_region.specs.Code.{Action, Source, FromArray, FromPattern, FromPlace, FromSlot, Target, ToArray, ToSum, ToResident, ToPlace, ToSlot, source_of, target_of, IsAction, AreActions, patterns_in, aligned_first, IsTurnOf}
 use Rattle.orc_region.proofs.Checked.Direct.{IsSourced, IsTargeted}
 use Rattle.orc_region.proofs.Checked.Acts.{AllPlaced, AreSourced, AreTargeted, IsPlanned, ArePlanned, are_planned}
 use Rattle.orc_region.proofs.Checked.Several.{IsCount}
@@ -49,6 +49,7 @@ module _ (f : FunctionValue) (at : List ℕ) where
   to_one : (op : Op) (prefix position : ℕ) (o : Operand) (t : Target) → IsTargeted f op prefix position o t → to_arrays (t ∷ []) ≤ one o
   to_one op prefix position o (ToArray k) d = (let e : one o ≡ 1 = ap one d.1 ∙ ap of_kind d.3 in omega (arith, e))
   to_one op prefix position o (ToSum g) d = omega arith
+  to_one op prefix position o (ToResident g) d = omega arith
   to_one op prefix position o (ToPlace a) d = omega arith
   to_one op prefix position o (ToSlot k) d = omega arith
 

@@ -5,7 +5,7 @@ use Rattle.x86_ins.specs.declared.ins.Ins.{Ins}
 use Rattle.x86_ins.specs.declared.ins.Ins.TheVariants.{AluImm}
 use Rattle.x86_ins.specs.Way.{Each}
 use Rattle.x86_flow.specs.Moves.{load_far_code, store_either_code}
-use Rattle.orc_region.specs.Code.{Action, Source, FromArray, FromPattern, FromPlace, FromSlot, Target, ToArray, ToSum, ToPlace, ToSlot, pointer, first_register, second_register, rule_code, source_far_code, sources_far_code, sum_code, result_far_code, results_far_code, actions_far_code, advance_code}
+use Rattle.orc_region.specs.Code.{Action, Source, FromArray, FromPattern, FromPlace, FromSlot, Target, ToArray, ToSum, ToResident, ToPlace, ToSlot, pointer, first_register, second_register, rule_code, source_far_code, sources_far_code, sum_code, result_far_code, results_far_code, actions_far_code, advance_code}
 
 module _ (size other : ℕ → ℕ) where
   abbrev pub SameFrom : Source → Type 0
@@ -17,6 +17,7 @@ module _ (size other : ℕ → ℕ) where
   abbrev pub SameTo : Target → Type 0
   SameTo (ToArray k) = size k ≡ other k
   SameTo (ToSum g) = Unit {0}
+  SameTo (ToResident g) = Unit {0}
   SameTo (ToPlace p) = Unit {0}
   SameTo (ToSlot k) = Unit {0}
 
@@ -38,6 +39,7 @@ module _ (size other : ℕ → ℕ) where
     same_result : (x : ℕ) (t : Target) → SameTo t → result_far_code count size far aligned x t ≡ result_far_code count other away aligned x t
     same_result x (ToArray k) h = ap₂ (λ n d. store_either_code (aligned k) (count * n) x (pointer k) d) h (same k h)
     same_result x (ToSum g) h = refl
+    same_result x (ToResident g) h = refl
     same_result x (ToPlace p) h = refl
     same_result x (ToSlot k) h = refl
 

@@ -8,7 +8,7 @@ use Rattle.x86_flow.specs.Moves.{IsWidth, store_either_code}
 use Rattle.x86_flow.specs.Touching.{weight_by, touch_weight}
 use Rattle.x86_flow.proofs.Plans.{weigh, weigh_append}
 use Rattle.x86_flow.proofs.Moves.{load_weight, store_weight, aligned_store_weight}
-use Rattle.orc_region.specs.Code.{Action, IsRule, Source, FromArray, FromPattern, FromPlace, FromSlot, Target, ToArray, ToSum, ToPlace, ToSlot, AreBlocks, IsBlocksTurn, pointer, far_by, first_register, second_register, rule_code, source_far_code, sources_far_code, sum_code, result_far_code, results_far_code, action_far_code, actions_far_code, advance_code}
+use Rattle.orc_region.specs.Code.{Action, IsRule, Source, FromArray, FromPattern, FromPlace, FromSlot, Target, ToArray, ToSum, ToResident, ToPlace, ToSlot, AreBlocks, IsBlocksTurn, pointer, far_by, first_register, second_register, rule_code, source_far_code, sources_far_code, sum_code, result_far_code, results_far_code, action_far_code, actions_far_code, advance_code}
 use Rattle.orc_region.proofs.Block.Touched.{GoesNowhere, rule_nowhere}
 use Rattle.orc_region.proofs.Block.Actions.{IsMovedFrom, IsMovedTo, IsFit}
 
@@ -25,6 +25,7 @@ abbrev pub to_arrays : List Target → ℕ
 to_arrays [] = 0
 to_arrays (ToArray k ∷ rest) = 1 + to_arrays rest
 to_arrays (ToSum g ∷ rest) = to_arrays rest
+to_arrays (ToResident g ∷ rest) = to_arrays rest
 to_arrays (ToPlace p ∷ rest) = to_arrays rest
 to_arrays (ToSlot k ∷ rest) = to_arrays rest
 
@@ -41,6 +42,7 @@ from_front (FromSlot k) more = omega arith
 pub to_front : (t : Target) (more : List Target) → to_arrays (t ∷ more) ≡ to_arrays (t ∷ []) + to_arrays more
 to_front (ToArray k) more = omega arith
 to_front (ToSum g) more = omega arith
+to_front (ToResident g) more = omega arith
 to_front (ToPlace p) more = omega arith
 to_front (ToSlot k) more = omega arith
 
@@ -87,6 +89,7 @@ module _ (by : ℕ → Bool) (by_stack : by 4 ≡ false) where
     to_few : (x : ℕ) (t : Target) → IsMovedTo count size t → weigh v (result_far_code count size far aligned x t) ≤ to_arrays (t ∷ [])
     to_few x (ToArray k) h = either_few (aligned k) (count * size k) x (pointer k) (far k) h
     to_few x (ToSum g) h = omega (arith, none_4)
+    to_few x (ToResident g) h = omega arith
     to_few x (ToPlace p) h = omega arith
     to_few x (ToSlot k) h = omega (arith, none_4)
 
@@ -94,6 +97,7 @@ module _ (by : ℕ → Bool) (by_stack : by 4 ≡ false) where
     sum_free [] = refl
     sum_free (ToArray k ∷ rest) = refl
     sum_free (ToSum g ∷ rest) = omega (arith, none_4)
+    sum_free (ToResident g ∷ rest) = refl
     sum_free (ToPlace p ∷ rest) = refl
     sum_free (ToSlot k ∷ rest) = refl
 

@@ -1,4 +1,7 @@
 //! What a run leaves where its streams fail.
+
+ghost use Rattle.std.specs.Prelude.{◌<◌};
+
 use super::{ADD8, DEMO, Outcome, Stream, VOLUME, run, run_with};
 use crate::Status;
 use std::alloc::{AllocError, Global};
@@ -25,7 +28,7 @@ fn takes_fail(
     input: &[u8],
 ) -> Result<(), AllocError> {
     for call in 1..u64::MAX {
-        let ran = run_with(alloc, words, input, 60_000, Some((Stream::Input, call)))?;
+        let ran = run_with(alloc, words, input, 60_000, 7, Some((Stream::Input, call)))?;
         if !ran.failed {
             return Ok(());
         }
@@ -47,18 +50,21 @@ fn held(ran: &Outcome, sink: Stream) -> (&[u8], &[u8]) {
     }
 }
 
-/// Runs with one failing put to a sink after the other, until none fails.
+/// Runs with one failing put of so many bytes to a sink after the other, until none fails.
 fn puts_fail(
     rt: &impl Abort,
     alloc: Global,
     words: &[&str],
     input: &[u8],
     sink: Stream,
-) -> Result<(), AllocError> {
+    most: usize,
+) -> Result<(), AllocError>
+    requires { 0 < most }
+{
     let whole = run(alloc, words, input)?;
     let mut before = Vec::new(alloc);
-    for (call, piece) in (1..u64::MAX).zip(held(&whole, sink).0.chunks(7)) {
-        let ran = run_with(alloc, words, input, 60_000, Some((sink, call)))?;
+    for (call, piece) in (1..u64::MAX).zip(held(&whole, sink).0.chunks(most)) {
+        let ran = run_with(alloc, words, input, 60_000, most, Some((sink, call)))?;
         assert_eq!(rt; ran.status, Status::WriteFault, "{words:?} {call}");
         let (cut, other) = held(&ran, sink);
         assert!(rt;
@@ -80,7 +86,7 @@ fn each_call_fails(
     let whole = run(alloc, words, input)?;
     assert_eq!(rt; whole.status, Status::Done, "{words:?}");
     takes_fail(rt, alloc, words, input)?;
-    puts_fail(rt, alloc, words, input, Stream::Output)
+    puts_fail(rt, alloc, words, input, Stream::Output, 7)
 }
 
 #[test]
@@ -96,17 +102,15 @@ fn a_failing_stream_is_told(rt: HostRuntime) -> Result<(), AllocError> {
     each_call_fails(&rt, alloc, &["jobs", "2", "5"], called.as_slice())?;
     let meant = [ADD8.as_bytes(), b"%%\n", JOB.as_bytes()].concat(alloc)?;
     each_call_fails(&rt, alloc, &["emulate"], meant.as_slice())?;
-    // Of `gen` one put alone, since each run makes eight functions and runs them.
-    let ran = run_with(alloc, &["gen", "7"], b"", 60_000, Some((Stream::Output, 2)))?;
-    assert_eq!(rt; ran.status, Status::WriteFault);
-    assert!(rt; ran.output.as_slice() == b"g0 sum ".as_slice() && ran.notes.is_empty());
-    puts_fail(&rt, alloc, &["asm"], b"x", Stream::Notes)?;
-    puts_fail(&rt, alloc, &[], b"", Stream::Notes)
+    // Each run of `gen` makes eight functions and runs them, so its puts are longer and fewer.
+    puts_fail(&rt, alloc, &["gen", "7"], b"", Stream::Output, 96)?;
+    puts_fail(&rt, alloc, &["asm"], b"x", Stream::Notes, 7)?;
+    puts_fail(&rt, alloc, &[], b"", Stream::Notes, 7)
 }
 
 #[test]
 fn a_full_output_holds_what_fits(rt: HostRuntime) -> Result<(), AllocError> {
-    let ran = run_with(rt.alloc(), &["fmt"], ADD8.as_bytes(), 10, None)?;
+    let ran = run_with(rt.alloc(), &["fmt"], ADD8.as_bytes(), 10, 7, None)?;
     assert_eq!(rt; ran.status, Status::WriteFault);
     assert!(rt; ran.output.as_slice() == b".function ".as_slice() && ran.notes.is_empty());
     Ok(())

@@ -1,4 +1,5 @@
-use Rattle.std.proofs.Common.{ap, ◌≡◌, ◌∙◌, ℕ, List}
+use Rattle.std.proofs.Common.{ap, ◌≡◌, ◌∙◌, ◌++◌, ℕ, List}
+use Rattle.x86_ins.specs.declared.ins.Ins.{Ins}
 use Rattle.x86_flow.specs.Flow.{Plain, spell_all, with_return}
 use Rattle.x86_flow.specs.Tree.{flat_of}
 use Rattle.orc_frame.specs.declared.frame.Layout.{Layout}
@@ -9,7 +10,7 @@ use Rattle.orc_region.specs.Code.{IsElements}
 use Rattle.orc_region.specs.Elements.{AreOf}
 use Rattle.orc_asm.specs.Function.{RunsFully}
 use Rattle.orc_asm.specs.Rows.{whole_flow}
-use Rattle.orc_asm.proofs.Function.Whole.{HasCodeLength, list_slices, whole_runs}
+use Rattle.orc_asm.proofs.Function.Whole.{HasCodeLength, whole_runs, front_spelled, behind_spelled}
 use Rattle.orc_asm.proofs.assembly.code_of.Goals as goal
 use Rattle.orc_asm.proofs.assembly.code_of.Goals.{After-whole_code}
 
@@ -21,18 +22,25 @@ row_flow-requires c = record {
 pub whole_code-requires-clause-few : goal.whole_code-requires-clause-few
 whole_code-requires-clause-few c =
     let are : AreOf c.args.f.now c.args.placed.now c.layout-layout.result = record { kept = c.counts_of-counts.ensures.kept; steps = c.requires.steps; sizes = c.requires.sizes; lanes = c.requires.lanes; layout = c.layout-layout.ensures.value } in
-    elements_few c.args.f.now c.counts_of-counts.ensures.kept _ (c.in_ok-elements.ensures.is c.args.f.now are)
+    elements_few c.args.f.now c.counts_of-counts.ensures.kept c.args.placed.now.places _ (c.in_ok-elements.ensures.is c.args.f.now are)
+
+pub whole_code-requires-clause-first_spelled : goal.whole_code-requires-clause-first_spelled
+whole_code-requires-clause-first_spelled c = front_spelled c.args.f.now c.counts_of-counts.ensures.kept c.layout-layout.result c.layout-layout.ensures.value c.args.placed.now.places c.in_ok-first.first c.as_slice.result.now c.in_ok-first.ensures.allowed
+    (c.as_slice.ensures ∙ c.in_ok-append.ensures ∙ ap (λ (l : List Ins). c.in_ok-first.first ++ l) c.in_ok-sum_loads.ensures)
+
+pub whole_code-requires-clause-last_spelled : goal.whole_code-requires-clause-last_spelled
+whole_code-requires-clause-last_spelled c = behind_spelled c.args.f.now c.counts_of-counts.ensures.kept c.layout-layout.result c.layout-layout.ensures.value c.args.placed.now.places c.in_ok-epilogue.field-0 c.as_slice-2.result.now c.in_ok-epilogue.ensures.allowed
+    (c.as_slice-2.ensures ∙ c.in_ok-append-2.ensures ∙ ap (λ (l : List Ins). l ++ c.in_ok-epilogue.field-0) c.in_ok-last.ensures)
 
 -- the tree does the function's elements
-elements_are : (c : After-whole_code) → IsElements c.args.f.now c.in_ok-elements.elements
+elements_are : (c : After-whole_code) → IsElements c.args.f.now c.args.placed.now.places c.in_ok-elements.elements
 elements_are c = c.in_ok-elements.ensures.is c.args.f.now (record { kept = c.counts_of-counts.ensures.kept; steps = c.requires.steps; sizes = c.requires.sizes; lanes = c.requires.lanes; layout = c.layout-layout.ensures.value })
 
 -- the bytes of the rows between the frame's lists
 runs : (c : After-whole_code) (code : List ℕ)
     → code ≡ spell_all (with_return (whole_flow c.as_slice.result.now (Plain (flat_of c.in_ok-elements.elements)) c.as_slice-2.result.now c.layout-layout.result.two_d c.counts_of-counts.result.dests c.counts_of-counts.result.sources))
     → RunsFully c.args.f.now code × HasCodeLength code
-runs c code e = whole_runs c.args.f.now c.counts_of-counts.ensures.kept c.layout-layout.result c.as_slice.result.now c.as_slice-2.result.now
-    (list_slices c.args.f.now c.layout-layout.result _ _ c.as_slice.result.now c.as_slice-2.result.now c.as_slice.ensures c.as_slice-2.ensures
+runs c code e = whole_runs c.args.f.now c.counts_of-counts.ensures.kept c.layout-layout.result c.in_ok-first.first c.in_ok-epilogue.field-0
     (record {
       layout = c.layout-layout.ensures.value;
       prepares = c.in_ok-first.ensures.prepares;
@@ -40,13 +48,15 @@ runs c code e = whole_runs c.args.f.now c.counts_of-counts.ensures.kept c.layout
       first_allowed = c.in_ok-first.ensures.allowed;
       first_bytes = c.in_ok-first.ensures.bytes;
       first_short = c.in_ok-first.ensures.short;
-      finishes = c.in_ok-last.ensures.finishes;
-      last_own = c.in_ok-last.ensures.own;
-      last_allowed = c.in_ok-last.ensures.allowed;
-      last_bytes = c.in_ok-last.ensures.bytes;
-      last_short = c.in_ok-last.ensures.short;
-    }))
-    _ (elements_are c) code c.layout-layout.result.two_d c.counts_of-counts.result.dests c.counts_of-counts.result.sources (ap (λ (x : Layout). x.two_d) c.layout-layout.ensures.value ∙ two_d_is c.args.f.now) c.counts_of-counts.ensures.dests c.counts_of-counts.ensures.sources e
+      finishes = c.in_ok-epilogue.ensures.finishes;
+      last_own = c.in_ok-epilogue.ensures.own;
+      last_allowed = c.in_ok-epilogue.ensures.allowed;
+      last_bytes = c.in_ok-epilogue.ensures.bytes;
+      last_short = c.in_ok-epilogue.ensures.short;
+    })
+    c.args.placed.now.places _ (elements_are c) c.as_slice.result.now c.as_slice-2.result.now
+    (c.as_slice.ensures ∙ c.in_ok-append.ensures ∙ ap (λ (l : List Ins). c.in_ok-first.first ++ l) c.in_ok-sum_loads.ensures) (c.as_slice-2.ensures ∙ c.in_ok-append-2.ensures ∙ ap (λ (l : List Ins). l ++ c.in_ok-epilogue.field-0) c.in_ok-last.ensures)
+    code c.layout-layout.result.two_d c.counts_of-counts.result.dests c.counts_of-counts.result.sources (ap (λ (x : Layout). x.two_d) c.layout-layout.ensures.value ∙ two_d_is c.args.f.now) c.counts_of-counts.ensures.dests c.counts_of-counts.ensures.sources e
 
 pub returns-clause-inside : goal.returns-clause-inside
 returns-clause-inside c = ok_map c.whole_code.result _ _ (λ code e. (runs (goal.at.returns-clause-inside c).After-whole_code code e).0) c.whole_code.ensures

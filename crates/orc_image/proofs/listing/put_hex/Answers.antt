@@ -1,5 +1,5 @@
-use Rattle.std.proofs.Common.{◌/◌, ◌%◌, ◌∷◌, [], ◌++◌, sym, ap, ap₂, ◌∙◌, take, get_or, append_assoc}
-use Rattle.orc_image.specs.Listing.{hex, hex_digit}
+use Rattle.std.proofs.Common.{◌∷◌, [], ◌++◌, sym, ap, ap₂, ◌∙◌, take, append_assoc}
+use Rattle.orc_image.specs.Listing.{hex}
 use Rattle.orc_image.proofs.Lines.{hex_more}
 use Rattle.orc_image.proofs.listing.put_hex.Goals as goal
 

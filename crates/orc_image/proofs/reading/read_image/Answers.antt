@@ -1,4 +1,4 @@
-use Rattle.std.proofs.Common.{◌≡◌, ◌+◌, ℕ, Ok, Err, Result, length, arith, ap, sym, refl, ◌∙◌}
+use Rattle.std.proofs.Common.{◌≡◌, ℕ, length, arith, ap, sym, refl, ◌∙◌}
 use Rattle.std.proofs.lemmas.Result.{err_from_is_err_and}
 use Rattle.orc_image.specs.declared.image.Image.{Image}
 use Rattle.orc_image.specs.Spelling.{image_bytes}
@@ -17,5 +17,5 @@ pub returns-clause-only : goal.returns-clause-only
 returns-clause-only c = λ i n b.
     let j = c.in_ok-image.image in
     let same : j ≡ i = only_one c.args.bytes.now i j n _ b (ap image_at (sym c.new-reader.ensures) ∙ c.in_ok-image.ensures.gives) in
-    let size : c.offset-size.result ≡ n = omega (arith, ap (λ x. length (image_bytes x)) same, b.size, c.in_ok-image.ensures.spelled.1.1, c.offset-size.ensures, ap (λ r. r.at) c.new-reader.ensures) in
+    let size : c.offset-size.result ≡ n = omega (arith, ap (λ x. length (image_bytes x)) same, b.size, c.in_ok-image.ensures.spelled.2, c.offset-size.ensures, ap (λ r. r.at) c.new-reader.ensures) in
     rw (same, size) refl

@@ -4,4 +4,4 @@ use Rattle.orc_region.specs.Code.{exchange}
 use Rattle.orc_region.proofs.homes.names.Given as goal
 
 abbrev pub invariant-loop-r : goal.invariant-loop-r
-invariant-loop-r l = record { filled : take l.r l.names ≡ map (λ k. exchange 0 l.first (exchange 1 l.second k)) (range_with_len 0 l.r); long : length l.names ≡ 16 }
+invariant-loop-r l = record { filled : take l.r l.names ≡ map (λ k. exchange 0 l.first (exchange 1 l.second (exchange 2 l.sum k))) (range_with_len 0 l.r); long : length l.names ≡ 16 }

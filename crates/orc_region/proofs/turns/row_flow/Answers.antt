@@ -1,7 +1,8 @@
 use Rattle.std.proofs.Common.{◌≡◌, ◌∙◌, ap, sym, subst, List, ℕ}
 use Rattle.orc_plan.specs.Places.{PlacedValue}
 use Rattle.orc_frame.proofs.Counted.{ok_map}
-use Rattle.orc_region.specs.Elements.{AreOf}
+use Rattle.x86_flow.specs.Tree.{flat_of}
+use Rattle.orc_region.specs.Elements.{AreOf, DoesRow}
 use Rattle.orc_region.proofs.Calls.Rows.{does_tree}
 use Rattle.orc_region.proofs.turns.row_flow.Goals as goal
 
@@ -9,4 +10,4 @@ pub returns-clause-does : goal.returns-clause-does
 returns-clause-does c =
     let place : List ℕ → PlacedValue = λ xs. record { core = c.p.inside.core; places = xs } in
     let same : place c.as_slice.result.now ≡ c.args.p.now = ap place c.as_slice.ensures.value ∙ c.p.view_is in
-    ok_map c.elements.result _ _ (λ t e f are. does_tree f are.kept t (e f (subst (λ p. AreOf f p c.args.l.now) (sym same) are))) c.elements.ensures
+    ok_map c.elements.result _ _ (λ t e f are. subst (λ at. DoesRow f at (flat_of t)) (ap (λ (p : PlacedValue). p.places) same) (does_tree f are.kept c.as_slice.result.now t (e f (subst (λ p. AreOf f p c.args.l.now) (sym same) are)))) c.elements.ensures

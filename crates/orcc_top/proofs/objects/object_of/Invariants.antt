@@ -1,6 +1,6 @@
 use Rattle.std.proofs.Common.{◌≡◌, None, take}
 use Rattle.orcc_top.specs.Assembly.{first_pressure_in}
-use Rattle.orcc_top.specs.Each.{OneForEach}
+use Rattle.orc_text.specs.Each.{OneForEach}
 use Rattle.orcc_top.specs.Objects.{CompiledOf}
 use Rattle.orcc_top.proofs.objects.object_of.Given as goal
 

@@ -12,10 +12,10 @@ use Rattle.orcc_top.proofs.sharing.answer_behind.Goals as goal
 pub returns-in_ok-print_played-in-Ok : goal.returns-in_ok-print_played-in-Ok
 returns-in_ok-print_played-in-Ok c =
     let functions : c.as_slice.result.now ≡ c.args.image.now.functions = c.as_slice.ensures ∙ ap (λ (i : ImageValue). i.functions) c.image.view_is in
-    let none : refusal_of_sharing c.args.image.now.functions c.split_at.result.1.now ≡ None
-    = ap (λ (fs : List FunctionValue). refusal_of_sharing fs c.split_at.result.1.now) (sym functions) ∙ sym c.in-Ok.ensures.refused in (
+    let none : refusal_of_sharing c.args.workers.count c.args.image.now.functions c.split_at.result.1.now ≡ None
+    = ap (λ (fs : List FunctionValue). refusal_of_sharing c.args.workers.count fs c.split_at.result.1.now) (sym functions) ∙ sym c.in-Ok.ensures.refused in (
       within_limit (command.Jobs c.args.workers) c.args.input.now c.requires.short
-          ∙ refused_behind refusal_of_sharing c.args.input.now c.split_at.result.1.now c.args.image.now c.args.size c.requires.begins c.split_at.ensures.back ∙ ap (option_map (λ x. refusal.Job x)) none,
+          ∙ refused_behind (refusal_of_sharing c.args.workers.count) c.args.input.now c.split_at.result.1.now c.args.image.now c.args.size c.requires.begins c.split_at.ensures.back ∙ ap (option_map (λ x. refusal.Job x)) none,
       record {
         image = c.args.image.now;
         allowed = c.requires.begins.allowed;
@@ -30,12 +30,12 @@ returns-in_ok-print_played-in-Ok c =
 pub returns-in_ok-line_of-in_default : goal.returns-in_ok-line_of-in_default
 returns-in_ok-line_of-in_default c =
     let functions : c.as_slice.result.now ≡ c.args.image.now.functions = c.as_slice.ensures ∙ ap (λ (i : ImageValue). i.functions) c.image.view_is in
-    let e : Some c.in-Err.error ≡ refusal_of_sharing c.as_slice.result.now c.split_at.result.1.now = told Played c.in-Err.error _ c.in_default.not-Memory c.in-Err.ensures.refused in
-    let same : refusal_of_sharing c.args.image.now.functions c.split_at.result.1.now ≡ Some c.in-Err.error
-    = ap (λ (fs : List FunctionValue). refusal_of_sharing fs c.split_at.result.1.now) (sym functions) ∙ sym e in
+    let e : Some c.in-Err.error ≡ refusal_of_sharing c.args.workers.count c.as_slice.result.now c.split_at.result.1.now = told Played c.in-Err.error _ c.in_default.not-Memory c.in-Err.ensures.refused in
+    let same : refusal_of_sharing c.args.workers.count c.args.image.now.functions c.split_at.result.1.now ≡ Some c.in-Err.error
+    = ap (λ (fs : List FunctionValue). refusal_of_sharing c.args.workers.count fs c.split_at.result.1.now) (sym functions) ∙ sym e in
     record {
       refusal = refusal.Job c.in-Err.error;
       refused = within_limit (command.Jobs c.args.workers) c.args.input.now c.requires.short
-          ∙ refused_behind refusal_of_sharing c.args.input.now c.split_at.result.1.now c.args.image.now c.args.size c.requires.begins c.split_at.ensures.back ∙ ap (option_map (λ x. refusal.Job x)) same;
+          ∙ refused_behind (refusal_of_sharing c.args.workers.count) c.args.input.now c.split_at.result.1.now c.args.image.now c.args.size c.requires.begins c.split_at.ensures.back ∙ ap (option_map (λ x. refusal.Job x)) same;
       says = c.in_ok-line_of-in_default.ensures;
     }

@@ -14,6 +14,6 @@ returns-in_ok-line_of-in_default c =
     let e : Some c.in-Err.error ≡ first_bad_field c.args.input.now = told (Image × ℕ) c.in-Err.error _ c.in_default.not-Memory c.in-Err.ensures.refused in
     record {
       refusal = refusal.Image c.in-Err.error;
-      refused = within_limit (command.Jobs c.args.workers) c.args.input.now c.requires ∙ refused_image refusal_of_sharing c.args.input.now c.in-Err.error e;
+      refused = within_limit (command.Jobs c.args.workers) c.args.input.now c.requires ∙ refused_image (refusal_of_sharing c.args.workers.count) c.args.input.now c.in-Err.error e;
       says = c.in_ok-line_of-in_default.ensures;
     }

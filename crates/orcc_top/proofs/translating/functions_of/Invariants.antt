@@ -1,5 +1,5 @@
 use Rattle.std.proofs.Common.{take}
-use Rattle.orcc_top.specs.Each.{OneForEach}
+use Rattle.orc_text.specs.Each.{OneForEach}
 use Rattle.orcc_top.specs.Translation.{MeansAs}
 use Rattle.orcc_top.proofs.translating.functions_of.Given as goal
 

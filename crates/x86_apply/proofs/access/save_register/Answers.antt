@@ -1,11 +1,9 @@
-use Rattle.std.proofs.Common.{◌≡◌, Some, None, ap, sym, ◌∙◌, get_or}
-use Rattle.x86_apply.specs.Access.{absent}
-use Rattle.orc_bits.proofs.Memories.{store_there}
-use Rattle.x86_apply.proofs.Accesses.{all_of}
+use Rattle.std.proofs.Common.{ap, ◌∙◌, get_or, refl}
+use Rattle.std.proofs.lemmas.List.{get_or-take}
+use Rattle.x86_apply.proofs.Accesses.{slice_stored}
 use Rattle.x86_apply.proofs.access.save_register.Goals as goal
 
-pub returns-in-None-clause-ok : goal.returns-in-None-clause-ok
-returns-in-None-clause-ok g c =
-    let m = g.B.Bytes.bytes c.args.mem.now in
-    let e : absent c.args.n m c.args.at ≡ None = sym c.first_missing.ensures ∙ c.in-None.is in
-    store_there c.args.n m c.args.at (λ j. get_or c.args.from.now j 0) (all_of c.args.n m c.args.at e) ∙ ap Some (sym c.write_all.ensures)
+pub returns-then-set_slice-clause-ok : goal.returns-then-set_slice-clause-ok
+returns-then-set_slice-clause-ok g c =
+    slice_stored c.args.n (g.B.Bytes.bytes c.args.mem.now) (g.B.Bytes.bytes c.set_slice.new.self) c.args.at c.args.from.now c.split_at.result.0.now c.split_at.ensures.front_len
+    (λ j l. ap (λ b. get_or b j 0) c.split_at.ensures.front ∙ get_or-take c.args.n c.args.from.now j 0 l) (c.if-set_slice.ensures.mapped refl) c.if-set_slice.ensures.after

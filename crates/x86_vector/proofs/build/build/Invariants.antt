@@ -1,7 +1,9 @@
-use Rattle.std.proofs.Common.{◌≡◌, ℕ, ◌<◌, ◌/◌, ◌%◌, ◌^◌, length, get_or}
+use Rattle.std.proofs.Common.{◌≡◌, ℕ, ◌<◌, ◌+◌, ◌*◌, ◌/◌, ◌%◌, ◌^◌, length, get_or}
 use Rattle.x86_vector.specs.Forms.{lane_in}
 use Rattle.x86_vector.proofs.build.build.Given as goal
 
--- the bytes so far
-abbrev pub invariant-loop-i : goal.invariant-loop-i
-invariant-loop-i l = (length l.out ≡ 16) × ((k : ℕ) → k < l.i → get_or l.out k 0 ≡ lane_in l.f l.x l.y (k / l.w) / 256 ^ (k % l.w) % 256)
+-- the lanes so far
+abbrev pub invariant-loop-q : goal.invariant-loop-q
+invariant-loop-q l =
+    (length l.out ≡ 16)
+    × ((p : ℕ) → p < l.q → (k : ℕ) → k < l.w → get_or l.out (p * l.w + k) 0 ≡ lane_in l.f l.x l.y p / 256 ^ k % 256)

@@ -1,0 +1,76 @@
+-- Jobs whose placed calls are good, and how runs of them end.
+use Rattle.std.specs.Prelude.{◌≡◌, ℕ, ◌+◌, ◌^◌, ◌<◌, ◌≤◌, true, List, length, Some, Ok, slice_index, slice_index_or}
+use Rattle.orc_bits.specs.Memory.{Memory, IsMapped, word}
+use Rattle.orc_bits.specs.Parts.{memory_of}
+use Rattle.orc_program.specs.declared.program.VarKind.TheVariants as kind
+use Rattle.orc_program.specs.Program.{FunctionValue, count_of}
+use Rattle.orc_program.specs.Kept.{is_function}
+use Rattle.orc_program.specs.Meaning.{no_place, emulate, rows}
+use Rattle.orc_program.specs.Need.{steps}
+use Rattle.orc_program.specs.Good.{GoodArrays}
+use Rattle.orc_program.specs.Cut.{IsCell}
+use Rattle.orc_frame.specs.Parts.{sum_word}
+use Rattle.orc_frame.specs.GoodCall.{GoodCall}
+use Rattle.orc_frame.specs.Function.{subject_of}
+use Rattle.orc_asm.specs.Function.{RunsAs}
+use Rattle.orc_image.specs.Spelling as image
+use Rattle.orc_job.specs.declared.job.Job.{Job}
+use Rattle.orc_job.specs.Kept.{IsJob}
+use Rattle.x86_ins.specs.Machine.{Point}
+use Rattle.x86_machine.specs.declared.machine.End.{End}
+use Rattle.x86_machine.specs.declared.machine.End.TheVariants as end
+use Rattle.x86_machine.specs.Ends.{EndsAt}
+use Rattle.orc_worlds.specs.Placement.{block_at, return_to, start, placed_code, stop}
+use Rattle.orc_worlds.specs.Worlds.{AreSigned}
+use Rattle.orc_worlds.specs.Whole.{words_of}
+
+-- ---- the function and the job
+
+-- an image's function has the counts of a function of the language, and code of which each good call runs as that function means
+pub record IsCodeOf (f : FunctionValue) (entry : image.FunctionValue) : Type 0 where
+  pub kept : is_function f ≡ true
+  pub dests : entry.dests ≡ count_of kind.Dest f.vars
+  pub sources : entry.sources ≡ count_of kind.Source f.vars
+  pub params : entry.params ≡ count_of kind.Param f.vars
+  pub accs : entry.accs ≡ count_of kind.Accumulator f.vars
+  pub runs : RunsAs f entry.code
+  pub short : length entry.code ≤ 1048576
+
+-- the numbers of a job have their widths: bases and parameters are words, strides are words with a sign, and segments have bytes
+pub record HasWidths (job : Job) : Type 0 where
+  pub bases : (i : ℕ) → (slice_index_or job.call.arrays.items i no_place).base < 2 ^ 64
+  pub strides : AreSigned job.call.arrays.items
+  pub params : (j : ℕ) → slice_index job.call.params.items j < 2 ^ 64
+  pub bytes : (a v : ℕ) → memory_of job.memory a ≡ Some v → v < 256
+
+-- a job calls a function with as many arrays and parameters as it has; the arrays are good on the job's segments, and these have no bytes but those of the arrays' cells
+pub record IsGoodJob (f : FunctionValue) (entry : image.FunctionValue) (job : Job) : Type 0 where
+  pub kept : IsJob job
+  pub widths : HasWidths job
+  pub arrays : length job.call.arrays.items ≡ entry.dests + entry.sources
+  pub params : length job.call.params.items ≡ entry.params
+  pub good : GoodArrays f job.call (memory_of job.memory)
+  pub exact : (a : ℕ) → IsMapped (memory_of job.memory) a → IsCell f job.call a
+  pub facts : (subject_of f).facts (words_of entry.dests job.call) ≡ true
+
+-- where it is placed to be run it makes a good call
+abbrev pub MakesGoodCall : Type 0
+MakesGoodCall = (f : FunctionValue) (entry : image.FunctionValue) (job : Job) → IsCodeOf f entry → IsGoodJob f entry job
+    → GoodCall (subject_of f) (placed_code entry) (start entry.dests job) (words_of entry.dests job.call) return_to
+
+-- ---- the end
+
+-- the run has returned within the function's steps, with the segments' bytes and the sums that emulation of the job has
+pub record IsDone (f : FunctionValue) (entry : image.FunctionValue) (job : Job) (e : End) (at : Point) : Type 0 where
+  pub taken : ℕ
+  pub returned : e ≡ end.Returned taken
+  pub few : taken ≤ steps f job.call.n (rows f job.call)
+  pub left : Memory × List ℕ
+  pub means : emulate f job.call (memory_of job.memory) ≡ Ok left
+  pub memory : (a : ℕ) → IsMapped (memory_of job.memory) a → at.core.memory a ≡ left.0 a
+  pub sums : (g : ℕ) → g < count_of kind.Accumulator f.vars → word at.core.memory (block_at + sum_word g) ≡ Some (slice_index left.1 g)
+
+-- a good job whose budget is at least the function's steps is done, and does what emulation of it does
+abbrev pub GoodJobsReturn : Type 0
+GoodJobsReturn = (f : FunctionValue) (entry : image.FunctionValue) (job : Job) (e : End) (at : Point) → IsCodeOf f entry → IsGoodJob f entry job → steps f job.call.n (rows f job.call) ≤ job.budget
+    → EndsAt (placed_code entry) stop job.budget (start entry.dests job) e at → IsDone f entry job e at
