@@ -298,13 +298,13 @@ module _ (f : FunctionValue) (entry : image.FunctionValue) (job : Job) (c : IsCo
   unfolding block_bytes
   block_is = refl
 
-  frame_long : length frame_bytes ≡ 1024
+  frame_long : length frame_bytes ≡ frame_size
   unfolding frame_bytes
-  frame_long = length-replicate 1024 filler
+  frame_long = length-replicate frame_size filler
 
   frame_small : AreBytes frame_bytes
   unfolding frame_bytes
-  frame_small = bytes_same 1024 filler (lit< tt)
+  frame_small = bytes_same frame_size filler (lit< tt)
 
   memory_is : core.memory ≡ memory_of (job.memory ++ own)
   memory_is = ap memory_of parts_are
@@ -324,7 +324,7 @@ module _ (f : FunctionValue) (entry : image.FunctionValue) (job : Job) (c : IsCo
       ∙ next_byte block_part (return_part ∷ frame_part ∷ []) (stack_at + i) (inl (omega (arith, own_long)))
       ∙ first_byte return_part (frame_part ∷ []) i (let w = word_long return_to in omega (arith, l, w))
 
-  frame_byte : (i : ℕ) → i < 1024 → core.memory (stack_at - frame_size + i) ≡ Some (get_or frame_bytes i 0)
+  frame_byte : (i : ℕ) → i < frame_size → core.memory (stack_at - frame_size + i) ≡ Some (get_or frame_bytes i 0)
   frame_byte i l =
       own_byte (stack_at - frame_size + i) (omega arith)
       ∙ next_byte block_part (return_part ∷ frame_part ∷ []) (stack_at - frame_size + i) (inl (omega (arith, own_long)))
@@ -486,7 +486,7 @@ module _ (f : FunctionValue) (entry : image.FunctionValue) (job : Job) (c : IsCo
     facts = g.facts;
     block = λ a h. mapped_from block_at 304 block block_byte a h.0 h.1;
     return = λ a h. mapped_from stack_at 8 (word_bytes return_to) return_byte a h.0 h.1;
-    frame = λ a h. mapped_from (stack_at - frame_size) 1024 frame_bytes frame_byte a h.0 h.1;
+    frame = λ a h. mapped_from (stack_at - frame_size) frame_size frame_bytes frame_byte a h.0 h.1;
     no_more = λ a m. ⊎_elim (λ h. inl (subst (λ x. IsCellByte f x a) (sym call_same) (is_cell_byte a (g.exact a h)))) inr (no_more a m);
     disjoint = disjoint;
     block_low = lit≤ tt;
