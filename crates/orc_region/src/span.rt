@@ -5,7 +5,7 @@
 pub struct Span {
     /// The number of the first element.
     pub first: usize,
-    /// How many elements there are: 1, or as many as a turn does at once.
+    /// How many elements there are: 1, or as many as are done at once.
     pub count: usize,
     /// Whether the first dest's cells are stored at a multiple of 16.
     pub aligned: bool,
