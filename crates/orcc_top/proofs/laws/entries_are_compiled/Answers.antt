@@ -12,6 +12,7 @@ returns c f entry kept allowed e = (
     sources = e.sources;
     params = e.params;
     accs = e.accs;
+    facts = e.facts;
     sized = sized;
     runs = runs_quietly (subject_of f) entry.code e.inside;
   },
