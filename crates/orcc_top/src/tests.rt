@@ -75,7 +75,9 @@ fn run_with(
     room: usize,
     most: usize,
     failure: Failure,
-) -> Result<Outcome, AllocError> {
+) -> Result<Outcome, AllocError>
+    requires { 0 < most }
+{
     let mut given = Vec::new(alloc);
     for word in words {
         given.push(word.to_string(alloc)?)?;
