@@ -3,6 +3,8 @@ mod hostile;
 mod meaning;
 mod stated;
 
+ghost use Rattle.std.specs.Prelude.{◌<◌};
+
 use crate::{Status, orcc};
 use c_read::read_c;
 use orc_elf::{ElfCode, ElfEntry, write_elf};
