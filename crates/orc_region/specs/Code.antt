@@ -383,11 +383,14 @@ elements_flow false begins whole shift lanes b single wide aligned large = from_
 abbrev pub fills : FunctionValue → Bool
 fills f = is_filled (count_of kind.Dest f.vars) (lanes f) (size_of_slot f.vars 0)
 
+-- the turn of one element, where a row may have single elements
+abbrev pub IsSingle : FunctionValue → List ℕ → List Ins → Type 0
+IsSingle f at single = has_whole_turns f ≡ false → IsTurnOf f at 1 false 1 single
+
 -- the turns of a function's code by good places of its values
 pub record Turns (f : FunctionValue) (at : List ℕ) (single wide aligned large : List Ins) : Type 0 where
   pub good : GoodPlaces (steps_of f) at
-  -- where there may be single elements
-  pub one : has_whole_turns f ≡ false → IsTurnOf f at 1 false 1 single
+  pub one : IsSingle f at single
   pub more : IsTurnOf f at (lanes f) false 1 wide
   pub stored : fills f ≡ true → IsTurnOf f at (lanes f) true 1 aligned
   -- where they have several blocks
@@ -398,11 +401,11 @@ elements_of f single wide aligned large = elements_flow (fills f) (begins_aligne
 
 -- in a function's code these turns are from the first element on
 abbrev pub AreFromFirst : FunctionValue → List ℕ → List Ins → List Ins → Type 0
-AreFromFirst f at turns list = (single : List Ins) × (has_whole_turns f ≡ false → IsTurnOf f at 1 false 1 single) × (list ≡ flat (from_first (has_whole_turns f) (lanes f) single (Plain turns)))
+AreFromFirst f at turns list = (single : List Ins) × IsSingle f at single × (list ≡ flat (from_first (has_whole_turns f) (lanes f) single (Plain turns)))
 
 -- or from where the first dest is at a multiple of 16, and where it is nowhere by the turn `wide`
 abbrev pub AreFromBoundary : FunctionValue → List ℕ → List Ins → List Ins → List Ins → Type 0
-AreFromBoundary f at wide turns list = (single : List Ins) × (has_whole_turns f ≡ false → IsTurnOf f at 1 false 1 single)
+AreFromBoundary f at wide turns list = (single : List Ins) × IsSingle f at single
     × (list ≡ flat (from_boundary (has_whole_turns f) (shift_of (size_of_slot f.vars 0)) (lanes f) single wide (Plain turns)))
 
 -- the tree does the elements of a row, by these places of values
