@@ -1,5 +1,5 @@
 -- Code that runs as emulation says.
-use Rattle.std.specs.Prelude.{◌≡◌, ℕ, ◌+◌, ◌*◌, ◌%◌, ◌<◌, ◌≤◌, List, length, Some, None}
+use Rattle.std.specs.Prelude.{◌≡◌, ℕ, ◌+◌, ◌*◌, ◌%◌, ◌<◌, ◌≤◌, true, List, length, Some, None}
 use Rattle.orc_bits.specs.Memory.{Memory, IsMapped, word}
 use Rattle.x86_ins.specs.Machine.{Core, Point}
 use Rattle.x86_ins.specs.Way.{Placed, Way, Moment, Each, AtMost, Stop, IsOver}
@@ -83,12 +83,12 @@ RunsQuietly f = RunsInsideWith f (quiet f)
 
 -- ---- wide: few steps touch cells, and aligned rows are stored by aligned stores
 
--- a register of elements of the first dest can be stored aligned in every row, and the first dest is no other dest
+-- a register of elements of the first dest can be stored aligned in every row, from its first element on if by the facts the row is whole turns; and the first dest is no other dest
 pub record Aligned (f : Subject) (call : Call) : Type 0 where
   pub some : 0 < f.dests
   pub full : f.lanes * f.size 0 ≡ 16
   pub alone : (k : ℕ) → 0 < k → k < f.dests → VerySame f call 0 k → ⊥
-  pub reached : (r : ℕ) → r < rows f call → (h : ℕ) × (h + f.lanes ≤ call.n) × (cell f call 0 r h 0 % 16 ≡ 0)
+  pub reached : (r : ℕ) → r < rows f call → (h : ℕ) × (h + f.lanes ≤ call.n) × (cell f call 0 r h 0 % 16 ≡ 0) × (f.whole ≡ true → h ≡ 0)
 
 abbrev pub wide : Subject → Promise
 wide f s small call way t =

@@ -4,10 +4,12 @@ use Rattle.std.specs.Prelude.{◌≤ℤ◌, true}
 use Rattle.std.specs.List.{range_with_len}
 use Rattle.std.proofs.lemmas.List.{length-map}
 use lib.Dec.{le→leb}
+use Rattle.orc_program.specs.declared.known.Facts.{Facts}
 use Rattle.orc_program.specs.declared.program.Pattern.{Pattern}
 use Rattle.orc_program.specs.declared.program.VarKind.TheVariants as kind
 use Rattle.orc_program.specs.Program.{FunctionValue, places_of, count_of}
 use Rattle.orc_program.specs.Checks.{patterns_of}
+use Rattle.orc_program.specs.Facts.{facts_of}
 use Rattle.orc_program.specs.Kept.{is_function}
 use Rattle.orc_frame.specs.declared.frame.Layout.{Layout}
 use Rattle.orc_frame.specs.Layout.{frame_size, pattern_slot, sum_slot, saved_slot, row_slot, block_slot, rows_slot, left_slot, spill_slots, spill_slot, acc_sizes_of, layout_of, displacements, with_size, slots_of, LieApart}
@@ -47,8 +49,8 @@ slots_apart f is =
 pub lie_apart : (l : Layout) (f : FunctionValue) → is_function f ≡ true → l ≡ layout_of f → LieApart (pos 0) (slots_of l)
 lie_apart l f is e = subst (λ x. LieApart (pos 0) (slots_of x)) (sym e) (slots_apart f is)
 
-abbrev made : Bool → List Pattern → List ℕ → List ℕ → List ℤ → List ℤ → Layout
-made two_d patterns sizes params pattern_at sum_at = record {
+abbrev made : Bool → List Pattern → List ℕ → List ℕ → List ℤ → List ℤ → Facts → Layout
+made two_d patterns sizes params pattern_at sum_at stated = record {
   two_d = two_d;
   patterns = record { items = patterns };
   acc_sizes = record { items = sizes };
@@ -60,15 +62,17 @@ made two_d patterns sizes params pattern_at sum_at = record {
   block_at = pos block_slot;
   rows_at = pos rows_slot;
   spill_at = pos (spill_slot 0);
+  facts = stated;
 }
 
 -- a layout that was put together from its parts
-pub layout_is : (f : FunctionValue) (patterns : List Pattern) (sizes params : List ℕ) (n m : ℕ) (pattern_at sum_at : List ℤ) → patterns ≡ patterns_of f.vars f.insns → sizes ≡ acc_sizes_of f.vars → params ≡ places_of kind.Param f.vars
-    → n ≡ length patterns → m ≡ length sizes → pattern_at ≡ displacements pattern_slot n → sum_at ≡ displacements sum_slot m → made f.two_d patterns sizes params pattern_at sum_at ≡ layout_of f
+pub layout_is : (f : FunctionValue) (patterns : List Pattern) (sizes params : List ℕ) (n m : ℕ) (pattern_at sum_at : List ℤ) (stated : Facts) → patterns ≡ patterns_of f.vars f.insns → sizes ≡ acc_sizes_of f.vars → params ≡ places_of kind.Param f.vars
+    → n ≡ length patterns → m ≡ length sizes → pattern_at ≡ displacements pattern_slot n → sum_at ≡ displacements sum_slot m → stated ≡ facts_of f → made f.two_d patterns sizes params pattern_at sum_at stated ≡ layout_of f
 unfolding layout_of
-layout_is f patterns sizes params n m pattern_at sum_at p s q n_is m_is a b =
-    ap (λ x. made f.two_d x sizes params pattern_at sum_at) p
-    ∙ ap (λ x. made f.two_d (patterns_of f.vars f.insns) x params pattern_at sum_at) s
-    ∙ ap (λ x. made f.two_d (patterns_of f.vars f.insns) (acc_sizes_of f.vars) x pattern_at sum_at) q
-    ∙ ap (λ x. made f.two_d (patterns_of f.vars f.insns) (acc_sizes_of f.vars) (places_of kind.Param f.vars) x sum_at) (a ∙ ap (displacements pattern_slot) (n_is ∙ ap length p))
-    ∙ ap (λ x. made f.two_d (patterns_of f.vars f.insns) (acc_sizes_of f.vars) (places_of kind.Param f.vars) (displacements pattern_slot (length (patterns_of f.vars f.insns))) x) (b ∙ ap (displacements sum_slot) (m_is ∙ ap length s))
+layout_is f patterns sizes params n m pattern_at sum_at stated p s q n_is m_is a b t =
+    ap (λ x. made f.two_d x sizes params pattern_at sum_at stated) p
+    ∙ ap (λ x. made f.two_d (patterns_of f.vars f.insns) x params pattern_at sum_at stated) s
+    ∙ ap (λ x. made f.two_d (patterns_of f.vars f.insns) (acc_sizes_of f.vars) x pattern_at sum_at stated) q
+    ∙ ap (λ x. made f.two_d (patterns_of f.vars f.insns) (acc_sizes_of f.vars) (places_of kind.Param f.vars) x sum_at stated) (a ∙ ap (displacements pattern_slot) (n_is ∙ ap length p))
+    ∙ ap (λ x. made f.two_d (patterns_of f.vars f.insns) (acc_sizes_of f.vars) (places_of kind.Param f.vars) (displacements pattern_slot (length (patterns_of f.vars f.insns))) x stated) (b ∙ ap (displacements sum_slot) (m_is ∙ ap length s))
+    ∙ ap (λ x. made f.two_d (patterns_of f.vars f.insns) (acc_sizes_of f.vars) (places_of kind.Param f.vars) (displacements pattern_slot (length (patterns_of f.vars f.insns))) (displacements sum_slot (length (acc_sizes_of f.vars))) x) t

@@ -1,5 +1,5 @@
 -- Functions of the language as calls see them.
-use Rattle.std.specs.Prelude.{◌≡◌, ℕ, ◌+◌, true, List, Option, Some, None, Result, Ok, Err, slice_index}
+use Rattle.std.specs.Prelude.{◌≡◌, ℕ, ◌+◌, List, Option, Some, None, Result, Ok, Err, slice_index}
 use Rattle.std.specs.List.{count_by, sum_by}
 use Rattle.orc_bits.specs.Memory.{Memory}
 use Rattle.orc_program.specs.declared.program.Var.{Var}
@@ -8,8 +8,9 @@ use Rattle.orc_program.specs.declared.program.Insn.{Insn}
 use Rattle.orc_program.specs.declared.call.Call.{Call}
 use Rattle.orc_program.specs.Program.{FunctionValue, count_of}
 use Rattle.orc_program.specs.Meaning.{Gap, emulate}
+use Rattle.orc_program.specs.Facts.{facts_of, call_meets}
 use Rattle.orc_program.specs.Good.{IsByte, GoodArrays, byte_at}
-use Rattle.orc_program.specs.Need.{is_array_operand, steps, lanes, turns}
+use Rattle.orc_program.specs.Need.{is_array_operand, steps, lanes, has_whole_turns, turns}
 use Rattle.orc_program.specs.Slots.{call_of, size_of_slot}
 use Rattle.orc_frame.specs.Subject.{End, Subject}
 
@@ -39,12 +40,13 @@ subject_of f = record {
   accs = count_of kind.Accumulator f.vars;
   two_d = f.two_d;
   size = size_of_slot f.vars;
-  facts = λ call. true;
+  facts = λ call. call_meets (facts_of f) f.two_d (call_of f call.n call.m call.base call.stride call.param);
   cells = λ call a. IsCellByte f (call_of f call.n call.m call.base call.stride call.param) a;
   good = λ call mem. GoodArrays f (call_of f call.n call.m call.base call.stride call.param) mem;
   emulate = λ call mem. end_of (emulate f (call_of f call.n call.m call.base call.stride call.param) mem);
   steps = steps f;
   lanes = lanes f;
-  turns = turns (lanes f);
+  whole = has_whole_turns f;
+  turns = turns f;
   operands = sum_by (array_operands f.vars) f.insns;
 }

@@ -5,6 +5,7 @@ use Rattle.orc_program.specs.declared.program.Var.{Var}
 use Rattle.orc_program.specs.declared.program.VarKind.TheVariants as kind
 use Rattle.orc_program.specs.Program.{FunctionValue, var_at, places_of}
 use Rattle.orc_program.specs.Checks.{patterns_of}
+use Rattle.orc_program.specs.Facts.{facts_of}
 use Rattle.orc_program.specs.Need.{places, registers}
 use Rattle.orc_frame.specs.declared.frame.Layout.{Layout}
 
@@ -73,6 +74,7 @@ layout_of f = record {
   block_at = pos block_slot;
   rows_at = pos rows_slot;
   spill_at = pos (spill_slot 0);
+  facts = facts_of f;
 }
 
 -- the place in a list of the first that is p, or the list's length

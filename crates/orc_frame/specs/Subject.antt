@@ -24,7 +24,7 @@ pub record Subject : Type 1 where
   pub two_d : Bool
   -- the bytes of an element of an array slot
   pub size : ℕ → ℕ
-  -- whether a call has what the facts state; true where none are stated
+  -- whether a call meets the facts of its function
   pub facts : Call → Bool
   -- the addresses of the bytes of a call's cells
   pub cells : Call → ℕ → Type 0
@@ -34,8 +34,9 @@ pub record Subject : Type 1 where
   pub emulate : Call → Memory → Option End
   -- the bound on steps, from n and the number of rows
   pub steps : ℕ → ℕ → ℕ
-  -- elements at once, the bound on turns in a row from n, and the operands that are arrays
+  -- elements at once, whether they divide n by the facts, the bound on turns in a row from n, and the operands that are arrays
   pub lanes : ℕ
+  pub whole : Bool
   pub turns : ℕ → ℕ
   pub operands : ℕ
 

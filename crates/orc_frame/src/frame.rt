@@ -1,7 +1,7 @@
 //! Where a function's numbers lie in the frame.
 
 use arrayvec::ArrayVec;
-use orc_program::Pattern;
+use orc_program::{Facts, Pattern};
 
 /// Where a function's numbers lie in the frame, and what of the function decides what lies there. Displacements are from RSP as it stands
 /// after the prologue, in bytes.
@@ -29,4 +29,6 @@ pub struct Layout {
     pub rows_at: i32,
     /// The displacement of the first spill slot, which holds values of temps for which no register is left. Slot k is 16 * k bytes further.
     pub spill_at: i32,
+    /// What is known of every call.
+    pub facts: Facts,
 }

@@ -7,7 +7,7 @@ ghost use Rattle.orc_frame.specs.Layout.{layout_of, acc_sizes_of, displacements,
 use crate::frame::Layout;
 use arrayvec::ArrayVec;
 use orc_program::variables::same_kind;
-use orc_program::{Function, Var, VarKind, patterns};
+use orc_program::{Function, Var, VarKind, facts, patterns};
 
 /// The bytes of the frame.
 pub const FRAME_SIZE: usize = 2048;
@@ -35,6 +35,7 @@ pub fn layout(f: &Function) -> Layout
         block_at: 976,
         rows_at: 984,
         spill_at: 1024,
+        facts: facts(f),
     }
 }
 

@@ -18,3 +18,4 @@ pub mod KnownPatterns
 pub mod Lanes
 pub mod Shortened
 pub mod FactLaws
+pub mod Meeting

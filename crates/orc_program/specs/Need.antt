@@ -1,11 +1,13 @@
 -- Need, lanes, cost and steps.
-use Rattle.std.specs.Prelude.{ℕ, zero, suc, ◌+◌, ◌-◌, ◌*◌, ◌/◌, min, max, Bool, not, ◌&&◌, ◌||◌, ◌==◌, nat_lt, List, [], ◌∷◌, if◌then◌else◌, length, drop, slice_index, map}
+use Rattle.std.specs.Prelude.{ℕ, zero, suc, ◌+◌, ◌-◌, ◌*◌, ◌/◌, ◌%◌, min, max, Bool, not, ◌&&◌, ◌||◌, ◌==◌, nat_lt, nat_le, List, [], ◌∷◌, if◌then◌else◌, length, drop, slice_index, map}
 use Rattle.std.specs.List.{list_any, count_by, sum_by, range_with_len, fold}
 use Rattle.orc_ops.specs.Table.{row}
 use Rattle.orc_program.specs.declared.program.Var.{Var}
 use Rattle.orc_program.specs.declared.program.VarKind.TheVariants as kind
 use Rattle.orc_program.specs.declared.program.Insn.{Insn}
 use Rattle.orc_program.specs.declared.program.Operand.{Operand}
+use Rattle.orc_program.specs.declared.known.CountFacts.{CountFacts}
+use Rattle.orc_program.specs.Facts.{facts_of}
 use Rattle.orc_program.specs.Program.{FunctionValue, is_of, operand_is, is_temp, count_of, array_count, temps_among}
 use Rattle.orc_program.specs.Checks.{operand_sizes, patterns_of}
 
@@ -121,14 +123,30 @@ cost f = sum_by (insn_cost (spills f) f.vars) f.insns
 
 -- ---- steps
 
--- Turns(n): the lesser of n and n div L + 2L - 2
-abbrev pub turns : ℕ → ℕ → ℕ
-turns lanes n = min n (n / lanes + 2 * lanes - 2)
+-- L divides the exact count of these facts, which isn't 0, or their mult: so it divides each count that meets them
+abbrev pub divides_each : ℕ → CountFacts → Bool
+divides_each lanes facts = (not (facts.exact == 0) && facts.exact % lanes == 0) || facts.mult % lanes == 0
+
+-- by the facts a row of n elements is whole turns of L
+abbrev pub has_whole_turns : FunctionValue → Bool
+has_whole_turns f = divides_each (lanes f) (facts_of f).n
+
+-- by the facts the first dest's cells begin at a multiple of 16 in every row: there is one, and its align is at least 16
+abbrev pub begins_aligned : FunctionValue → Bool
+begins_aligned f = nat_lt 0 (count_of kind.Dest f.vars) && nat_le 16 (slice_index (facts_of f).aligns.items 0)
+
+-- T: n div L where a row is whole turns; else n div L + L - 1 where the first dest begins at a multiple of 16; and else n div L + 2L - 2
+abbrev pub most_turns : ℕ → Bool → Bool → ℕ → ℕ
+most_turns lanes whole aligned n = if whole then n / lanes else (if aligned then n / lanes + lanes - 1 else n / lanes + 2 * lanes - 2)
+
+-- Turns(n): the lesser of n and T
+abbrev pub turns : FunctionValue → ℕ → ℕ
+turns f n = min n (most_turns (lanes f) (has_whole_turns f) (begins_aligned f) n)
 
 -- the bound by its parts: 64 and what fills patterns and stores sums, then for each row its start and its turns
-abbrev pub steps_with : ℕ → ℕ → ℕ → ℕ → ℕ → ℕ → ℕ → ℕ
-steps_with lanes cost patterns sums arrays n m = 64 + 8 * patterns + 16 * sums + m * (24 + 8 * arrays + turns lanes n * (cost + arrays + 6))
+abbrev pub steps_with : ℕ → ℕ → ℕ → ℕ → ℕ → ℕ → ℕ
+steps_with turned cost patterns sums arrays m = 64 + 8 * patterns + 16 * sums + m * (24 + 8 * arrays + turned * (cost + arrays + 6))
 
 -- Steps: at most so many machine instructions do n elements of m rows, m taken as 1 where the function has no rows
 abbrev pub steps : FunctionValue → ℕ → ℕ → ℕ
-steps f n m = steps_with (lanes f) (cost f) (length (patterns_of f.vars f.insns)) (count_of kind.Accumulator f.vars) (array_count f.vars) n (if f.two_d then m else 1)
+steps f n m = steps_with (turns f n) (cost f) (length (patterns_of f.vars f.insns)) (count_of kind.Accumulator f.vars) (array_count f.vars) (if f.two_d then m else 1)

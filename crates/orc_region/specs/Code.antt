@@ -14,7 +14,7 @@ use Rattle.orc_program.specs.declared.program.VarKind.TheVariants as kind
 use Rattle.orc_program.specs.declared.program.Pattern.{Pattern}
 use Rattle.orc_program.specs.Program.{FunctionValue, count_of}
 use Rattle.orc_program.specs.Checks.{patterns_of}
-use Rattle.orc_program.specs.Need.{lanes, registers}
+use Rattle.orc_program.specs.Need.{lanes, registers, has_whole_turns, begins_aligned}
 use Rattle.orc_program.specs.Slots.{size_of_slot}
 use Rattle.orc_plan.specs.declared.steps.Item.{Item}
 use Rattle.orc_plan.specs.declared.steps.Item.TheVariants as item
@@ -22,7 +22,7 @@ use Rattle.orc_plan.specs.declared.steps.Step.{Step}
 use Rattle.orc_plan.specs.Places.{GoodPlaces}
 use Rattle.orc_plan.specs.Lowered.{steps_of}
 use Rattle.orc_region.specs.declared.span.Span.{Span}
-use Rattle.orc_region.specs.Regions.{aligned_row, plain_row, wide_loop, wide_loops}
+use Rattle.orc_region.specs.Regions.{aligned_row, plain_row, whole_row, tested_row, wide_loop, wide_loops}
 use Rattle.x86_flow.specs.declared.tree.Flow.{Flow as Tree}
 use Rattle.x86_flow.specs.Flow.{Flow, Plain, flat}
 use Rattle.x86_flow.specs.Moves.{IsWidth, away, load_far_code, store_either_code}
@@ -363,26 +363,50 @@ turns_flow lanes b large turn = if nat_lt 1 b then wide_loops lanes (b * lanes) 
 abbrev pub AreWholeTurns : FunctionValue → List ℕ → Bool → ℕ → List Ins → List Ins → Type 0
 AreWholeTurns f at aligned b turn list = (large : List Ins) × (1 < b → IsTurnOf f at (lanes f) aligned b large) × (list ≡ flat (turns_flow (lanes f) b large turn))
 
--- the loops over a row's elements, by turns of one element, of `lanes`, of `lanes` with aligned stores, and large ones of so many blocks
-abbrev pub elements_flow : Bool → ℕ → ℕ → ℕ → List Ins → List Ins → List Ins → List Ins → Flow
-elements_flow true shift lanes b single wide aligned large = aligned_row shift lanes (Plain single) (wide_loop (Plain wide)) (turns_flow lanes b large aligned)
-elements_flow false shift lanes b single wide aligned large = plain_row lanes (Plain single) (turns_flow lanes b large wide)
+-- turns from the first element on, and single elements where the turns may leave some
+abbrev pub from_first : Bool → ℕ → List Ins → Flow → Flow
+from_first true lanes single turns = whole_row lanes turns
+from_first false lanes single turns = plain_row lanes (Plain single) turns
+
+-- turns with aligned stores from where the first dest is at a multiple of 16, if it is somewhere: behind single elements, or, where a row is whole turns, from the first element on
+abbrev pub from_boundary : Bool → ℕ → ℕ → List Ins → List Ins → Flow → Flow
+from_boundary true shift lanes single wide turns = tested_row lanes (wide_loop (Plain wide)) turns
+from_boundary false shift lanes single wide turns = aligned_row shift lanes (Plain single) (wide_loop (Plain wide)) turns
+
+-- the loops over a row's elements, by turns of one element, of `lanes`, of `lanes` with aligned stores, and large ones of so many blocks; and by what is known: that the first dest fills a register, that it begins at a multiple of 16, and that the elements are whole turns
+abbrev pub elements_flow : Bool → Bool → Bool → ℕ → ℕ → ℕ → List Ins → List Ins → List Ins → List Ins → Flow
+elements_flow true true whole shift lanes b single wide aligned large = from_first whole lanes single (turns_flow lanes b large aligned)
+elements_flow true false whole shift lanes b single wide aligned large = from_boundary whole shift lanes single wide (turns_flow lanes b large aligned)
+elements_flow false begins whole shift lanes b single wide aligned large = from_first whole lanes single (turns_flow lanes b large wide)
 
 -- a register of the first dest is filled by as many elements as a block does
 abbrev pub fills : FunctionValue → Bool
 fills f = is_filled (count_of kind.Dest f.vars) (lanes f) (size_of_slot f.vars 0)
 
+-- the turn of one element, where a row may have single elements
+abbrev pub IsSingle : FunctionValue → List ℕ → List Ins → Type 0
+IsSingle f at single = has_whole_turns f ≡ false → IsTurnOf f at 1 false 1 single
+
 -- the turns of a function's code by good places of its values
 pub record Turns (f : FunctionValue) (at : List ℕ) (single wide aligned large : List Ins) : Type 0 where
   pub good : GoodPlaces (steps_of f) at
-  pub one : IsTurnOf f at 1 false 1 single
+  pub one : IsSingle f at single
   pub more : IsTurnOf f at (lanes f) false 1 wide
   pub stored : fills f ≡ true → IsTurnOf f at (lanes f) true 1 aligned
   -- where they have several blocks
   pub many : 1 < blocks_of (length wide) → IsTurnOf f at (lanes f) (fills f) (blocks_of (length wide)) large
 
 abbrev pub elements_of : FunctionValue → List Ins → List Ins → List Ins → List Ins → Flow
-elements_of f single wide aligned large = elements_flow (fills f) (shift_of (size_of_slot f.vars 0)) (lanes f) (blocks_of (length wide)) single wide aligned large
+elements_of f single wide aligned large = elements_flow (fills f) (begins_aligned f) (has_whole_turns f) (shift_of (size_of_slot f.vars 0)) (lanes f) (blocks_of (length wide)) single wide aligned large
+
+-- in a function's code these turns are from the first element on
+abbrev pub AreFromFirst : FunctionValue → List ℕ → List Ins → List Ins → Type 0
+AreFromFirst f at turns list = (single : List Ins) × IsSingle f at single × (list ≡ flat (from_first (has_whole_turns f) (lanes f) single (Plain turns)))
+
+-- or from where the first dest is at a multiple of 16, and where it is nowhere by the turn `wide`
+abbrev pub AreFromBoundary : FunctionValue → List ℕ → List Ins → List Ins → List Ins → Type 0
+AreFromBoundary f at wide turns list = (single : List Ins) × IsSingle f at single
+    × (list ≡ flat (from_boundary (has_whole_turns f) (shift_of (size_of_slot f.vars 0)) (lanes f) single wide (Plain turns)))
 
 -- the tree does the elements of a row, by these places of values
 abbrev pub IsElements : FunctionValue → List ℕ → Tree → Type 0

@@ -8,7 +8,7 @@ use Rattle.orc_program.specs.declared.call.Call.{Call as Meant}
 use Rattle.orc_program.specs.Program.{FunctionValue, count_of, places_of}
 use Rattle.orc_program.specs.Kept.{is_function}
 use Rattle.orc_program.specs.Meaning.{State, row_of, rows_of, start}
-use Rattle.orc_program.specs.Need.{lanes, cost, turns}
+use Rattle.orc_program.specs.Need.{lanes, cost, has_whole_turns, turns}
 use Rattle.orc_program.specs.Slots.{call_of, size_of_slot}
 use Rattle.orc_plan.specs.Lowered.{steps_of, sizes_of}
 use Rattle.orc_plan.specs.Places.{PlacedValue}
@@ -137,11 +137,11 @@ DoesElements f at count aligned list =
 abbrev pub arrays_of : FunctionValue → ℕ
 arrays_of f = count_of kind.Dest f.vars + count_of kind.Source f.vars
 
--- wherever this list stands in code that has values at these places, in each good call it does all elements of a row whose number RCX has, in so many steps a turn and few besides; where some element from which on a register is filled has the first dest's cell at a multiple of 16, a whole register of the first dest is stored by no movdqu, unless another dest is the very same array
+-- wherever this list stands in code that has values at these places, in each good call it does all elements of a row whose number RCX has, in so many steps a turn and few besides; where some element from which on a register is filled has the first dest's cell at a multiple of 16, which is the first one if the row is whole turns by the facts, a whole register of the first dest is stored by no movdqu, unless another dest is the very same array
 abbrev pub DoesRow : FunctionValue → List ℕ → List Ins → Type 0
 DoesRow f at list =
     (code : Placed) (s : Point) (args : Call) (back : ℕ) → GoodCall (subject_of f) code s args back → (from : ℕ) → Stands code from list
     → (r : ℕ) → r < rows (subject_of f) args
     → (e : State) → HasCome f args s.core.memory r 0 e → (c : Core) → Holds f at s.core args e c → PointsAt f args r 0 c → c.gpr 1 ≡ args.n
-    → (done : Done f at code s.core args r 0 args.n (17 + 3 * arrays_of f + turns (lanes f) args.n * (cost f + arrays_of f + 6)) (turns (lanes f) args.n * (subject_of f).operands) from list c)
-    × (lanes f * size_of_slot f.vars 0 ≡ 16 → ((h : ℕ) × (h + lanes f ≤ args.n) × (cell (subject_of f) args 0 r h 0 % 16 ≡ 0)) → IsAlone f args → Each (λ m. StoresFirst (subject_of f) args m → ⊥) done.way)
+    → (done : Done f at code s.core args r 0 args.n (17 + 3 * arrays_of f + turns f args.n * (cost f + arrays_of f + 6)) (turns f args.n * (subject_of f).operands) from list c)
+    × (lanes f * size_of_slot f.vars 0 ≡ 16 → ((h : ℕ) × (h + lanes f ≤ args.n) × (cell (subject_of f) args 0 r h 0 % 16 ≡ 0) × (has_whole_turns f ≡ true → h ≡ 0)) → IsAlone f args → Each (λ m. StoresFirst (subject_of f) args m → ⊥) done.way)

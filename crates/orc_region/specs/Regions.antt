@@ -1,4 +1,4 @@
--- The elements of a row: single ones until the first dest's cell is at a multiple of 16, then several at once, then single ones.
+-- The elements of a row: single ones until the first dest's cell is at a multiple of 16, then several at once, then single ones; by what is known of every call, some of these regions are left out.
 use Rattle.std.specs.Prelude.{ℕ, zero, suc, ◌-◌, ◌^◌, pos, List, [], ◌∷◌}
 use Rattle.x86_ins.specs.declared.ins.AluOp.TheVariants.{Add, Sub, And}
 use Rattle.x86_ins.specs.declared.ins.ShiftOp.TheVariants.{Shr}
@@ -64,9 +64,17 @@ abbrev pub aligned_row : ℕ → ℕ → Flow → Flow → Flow → Flow
 aligned_row k lanes single wide aligned =
     Chain (gap_flow k) (Chain (Plain (behind_code lanes)) (Chain (Choice Ns (reached_flow single aligned) (unreached_flow wide)) (tail_flow lanes single)))
 
--- a row without aligned stores
+-- several at once from the first element on, where RCX is the number of elements
+abbrev pub whole_row : ℕ → Flow → Flow
+whole_row lanes wide = Chain (Plain (AluImm Sub 1 (pos lanes) ∷ [])) wide
+
+-- and then single ones
 abbrev pub plain_row : ℕ → Flow → Flow → Flow
-plain_row lanes single wide = Chain (Plain (AluImm Sub 1 (pos lanes) ∷ [])) (Chain wide (tail_flow lanes single))
+plain_row lanes single wide = Chain (whole_row lanes wide) (tail_flow lanes single)
+
+-- several at once from the first element on, with aligned stores where the first dest's cell is at a multiple of 16
+abbrev pub tested_row : ℕ → Flow → Flow → Flow
+tested_row lanes wide aligned = Chain (Plain (low_bits_code 4)) (Choice E (whole_row lanes aligned) (whole_row lanes wide))
 
 -- ---- several at once, from where RCX is so many less than the elements left
 

@@ -7,7 +7,7 @@ ghost use Rattle.x86_ins.specs.declared.ins.Ins.TheVariants.{Alu, AluImm};
 ghost use Rattle.x86_ins.specs.declared.ins.Cond.TheVariants.{Ne};
 ghost use Rattle.x86_flow.specs.Flow.{Plain, flat, loop_code};
 ghost use Rattle.x86_flow.specs.Tree.{flat_of};
-ghost use Rattle.orc_region.specs.Regions.{gap_code, gap_flow, low_bits_code, behind_code, enter_head_code, leave_head_code, tail_flow, wide_loops, aligned_row, plain_row};
+ghost use Rattle.orc_region.specs.Regions.{gap_code, gap_flow, low_bits_code, behind_code, enter_head_code, leave_head_code, tail_flow, wide_loops, aligned_row, whole_row, plain_row, tested_row};
 
 use crate::lists::{COUNTER, pointer};
 use orc_frame::{LEFT_AT, slot};
@@ -50,9 +50,9 @@ fn gap_list(alloc: Global, shift: u8) -> Result<InsList, AllocError>
     Ok(list)
 }
 
-/// Leaves in RAX the first dest's address modulo the size of its elements, and tells whether that is 0.
+/// Leaves in RAX the first dest's address modulo `1 << shift`, and tells whether that is 0.
 fn low_bits_list(alloc: Global, shift: u8) -> Result<InsList, AllocError>
-    requires { shift ≤ 3 }
+    requires { shift ≤ 4 }
     ensures { IfOk result (λ list. list ≡ low_bits_code shift) }
 {
     let mut list = InsList::new(alloc);
@@ -266,14 +266,40 @@ pub fn aligned_loops(
     chain(alloc, gap, counted)
 }
 
-/// The loops of a row without aligned stores.
+/// The loops of a row that is whole turns: `wide` does them from the first element on.
 #[tactic(auto, using(crate::proofs::Built::Loops::spelled_one))]
+pub fn whole_loops(alloc: Global, lanes: usize, wide: Flow) -> Result<Flow, AllocError>
+    requires { lanes ≤ 64 }
+    ensures { IfOk result (λ flow. flat_of flow ≡ flat (whole_row lanes (Plain (flat_of wide)))) }
+{
+    let less = of(counted(alloc, AluOp::Sub, lanes)?);
+    chain(alloc, less, wide)
+}
+
+/// The loops of a row: whole turns from the first element on, and then single elements.
 pub fn plain_loops(alloc: Global, lanes: usize, wide: Flow, tail: Block) -> Result<Flow, AllocError>
     requires { lanes ≤ 64 }
     ensures { IfOk result (λ flow. flat_of flow ≡ flat (plain_row lanes (Plain tail.list) (Plain (flat_of wide)))) }
 {
-    let less = of(counted(alloc, AluOp::Sub, lanes)?);
+    let turns = whole_loops(alloc, lanes, wide)?;
     let last = rest(alloc, lanes, tail)?;
-    let turns = chain(alloc, wide, last)?;
-    chain(alloc, less, turns)
+    chain(alloc, turns, last)
+}
+
+/// The loops of a row that is whole turns: `aligned` does them where the first dest's first cell is at a multiple of 16, and else `wide`.
+#[tactic(auto, using(crate::proofs::Built::Loops::spelled_low_bits, crate::proofs::Built::Loops::tested_whole))]
+pub fn tested_loops(
+    alloc: Global,
+    lanes: usize,
+    wide: Flow,
+    aligned: Flow,
+) -> Result<Flow, AllocError>
+    requires { lanes ≤ 64 }
+    ensures { IfOk result (λ flow. flat_of flow ≡ flat (tested_row lanes (Plain (flat_of wide)) (Plain (flat_of aligned)))) }
+{
+    let bits = of(low_bits_list(alloc, 4)?);
+    let yes = whole_loops(alloc, lanes, aligned)?;
+    let no = whole_loops(alloc, lanes, wide)?;
+    let either = choice(alloc, Cond::E, yes, no)?;
+    chain(alloc, bits, either)
 }

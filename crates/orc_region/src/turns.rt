@@ -1,18 +1,20 @@
 //! What does the elements of a row: blocks and turns of one element and of several, in loops.
 
-ghost use Rattle.std.specs.Prelude.{◌≡◌, ◌≤◌, ◌+◌, ◌*◌, ◌==◌, ◌⊎◌, All, IfOk, slice_index, true};
+ghost use Rattle.std.specs.Prelude.{◌≡◌, ◌<◌, ◌≤◌, ◌+◌, ◌*◌, ◌==◌, ◌⊎◌, All, IfOk, nat_le, slice_index, true};
 ghost use Rattle.orc_program.specs.Program.{FunctionValue};
+ghost use Rattle.orc_program.specs.Need.{divides_each};
 ghost use Rattle.orc_plan.specs.Places.{GoodPlaces};
 ghost use Rattle.orc_frame.specs.Frame.{IsLayout};
 ghost use Rattle.x86_flow.specs.Tree.{flat_of};
-ghost use Rattle.orc_region.specs.Code.{AreActions, IsReady, IsBlockBy, AreBlocks, IsTurnBy, IsBlock, IsTurnOf, AreWholeTurns, IsElements, aligned_first, blocks_of, shift_of, used_from};
+ghost use Rattle.orc_region.specs.Code.{AreActions, IsReady, IsBlockBy, AreBlocks, IsTurnBy, IsBlock, IsTurnOf, AreWholeTurns, AreFromFirst, AreFromBoundary, IsElements, aligned_first, blocks_of, shift_of, used_from};
 ghost use Rattle.orc_region.specs.Elements.{AreOf, DoesElements, DoesRow};
 
 use crate::lists::{COUNTER, push_actions, push_advances};
-use crate::loops::{aligned_loops, plain_loops, wide_loops};
+use crate::loops::{aligned_loops, plain_loops, tested_loops, whole_loops, wide_loops};
 use crate::span::Span;
 use orc_frame::Layout;
 use orc_plan::{Core, Placed};
+use orc_program::CountFacts;
 use std::alloc::{AllocError, Global};
 use x86_flow::Block;
 use x86_flow::tree::{Flow, plain, repeat};
@@ -218,6 +220,7 @@ fn shift_of(size: usize) -> u8
 
 /// The loops over the elements of a row, by the layout of the same function. The pointers of arrays are at the first element, and the counter
 /// has the number of elements. Where elements of the first dest fill a register, several elements at once are stored to it at multiples of 16.
+/// No loop does the single elements before the first such one, or those behind the last whole turn, where by the facts there are none.
 pub fn row_flow(alloc: Global, p: &Placed, l: &Layout) -> Result<Flow, AllocError>
     requires of { (f : FunctionValue) × AreOf f p.now l.now }
     ensures is { IfOk result (λ flow. (f : FunctionValue) → AreOf f p.now l.now → IsElements f p.now.places flow) }
@@ -271,6 +274,72 @@ fn whole_turns(
     )
 }
 
+/// Whether each count that meets facts is a multiple of a number.
+fn divides_each(lanes: usize, facts: CountFacts) -> bool
+    requires { 0 < lanes }
+    ensures { result ≡ divides_each lanes facts }
+{
+    (facts.exact != 0 && facts.exact as usize % lanes == 0) || facts.mult as usize % lanes == 0
+}
+
+/// Whether the first dest, if there is one, is at a multiple of 16 at the beginning of each row.
+fn begins_aligned(layout: &Layout) -> bool
+    ensures { result ≡ nat_le 16 (slice_index layout.now.facts.aligns.items 0) }
+{
+    match layout.facts.aligns.as_slice() {
+        [align, ..] => *align >= 16,
+        [] => false,
+    }
+}
+
+/// Whole turns from the first element of a row on, and single elements where those may leave some.
+fn from_first(
+    alloc: Global,
+    core: &Core,
+    places: &[u8],
+    layout: &Layout,
+    turns: Flow,
+) -> Result<Flow, AllocError>
+    requires of { (f : FunctionValue) × AreOf f (record { core = core.now; places = places.now }) layout.now }
+    requires places { GoodPlaces core.now.steps places.now }
+    ensures { IfOk result (λ flow. (f : FunctionValue) → AreOf f (record { core = core.now; places = places.now }) layout.now → AreFromFirst f places.now (flat_of turns) (flat_of flow)) }
+{
+    let lanes = core.lanes as usize;
+    if divides_each(lanes, layout.facts.n) {
+        return whole_loops(alloc, lanes, turns);
+    }
+    let single = turn(alloc, core, places, layout, 1, false, 1)?;
+    plain_loops(alloc, lanes, turns, single)
+}
+
+/// Whole turns with aligned stores from where the first dest, which fills a register, is at a multiple of 16, and by the turn `wide` where
+/// it is so nowhere; and single elements before and behind them, where there may be some.
+fn from_boundary(
+    alloc: Global,
+    core: &Core,
+    places: &[u8],
+    layout: &Layout,
+    wide: Block,
+    turns: Flow,
+) -> Result<Flow, AllocError>
+    requires of { (f : FunctionValue) × AreOf f (record { core = core.now; places = places.now }) layout.now }
+    requires places { GoodPlaces core.now.steps places.now }
+    requires filled { core.now.lanes * slice_index core.now.sizes 0 ≡ 16 }
+    ensures { IfOk result (λ flow. (f : FunctionValue) → AreOf f (record { core = core.now; places = places.now }) layout.now → AreFromBoundary f places.now wide.list (flat_of turns) (flat_of flow)) }
+{
+    let lanes = core.lanes as usize;
+    let wide = repeat(alloc, Cond::Ns, plain(wide))?;
+    if divides_each(lanes, layout.facts.n) {
+        return tested_loops(alloc, lanes, wide, turns);
+    }
+    let tail = turn(alloc, core, places, layout, 1, false, 1)?;
+    let head = Block {
+        list: InsList::from_slice(alloc, tail.list.as_slice())?,
+    };
+    let shift = shift_of(core.sizes[0] as usize);
+    aligned_loops(alloc, shift, lanes, head, wide, turns, tail)
+}
+
 /// The loops over the elements of a row.
 fn elements(alloc: Global, core: &Core, places: &[u8], layout: &Layout) -> Result<Flow, AllocError>
     requires of { (f : FunctionValue) × AreOf f (record { core = core.now; places = places.now }) layout.now }
@@ -279,18 +348,16 @@ fn elements(alloc: Global, core: &Core, places: &[u8], layout: &Layout) -> Resul
 {
     let lanes = core.lanes as usize;
     let size = core.sizes[0] as usize;
-    let tail = turn(alloc, core, places, layout, 1, false, 1)?;
     let wide = turn(alloc, core, places, layout, lanes, false, 1)?;
     let blocks = blocks_of(wide.list.len());
     if lanes * size != REGISTER {
         let turns = whole_turns(alloc, core, places, layout, false, blocks, wide)?;
-        return plain_loops(alloc, lanes, turns, tail);
+        return from_first(alloc, core, places, layout, turns);
     }
     let stored = turn(alloc, core, places, layout, lanes, true, 1)?;
-    let aligned = whole_turns(alloc, core, places, layout, true, blocks, stored)?;
-    let head = Block {
-        list: InsList::from_slice(alloc, tail.list.as_slice())?,
-    };
-    let wide = repeat(alloc, Cond::Ns, plain(wide))?;
-    aligned_loops(alloc, shift_of(size), lanes, head, wide, aligned, tail)
+    let turns = whole_turns(alloc, core, places, layout, true, blocks, stored)?;
+    if begins_aligned(layout) {
+        return from_first(alloc, core, places, layout, turns);
+    }
+    from_boundary(alloc, core, places, layout, wide, turns)
 }

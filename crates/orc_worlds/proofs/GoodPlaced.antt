@@ -20,6 +20,7 @@ use Rattle.orc_program.specs.Program.{FunctionValue, count_of}
 use Rattle.orc_program.specs.Meaning.{no_place}
 use Rattle.orc_program.specs.Slots.{slots, place_with}
 use Rattle.orc_program.specs.Cut.{IsCell}
+use Rattle.orc_program.specs.Facts.{facts_of, call_meets}
 use Rattle.orc_program.specs.Good.{GoodArrays}
 use Rattle.orc_frame.specs.Layout.{frame_size}
 use Rattle.orc_frame.specs.Parts.{InBlock, InReturn, InFrame, block_size, base_word, param_word}
@@ -483,7 +484,7 @@ module _ (f : FunctionValue) (entry : image.FunctionValue) (job : Job) (c : IsCo
     reads = reads;
     returns = returns;
     arrays = subst (λ x. GoodArrays f x core.memory) (sym call_same) arrays_good;
-    facts = g.facts;
+    facts = ap (call_meets (facts_of f) f.two_d) call_same ∙ g.facts;
     block = λ a h. mapped_from block_at 304 block block_byte a h.0 h.1;
     return = λ a h. mapped_from stack_at 8 (word_bytes return_to) return_byte a h.0 h.1;
     frame = λ a h. mapped_from (stack_at - frame_size) frame_size frame_bytes frame_byte a h.0 h.1;

@@ -7,6 +7,7 @@ use Rattle.orc_program.specs.Program.{FunctionValue, count_of}
 use Rattle.orc_program.specs.Kept.{is_function}
 use Rattle.orc_program.specs.Meaning.{no_place, emulate, rows}
 use Rattle.orc_program.specs.Need.{steps}
+use Rattle.orc_program.specs.Facts.{facts_of, call_meets}
 use Rattle.orc_program.specs.Good.{GoodArrays}
 use Rattle.orc_program.specs.Cut.{IsCell}
 use Rattle.orc_frame.specs.Parts.{sum_word}
@@ -43,7 +44,7 @@ pub record HasWidths (job : Job) : Type 0 where
   pub params : (j : ℕ) → slice_index job.call.params.items j < 2 ^ 64
   pub bytes : (a v : ℕ) → memory_of job.memory a ≡ Some v → v < 256
 
--- a job calls a function with as many arrays and parameters as it has; the arrays are good on the job's segments, and these have no bytes but those of the arrays' cells
+-- a job calls a function with as many arrays and parameters as it has; the call meets the function's facts; the arrays are good on the job's segments, and these have no bytes but those of the arrays' cells
 pub record IsGoodJob (f : FunctionValue) (entry : image.FunctionValue) (job : Job) : Type 0 where
   pub kept : IsJob job
   pub widths : HasWidths job
@@ -51,7 +52,7 @@ pub record IsGoodJob (f : FunctionValue) (entry : image.FunctionValue) (job : Jo
   pub params : length job.call.params.items ≡ entry.params
   pub good : GoodArrays f job.call (memory_of job.memory)
   pub exact : (a : ℕ) → IsMapped (memory_of job.memory) a → IsCell f job.call a
-  pub facts : (subject_of f).facts (words_of entry.dests job.call) ≡ true
+  pub facts : call_meets (facts_of f) f.two_d job.call ≡ true
 
 -- where it is placed to be run it makes a good call
 abbrev pub MakesGoodCall : Type 0

@@ -288,7 +288,7 @@ fn as_many_values_as_there_are_places(rt: HostRuntime) -> Result<(), AllocError>
 
 /// What the code of a text does with a job: the text of its function `f`, the job but for its function and its budget, and the result but for
 /// the steps.
-const RUNS: [(&str, &str, &str); 15] = [
+const RUNS: [(&str, &str, &str); 18] = [
     (
         ".dest 1 d1\n.source 1 s1\n.source 1 s2\naddb d1, s1, s2\n",
         r#""n":3,"m":1,"arrays":[{"base":4096,"stride":0},{"base":8192,"stride":0},{"base":12288,"stride":0}],"params":[],"memory":[{"at":4096,"bytes":"000000"},{"at":8192,"bytes":"01ff80"},{"at":12288,"bytes":"010180"}]"#,
@@ -366,6 +366,22 @@ const RUNS: [(&str, &str, &str); 15] = [
         ELEVEN,
         r#""n":19,"m":1,"arrays":[{"base":4096,"stride":0},{"base":8192,"stride":0}],"params":[],"memory":[{"at":4096,"bytes":"00000000000000000000000000000000000000"},{"at":8192,"bytes":"0001020304050607080910111213141516ff80"}]"#,
         "\nmem 4096 000a141e28323c46505aa0aab4bec8d2dcf600\nmem 8192 0001020304050607080910111213141516ff80\n",
+    ),
+    // Rows of whole turns, whose first dest begins at a multiple of 16, or doesn't, by its align or not.
+    (
+        ".n mult 4\n.flags 2d\n.dest 4 d1\n.source 4 s1\naddl d1, s1, 1\n",
+        r#""n":4,"m":2,"arrays":[{"base":4096,"stride":20},{"base":8192,"stride":0}],"params":[],"memory":[{"at":4096,"bytes":"00000000000000000000000000000000"},{"at":4116,"bytes":"00000000000000000000000000000000"},{"at":8192,"bytes":"000000000100000002000000ffffffff"}]"#,
+        "\nmem 4096 01000000020000000300000000000000\nmem 4116 01000000020000000300000000000000\nmem 8192 000000000100000002000000ffffffff\n",
+    ),
+    (
+        ".n mult 4\n.flags 2d\n.dest 4 d1 align 16\n.source 4 s1\naddl d1, s1, 1\n",
+        r#""n":4,"m":2,"arrays":[{"base":4096,"stride":32},{"base":8192,"stride":0}],"params":[],"memory":[{"at":4096,"bytes":"00000000000000000000000000000000"},{"at":4128,"bytes":"00000000000000000000000000000000"},{"at":8192,"bytes":"000000000100000002000000ffffffff"}]"#,
+        "\nmem 4096 01000000020000000300000000000000\nmem 4128 01000000020000000300000000000000\nmem 8192 000000000100000002000000ffffffff\n",
+    ),
+    (
+        ".dest 4 d1 align 32\n.source 4 s1\naddl d1, s1, 1\n",
+        r#""n":5,"m":1,"arrays":[{"base":4096,"stride":0},{"base":8192,"stride":0}],"params":[],"memory":[{"at":4096,"bytes":"0000000000000000000000000000000000000000"},{"at":8192,"bytes":"000000000100000002000000ffffffff09000000"}]"#,
+        "\nmem 4096 010000000200000003000000000000000a000000\nmem 8192 000000000100000002000000ffffffff09000000\n",
     ),
     // The volume kernel.
     (

@@ -11,6 +11,7 @@ use Rattle.orc_ops.specs.declared.opcode.Op.TheVariants.{Addb}
 use Rattle.orc_program.specs.declared.program.VarKind.TheVariants as kind
 use Rattle.orc_program.specs.declared.program.Operand.TheVariants as operand
 use Rattle.orc_program.specs.Program.{FunctionValue}
+use Rattle.orc_program.specs.Facts.{facts_of}
 use Rattle.orc_frame.specs.GoodCall.{GoodCall}
 use Rattle.orc_region.proofs.Checked.Slots.{Limits}
 use Rattle.orc_region.proofs.Calls.Agree.{InCells, good_by_variables, cells_by_slots, cells_by_variables}
@@ -93,6 +94,11 @@ in_cell a w = in_slots a (cells_by_variables doubles few call (λ k h. lit< tt) 
 the_cell : (a : ℕ) → a ≡ 65536 → subject.cells call a
 the_cell a e = cells_by_slots doubles few call (λ k h. lit< tt) a (0, inl (omega arith), (0, omega arith, 0, omega arith, 0, omega arith, e))
 
+-- it states nothing of its calls
+meets_all : subject.facts call ≡ true
+unfolding facts_of
+meets_all = refl
+
 pub there_is : (bytes : List ℕ) → length bytes < 1000000 → GoodCall subject (record { bytes = bytes; start = 1073741824 }) point call 0
 there_is bytes short = record {
   first = refl;
@@ -111,7 +117,7 @@ there_is bytes short = record {
     separate = λ k l h g. inr (record { size = ap subject.size (only k h ∙ sym (only l g)); base = refl; stride = λ e. refl });
     mapped = λ a w. mapped a (inl (in_slots a w));
   });
-  facts = refl;
+  facts = meets_all;
   block = λ a w. mapped a (inr (inl (omega (arith, w.0), omega (arith, w.1))));
   return = λ a w. mapped a (inr (inr (omega (arith, w.0), omega (arith, w.1))));
   frame = λ a w. mapped a (inr (inr (omega (arith, w.0, w.1), omega (arith, w.0, w.1))));

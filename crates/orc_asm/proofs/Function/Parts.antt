@@ -27,7 +27,7 @@ use Rattle.orc_frame.specs.Subject.{Call as Arguments, InDests, rows}
 use Rattle.orc_frame.specs.Parts.{InFrame, InChanged, InBlock, InReturn, InSums, param_word, sum_word, block_size, InRunning}
 use Rattle.orc_frame.specs.GoodCall.{GoodCall}
 use Rattle.orc_frame.specs.Function.{IsCellByte, subject_of}
-use Rattle.orc_program.specs.Need.{lanes, turns}
+use Rattle.orc_program.specs.Need.{turns}
 use Rattle.orc_region.specs.Code.{Turns, pointer, elements_of, sum_register, sum_loads_code, sum_stores_code}
 use Rattle.orc_region.specs.Elements.{HasCome, Holds, PointsAt, InElements, InWords, IsDest, IsQuiet}
 use Rattle.orc_region.proofs.Block.Cells.{Numbers}
@@ -299,7 +299,7 @@ module _ (f : FunctionValue) (is : is_function f ≡ true) (at : List ℕ) (sing
           slots = λ x w. words x (omega (arith, w.0), omega (arith, w.1));
         }
 
-    does : (t : State) × (list : List Ins) × (d : Core) × Does Q (elements_of f single wide aligned large) c list d × Ended f known code s args back good Kept r e t c d × (length list ≤ regions_of (most_besides f) (lanes f) (most_turn f) args.n) × (weigh cell_weight list ≤ turns (lanes f) args.n * (subject_of f).operands)
+    does : (t : State) × (list : List Ins) × (d : Core) × Does Q (elements_of f single wide aligned large) c list d × Ended f known code s args back good Kept r e t c d × (length list ≤ regions_of (most_besides f) (turns f args.n) (most_turn f)) × (weigh cell_weight list ≤ turns f args.n * (subject_of f).operands)
     does =
         let x = row_does f is at single wide aligned large turns_are code s args back good r row e (e, h.emulated, refl) c holds points h.counter in
         let y = x.3 in
@@ -392,7 +392,7 @@ module _ (f : FunctionValue) (is : is_function f ≡ true) (at : List ℕ) (sing
         )
 
   pub parts : (first last : List Ins) → Prepares (layout_of f) first → Finishes (layout_of f) last
-      → Parts f known code s args back good Fair (first ++ sum_loads_code at count) (elements_of f single wide aligned large) (sum_stores_code at count ++ last) (regions_of (most_besides f) (lanes f) (most_turn f) args.n) (turns (lanes f) args.n * (subject_of f).operands)
+      → Parts f known code s args back good Fair (first ++ sum_loads_code at count) (elements_of f single wide aligned large) (sum_stores_code at count ++ last) (regions_of (most_besides f) (turns f args.n) (most_turn f)) (turns f args.n * (subject_of f).operands)
   parts first last prepares finishes = record {
     Kept = Kept;
     kept_on = kept_on;

@@ -5,7 +5,7 @@ use Rattle.orc_bits.proofs.LaneLaws.{change_other}
 use Rattle.orc_program.specs.declared.program.VarKind.TheVariants as kind
 use Rattle.orc_program.specs.Program.{FunctionValue, count_of}
 use Rattle.orc_program.specs.Checks.{patterns_of}
-use Rattle.orc_program.specs.Need.{lanes, turns, steps, steps_with, cost}
+use Rattle.orc_program.specs.Need.{turns, steps, steps_with, cost}
 use Rattle.orc_region.proofs.Sizes.Steps.{regions_of, regions_steps}
 use Rattle.x86_ins.specs.declared.ins.Ins.{Ins}
 use Rattle.x86_ins.specs.declared.ins.Ins.TheVariants.{Ret}
@@ -66,7 +66,7 @@ pub record AreShort (f : FunctionValue) (first last : List Ins) (turn besides : 
   pub besides_few : besides ≤ 17 + 3 * (count_of kind.Dest f.vars + count_of kind.Source f.vars)
 
 pub steps_rows : (f : FunctionValue) (known : Arrays f) (first last : List Ins) (turn besides n m : ℕ) → AreShort f first last turn besides
-    → length first + length last + (2 * (count_of kind.Dest f.vars + count_of kind.Source f.vars) + 3) + (1 + (if f.two_d then m else 1) * (2 + (regions_of besides (lanes f) turn n + 5 * (count_of kind.Dest f.vars + count_of kind.Source f.vars) + 5))) + 1
+    → length first + length last + (2 * (count_of kind.Dest f.vars + count_of kind.Source f.vars) + 3) + (1 + (if f.two_d then m else 1) * (2 + (regions_of besides (turns f n) turn + 5 * (count_of kind.Dest f.vars + count_of kind.Source f.vars) + 5))) + 1
     ≤ steps f n (if f.two_d then m else 1)
 steps_rows f known first last turn besides n m short =
     let arrays = count_of kind.Dest f.vars + count_of kind.Source f.vars in
@@ -74,27 +74,27 @@ steps_rows f known first last turn besides n m short =
     let c = length (patterns_of f.vars f.insns) in
     let rows = if f.two_d then m else 1 in
     let few : arrays ≤ 12 = omega (arith, known.few.dests, known.few.sources) in
-    subst (λ k. length first + length last + (2 * arrays + 3) + (1 + rows * (2 + (regions_of besides (lanes f) turn n + 5 * arrays + 5))) + 1 ≤ steps_with (lanes f) (cost f) c g arrays n k) (sym (one_or f.two_d m))
-    (regions_steps (lanes f) (cost f) c g arrays (length first + length last) besides turn n rows short.lists short.turn_few short.besides_few few)
+    subst (λ k. length first + length last + (2 * arrays + 3) + (1 + rows * (2 + (regions_of besides (turns f n) turn + 5 * arrays + 5))) + 1 ≤ steps_with (turns f n) (cost f) c g arrays k) (sym (one_or f.two_d m))
+    (regions_steps (turns f n) (cost f) c g arrays (length first + length last) besides turn rows short.lists short.turn_few short.besides_few few)
 
 -- ---- the whole
 
 module _ (f : FunctionValue) (known : Arrays f) (first : List Ins) (elements : Flow) (last : List Ins) (turn besides touches : ℕ) (short : AreShort f first last turn besides)
     (Tame : Point → Arguments → Core → Ins → Type 0)
     (own : (code : Placed) (s : Point) (args : Arguments) (back : ℕ) (good : GoodCall (subject_of f) code s args back) → Own f known code s args back good (Tame s args))
-    (parts : (code : Placed) (s : Point) (args : Arguments) (back : ℕ) (good : GoodCall (subject_of f) code s args back) → Parts f known code s args back good (Tame s args) first elements last (regions_of besides (lanes f) turn args.n) (turns (lanes f) args.n * touches)) where
+    (parts : (code : Placed) (s : Point) (args : Arguments) (back : ℕ) (good : GoodCall (subject_of f) code s args back) → Parts f known code s args back good (Tame s args) first elements last (regions_of besides (turns f args.n) turn) (turns f args.n * touches)) where
   abbrev pub flow : Flow
   flow = whole_flow first elements last f.two_d (count_of kind.Dest f.vars) (count_of kind.Source f.vars)
 
   -- of the moments of a way, at most so many have a property that an instruction which goes by no pointer doesn't have
   abbrev pub Counted : Point → Arguments → List Moment → Type 1
-  Counted s args way = (R : Moment → Type 0) → ((m : Moment) → Tame s args m.point.core m.ins → cell_weight m.ins ≡ 0 → R m → ⊥) → AtMost (weigh cell_weight first + rows (subject_of f) args * (turns (lanes f) args.n * touches) + weigh cell_weight last) R way
+  Counted s args way = (R : Moment → Type 0) → ((m : Moment) → Tame s args m.point.core m.ins → cell_weight m.ins ≡ 0 → R m → ⊥) → AtMost (weigh cell_weight first + rows (subject_of f) args * (turns f args.n * touches) + weigh cell_weight last) R way
 
   -- each good call of the code returns, with what follows from its being quiet, from Tame at each step and from the count
   pub runs_with : (P : Promise) → ((s : Point) (args : Arguments) (way : List Moment) (t : Point) → quiet (subject_of f) s s.core.memory args way t → Each (λ m. Tame s args m.point.core m.ins) way → Counted s args way → P s s.core.memory args way t) → Each IsAllowed (with_return flow) → RunsWith (subject_of f) P (spell_all (with_return flow))
   runs_with P promised allowed start s args back good =
       let code : Placed = record { bytes = spell_all (with_return flow); start = start } in
-      let x = path f known code s args back good (Tame s args) (own code s args back good) first elements last (regions_of besides (lanes f) turn args.n) (turns (lanes f) args.n * touches) (parts code s args back good) in
+      let x = path f known code s args back good (Tame s args) (own code s args back good) first elements last (regions_of besides (turns f args.n) turn) (turns f args.n * touches) (parts code s args back good) in
       let done = x.0 in
       let d = x.1 in
       let h = x.3 in
@@ -130,5 +130,5 @@ module _ (f : FunctionValue) (known : Arrays f) (first : List Ins) (elements : F
         more = promised s args b.way (returned d back)
             (each_map _ _ (λ m q a nd ns nf. q.0.quiet a nd nf ns) b.way b.each, λ a nd ns nf. h.still.quiet a nd nf ns)
             (each_map _ _ (λ m q. q.1) b.way b.each)
-            (λ R sees. at_most_back cell_weight R Q code s.core done d back (weigh cell_weight first + rows (subject_of f) args * (turns (lanes f) args.n * touches) + weigh cell_weight last) b refl h.light (λ m q. sees m q.1));
+            (λ R sees. at_most_back cell_weight R Q code s.core done d back (weigh cell_weight first + rows (subject_of f) args * (turns f args.n * touches) + weigh cell_weight last) b refl h.light (λ m q. sees m q.1));
       }

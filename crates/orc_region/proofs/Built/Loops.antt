@@ -10,7 +10,7 @@ use Rattle.x86_ins.specs.Way.{Each}
 use Rattle.x86_flow.specs.declared.tree.Flow.{Flow}
 use Rattle.x86_flow.specs.Flow.{Plain, flat, loop_code, choice_code}
 use Rattle.x86_flow.specs.Tree.{flat_of}
-use Rattle.orc_region.specs.Regions.{never, gap_code, gap_flow, low_bits_code, behind_code, enter_head_code, leave_head_code, tail_flow, aligned_row}
+use Rattle.orc_region.specs.Regions.{never, gap_code, gap_flow, low_bits_code, behind_code, enter_head_code, leave_head_code, tail_flow, aligned_row, whole_row, tested_row}
 
 three : (a b c d : List Ins) (i j k : Ins) → a ≡ [] → b ≡ a ++ i ∷ [] → c ≡ b ++ j ∷ [] → d ≡ c ++ k ∷ [] → d ≡ i ∷ j ∷ k ∷ []
 three a b c d i j k n p q r = r ∙ ap (λ l. l ++ k ∷ []) (q ∙ ap (λ l. l ++ j ∷ []) (p ∙ ap (λ l. l ++ i ∷ []) n))
@@ -68,6 +68,17 @@ pub gap_either : (flow bits either gap far : Flow) (a b c : List Ins) (k : ℕ) 
 gap_either flow bits either gap far a b c zero l p q r x y z e w = absurd (omega (arith, l))
 gap_either flow bits either gap far a b c (suc k) l p q r x y z e w =
     w ∙ ap (λ t. t ++ flat_of either) (x ∙ p) ∙ ap (λ t. low_bits_code (suc k) ++ t) (e ∙ ap (λ t. choice_code E t (flat_of far)) (y ∙ q) ∙ ap (λ t. choice_code E (gap_code (suc k)) t) (z ∙ r))
+
+pub tested_whole : (flow bits yes_way no_way either wide aligned : Flow) (list : List Ins) (lanes : ℕ) → list ≡ low_bits_code 4 → flat_of bits ≡ list
+    → flat_of yes_way ≡ flat (whole_row lanes (Plain (flat_of aligned)))
+    → flat_of no_way ≡ flat (whole_row lanes (Plain (flat_of wide)))
+    → flat_of either ≡ choice_code E (flat_of yes_way) (flat_of no_way)
+    → flat_of flow ≡ flat_of bits ++ flat_of either
+    → flat_of flow ≡ flat (tested_row lanes (Plain (flat_of wide)) (Plain (flat_of aligned)))
+tested_whole flow bits yes_way no_way either wide aligned list lanes n b y o e f =
+    let one = flat (whole_row lanes (Plain (flat_of aligned))) in
+    let ways : flat_of either ≡ choice_code E one (flat (whole_row lanes (Plain (flat_of wide)))) = e ∙ ap (λ t. choice_code E t (flat_of no_way)) y ∙ ap (λ t. choice_code E one t) o in
+    f ∙ ap (λ x. x ++ flat_of either) (b ∙ n) ∙ ap (λ x. low_bits_code 4 ++ x) ways
 
 pub aligned_whole : (flow gap behind yes_way no_way either last turns counted wide aligned : Flow) (head tail counts : List Ins) (k lanes : ℕ) → tail ≡ head → counts ≡ behind_code lanes → flat_of behind ≡ counts
     → flat_of gap ≡ flat (gap_flow k)

@@ -1,19 +1,21 @@
 -- The turns over the elements of a row, and the loops around them, as they are built.
-use Rattle.std.proofs.Common.{◌≡◌, ◌≢◌, ℕ, zero, suc, ◌+◌, ◌*◌, ◌<◌, ◌≤◌, ◌==◌, ◌&&◌, ◌⊎◌, if◌then◌else◌, Bool, true, false, true≢false, All, IsTrue, List, [], length, nat_lt, slice_index, sym, ap, ap₂, ◌∙◌, subst, arith, inl, inr, refl, ⊎_elim}
+use Rattle.std.proofs.Common.{◌≡◌, ◌≢◌, ℕ, zero, suc, ◌+◌, ◌*◌, ◌<◌, ◌≤◌, ◌==◌, ◌&&◌, ◌⊎◌, if◌then◌else◌, Bool, true, false, true≢false, All, IsTrue, List, [], length, nat_lt, nat_le, slice_index, sym, ap, ap₂, ◌∙◌, subst, arith, inl, inr, refl, ⊎_elim}
 use Rattle.std.proofs.lemmas.Bool.{ne_eqb, lt-ltb, ltb-true, eqb-true}
 use Rattle.orc_program.proofs.Sizes.{both}
 use Rattle.x86_ins.specs.declared.ins.Cond.TheVariants.{Ns}
 use Rattle.x86_ins.specs.declared.ins.Ins.{Ins}
 use Rattle.x86_ins.specs.Spelling.{has_spelling}
 use Rattle.x86_flow.specs.declared.tree.Flow.{Flow as Tree}
-use Rattle.x86_flow.specs.Flow.{Plain, flat, size, loop_code}
+use Rattle.x86_flow.specs.Flow.{Flow, Plain, flat, size, loop_code}
 use Rattle.x86_flow.specs.Tree.{flat_of}
 use Rattle.x86_flow.proofs.Shapes.{loop_size, loop_fine}
 use Rattle.x86_flow.proofs.Spelled.{all_allowed}
 use Rattle.orc_program.specs.declared.program.VarKind.TheVariants as kind
 use Rattle.orc_program.specs.Program.{FunctionValue, count_of}
 use Rattle.orc_program.specs.Kept.{is_function}
-use Rattle.orc_program.specs.Need.{lanes}
+use Rattle.orc_program.specs.declared.known.Facts.{Facts}
+use Rattle.orc_program.specs.Facts.{facts_of}
+use Rattle.orc_program.specs.Need.{lanes, divides_each, has_whole_turns, begins_aligned}
 use Rattle.orc_program.specs.Slots.{size_of_slot}
 use Rattle.orc_plan.specs.declared.steps.Step.{Step}
 use Rattle.orc_plan.specs.Lowered.{steps_of, sizes_of}
@@ -21,14 +23,14 @@ use Rattle.orc_plan.specs.Places.{GoodPlaces, PlacedValue}
 use Rattle.orc_frame.specs.declared.frame.Layout.{Layout}
 use Rattle.orc_frame.specs.Frame.{IsLayout}
 use Rattle.orc_frame.specs.Layout.{layout_of}
-use Rattle.orc_region.specs.Code.{IsReady, IsBlock, IsBlockBy, IsTurnBy, IsTurnOf, AreWholeTurns, used_from, Turns, IsElements, span_of, shift_of, is_filled, fills, blocks_of, turns_flow, elements_flow, elements_of}
+use Rattle.orc_region.specs.Code.{IsReady, IsBlock, IsBlockBy, IsTurnBy, IsTurnOf, AreWholeTurns, used_from, Turns, AreFromFirst, AreFromBoundary, IsElements, span_of, shift_of, is_filled, fills, blocks_of, turns_flow, from_first, from_boundary, elements_flow, elements_of}
 use Rattle.orc_region.specs.Elements.{AreOf, DoesElements}
-use Rattle.orc_region.specs.Regions.{aligned_row, plain_row, wide_loop, wide_loops}
+use Rattle.orc_region.specs.Regions.{aligned_row, whole_row, plain_row, tested_row, wide_loop, wide_loops}
 use Rattle.orc_region.proofs.Built.Slots.{first_there, used_dests, used_sources}
 use Rattle.orc_region.proofs.Calls.Blocks.{does_elements}
 use Rattle.orc_region.proofs.Turn.Blocks.{block_is, block_spelled}
 use Rattle.orc_region.proofs.Checked.Fits.{slot_sized}
-use Rattle.orc_region.proofs.Sizes.Loops.{Fits, fits_plain, fits_aligned, fits_larges}
+use Rattle.orc_region.proofs.Sizes.Loops.{Fits, fits_whole, fits_tested, fits_plain, fits_aligned, fits_larges}
 use Rattle.orc_region.proofs.Checked.Several.{IsCount, one_count, lanes_count}
 use Rattle.orc_region.proofs.Turn.Lists.{few_blocks, blocks_near, ready_is, turn_is, turn_fine, turn_spelled, turn_size}
 
@@ -148,8 +150,74 @@ filled_no : (dests n bytes : ℕ) → (0 < dests → n * bytes ≢ 16) → is_fi
 filled_no zero n bytes h = refl
 filled_no (suc dests) n bytes h = ap₂ (λ a b. a && b) (lt-ltb 0 (suc dests) (omega arith)) (ne_eqb (n * bytes) 16 (h (omega arith)))
 
-module _ (f : FunctionValue) (at sizes : List ℕ) (steps : List Step) (x : Lowered f at sizes steps) (n : ℕ) (n_is : n ≡ lanes f) (first : ℕ) (first_is : first ≡ slice_index sizes 0)
-    (tail turn : List Ins) (one : IsTurnOf f at 1 false 1 tail) (more : IsTurnOf f at n false 1 turn) (b : ℕ) (b_is : b ≡ blocks_of (length turn)) where
+-- by a layout's facts a row is whole turns, or begins at a multiple of 16
+stated_is : (f : FunctionValue) → (layout_of f).facts ≡ facts_of f
+unfolding layout_of
+stated_is f = refl
+
+pub whole_is : (f : FunctionValue) (l : Layout) → l ≡ layout_of f → (n : ℕ) → n ≡ lanes f → divides_each n l.facts.n ≡ has_whole_turns f
+whole_is f l e n n_is = ap₂ divides_each n_is (ap (λ (y : Layout). y.facts.n) e ∙ ap (λ (y : Facts). y.n) (stated_is f))
+
+begins_is : (f : FunctionValue) (l : Layout) → l ≡ layout_of f → 0 < count_of kind.Dest f.vars → nat_le 16 (slice_index l.facts.aligns.items 0) ≡ begins_aligned f
+begins_is f l e some =
+    ap (λ (y : Layout). nat_le 16 (slice_index y.facts.aligns.items 0)) e ∙ ap (λ (y : Facts). nat_le 16 (slice_index y.aligns.items 0)) (stated_is f)
+    ∙ sym (ap (λ t. t && nat_le 16 (slice_index (facts_of f).aligns.items 0)) (lt-ltb 0 (count_of kind.Dest f.vars) some))
+
+-- ---- turns from the first element on, or from a boundary
+
+flat_first : (w : Bool) (l : ℕ) (single : List Ins) (turns : Flow) → flat (from_first w l single (Plain (flat turns))) ≡ flat (from_first w l single turns)
+flat_first true l single turns = refl
+flat_first false l single turns = refl
+
+flat_boundary : (w : Bool) (k l : ℕ) (single wide : List Ins) (turns : Flow) → flat (from_boundary w k l single wide (Plain (flat turns))) ≡ flat (from_boundary w k l single wide turns)
+flat_boundary true k l single wide turns = refl
+flat_boundary false k l single wide turns = refl
+
+module _ (f : FunctionValue) (at : List ℕ) (n : ℕ) (n_is : n ≡ lanes f) where
+  pub whole_first : has_whole_turns f ≡ true → (turns t : Tree) → flat_of t ≡ flat (whole_row n (Plain (flat_of turns))) → AreFromFirst f at (flat_of turns) (flat_of t)
+  whole_first whole turns t e = (
+    [],
+    λ w. absurd (true≢false (sym whole ∙ w)),
+    e ∙ ap (λ k. flat (whole_row k (Plain (flat_of turns)))) n_is ∙ sym (ap (λ w. flat (from_first w (lanes f) [] (Plain (flat_of turns)))) whole),
+  )
+
+  pub plain_first : has_whole_turns f ≡ false → (single : List Ins) → IsTurnOf f at 1 false 1 single → (turns t : Tree) → flat_of t ≡ flat (plain_row n (Plain single) (Plain (flat_of turns))) → AreFromFirst f at (flat_of turns) (flat_of t)
+  plain_first some_left single one turns t e = (
+    single,
+    λ w. one,
+    e ∙ ap (λ k. flat (plain_row k (Plain single) (Plain (flat_of turns)))) n_is ∙ sym (ap (λ w. flat (from_first w (lanes f) single (Plain (flat_of turns)))) some_left),
+  )
+
+  module _ (turn : List Ins) (one_turn wide : Tree) (one_is : flat_of one_turn ≡ turn) (wide_is : flat_of wide ≡ loop_code Ns (flat_of one_turn)) where
+    wide_flat : flat_of wide ≡ loop_code Ns turn
+    wide_flat = wide_is ∙ ap (loop_code Ns) one_is
+
+    abbrev shift : ℕ
+    shift = shift_of (size_of_slot f.vars 0)
+
+    pub whole_boundary : has_whole_turns f ≡ true → (turns t : Tree) → flat_of t ≡ flat (tested_row n (Plain (flat_of wide)) (Plain (flat_of turns))) → AreFromBoundary f at turn (flat_of turns) (flat_of t)
+    whole_boundary whole turns t e = (
+      [],
+      λ w. absurd (true≢false (sym whole ∙ w)),
+      e
+          ∙ ap₂ (λ k w. flat (tested_row k (Plain w) (Plain (flat_of turns)))) n_is wide_flat
+          ∙ sym (ap (λ w. flat (from_boundary w shift (lanes f) [] turn (Plain (flat_of turns)))) whole),
+    )
+
+    pub searched_boundary : has_whole_turns f ≡ false → (single head : List Ins) → IsTurnOf f at 1 false 1 single → head ≡ single → (k : ℕ) → k ≡ shift → (turns t : Tree) → flat_of t ≡ flat (aligned_row k n (Plain head) (Plain (flat_of wide)) (Plain (flat_of turns)))
+        → AreFromBoundary f at turn (flat_of turns) (flat_of t)
+    searched_boundary some_left single head one same k k_is turns t e = (
+      single,
+      λ w. one,
+      e
+          ∙ ap₂ (λ k h. flat (aligned_row k n (Plain h) (Plain (flat_of wide)) (Plain (flat_of turns)))) k_is same
+          ∙ ap₂ (λ k w. flat (aligned_row shift k (Plain single) (Plain w) (Plain (flat_of turns)))) n_is wide_flat
+          ∙ sym (ap (λ w. flat (from_boundary w shift (lanes f) single turn (Plain (flat_of turns)))) some_left),
+    )
+
+-- ---- the loops of a row
+
+module _ (f : FunctionValue) (at sizes : List ℕ) (steps : List Step) (x : Lowered f at sizes steps) (n : ℕ) (n_is : n ≡ lanes f) (first : ℕ) (first_is : first ≡ slice_index sizes 0) where
   abbrev size_first : ℕ
   size_first = size_of_slot f.vars 0
 
@@ -157,47 +225,84 @@ module _ (f : FunctionValue) (at sizes : List ℕ) (steps : List Step) (x : Lowe
   first_size : 0 < count_of kind.Dest f.vars → first ≡ size_first
   first_size some = first_is ∙ ap (λ xs. slice_index xs 0) x.sizes_are ∙ slot_sized f x.kept 0 (inl some)
 
-  more_is : IsTurnOf f at (lanes f) false 1 turn
-  more_is = subst (λ k. IsTurnOf f at k false 1 turn) n_is more
+  -- there is one where a register is filled
+  some_dest : n * first ≡ 16 → 0 < count_of kind.Dest f.vars
+  some_dest fills = (first_there f x.kept sizes x.sizes_are (subst (λ s. 0 < s) first_is (some_factor n first fills))).0
 
-  pub plain_elements : n * first ≢ 16 → (wide : Tree) → AreWholeTurns f at false b turn (flat_of wide) → (t : Tree) → flat_of t ≡ flat (plain_row n (Plain tail) (Plain (flat_of wide))) → IsElements f at t
-  plain_elements test wide whole t e =
-      let w = subst (λ k. AreWholeTurns f at false k turn (flat_of wide)) b_is whole in (
-        tail,
-        turn,
-        [],
-        w.0,
-        record { good = good f at sizes steps x; one = one; more = more_is; stored = λ y. absurd (true≢false (sym y ∙ empty)); many = λ l. subst (λ k. IsTurnOf f at (lanes f) k (blocks_of (length turn)) w.0) (sym empty) (w.1 l) },
-        e ∙ ap₂ (λ k w. flat (plain_row k (Plain tail) (Plain w))) n_is w.2 ∙ sym (ap (λ k. flat (elements_flow k (shift_of size_first) (lanes f) (blocks_of (length turn)) tail turn [] w.0)) empty),
-      )
-    where
-      empty : is_filled (count_of kind.Dest f.vars) (lanes f) size_first ≡ false
-      empty = filled_no (count_of kind.Dest f.vars) (lanes f) size_first (λ some e. test (ap₂ (λ a b. a * b) n_is (first_size some) ∙ e))
+  pub shift_is : n * first ≡ 16 → shift_of first ≡ shift_of size_first
+  shift_is fills = ap shift_of (first_size (some_dest fills))
 
-  module _ (fills : n * first ≡ 16) (list : List Ins) (stored : IsTurnOf f at n true 1 list) (turns wide aligned : Tree) (turns_are : flat_of turns ≡ turn) (wide_is : flat_of wide ≡ loop_code Ns (flat_of turns)) (whole : AreWholeTurns f at true b list (flat_of aligned)) where
-    some_dest : 0 < count_of kind.Dest f.vars
-    some_dest = (first_there f x.kept sizes x.sizes_are (subst (λ s. 0 < s) first_is (some_factor n first fills))).0
+  abbrev whole : Bool
+  whole = has_whole_turns f
 
-    yes_filled : is_filled (count_of kind.Dest f.vars) (lanes f) size_first ≡ true
-    yes_filled = filled_yes (count_of kind.Dest f.vars) (lanes f) size_first some_dest (sym (ap₂ (λ a b. a * b) n_is (first_size some_dest)) ∙ fills)
+  module _ (turn : List Ins) (more : IsTurnOf f at n false 1 turn) (b : ℕ) (b_is : b ≡ blocks_of (length turn)) where
+    more_is : IsTurnOf f at (lanes f) false 1 turn
+    more_is = subst (λ k. IsTurnOf f at k false 1 turn) n_is more
 
-    wide_flat : flat_of wide ≡ loop_code Ns turn
-    wide_flat = wide_is ∙ ap (loop_code Ns) turns_are
+    by_blocks : (aligned : Bool) (list : List Ins) (turns : Tree) → AreWholeTurns f at aligned b list (flat_of turns) → AreWholeTurns f at aligned (blocks_of (length turn)) list (flat_of turns)
+    by_blocks aligned list turns w = subst (λ k. AreWholeTurns f at aligned k list (flat_of turns)) b_is w
 
-    pub aligned_elements : (head : List Ins) (shift : ℕ) → head ≡ tail → shift ≡ shift_of first → (t : Tree) → flat_of t ≡ flat (aligned_row shift n (Plain head) (Plain (flat_of wide)) (Plain (flat_of aligned))) → IsElements f at t
-    aligned_elements head shift same s t e =
-        let w = subst (λ k. AreWholeTurns f at true k list (flat_of aligned)) b_is whole in (
-          tail,
+    pub plain_elements : n * first ≢ 16 → (turns : Tree) → AreWholeTurns f at false b turn (flat_of turns) → (t : Tree) → AreFromFirst f at (flat_of turns) (flat_of t) → IsElements f at t
+    plain_elements test turns are t a =
+        let w = by_blocks false turn turns are in (
+          a.0,
           turn,
-          list,
+          [],
           w.0,
-          record { good = good f at sizes steps x; one = one; more = more_is; stored = λ y. subst (λ k. IsTurnOf f at k true 1 list) n_is stored; many = λ l. subst (λ k. IsTurnOf f at (lanes f) k (blocks_of (length turn)) w.0) (sym yes_filled) (w.1 l) },
-          e
-              ∙ ap₂ (λ k h. flat (aligned_row k n (Plain h) (Plain (flat_of wide)) (Plain (flat_of aligned)))) (s ∙ ap shift_of (first_size some_dest)) same
-              ∙ ap₂ (λ k w. flat (aligned_row (shift_of size_first) k (Plain tail) (Plain w) (Plain (flat_of aligned)))) n_is wide_flat
-              ∙ ap (λ a. flat (aligned_row (shift_of size_first) (lanes f) (Plain tail) (Plain (loop_code Ns turn)) (Plain a))) w.2
-              ∙ sym (ap (λ k. flat (elements_flow k (shift_of size_first) (lanes f) (blocks_of (length turn)) tail turn list w.0)) yes_filled),
+          record { good = good f at sizes steps x; one = a.1; more = more_is; stored = λ y. absurd (true≢false (sym y ∙ empty)); many = λ l. subst (λ k. IsTurnOf f at (lanes f) k (blocks_of (length turn)) w.0) (sym empty) (w.1 l) },
+          a.2
+              ∙ ap (λ z. flat (from_first whole (lanes f) a.0 (Plain z))) w.2
+              ∙ flat_first whole (lanes f) a.0 (turns_flow (lanes f) (blocks_of (length turn)) w.0 turn)
+              ∙ sym (ap (λ k. flat (elements_flow k (begins_aligned f) whole (shift_of size_first) (lanes f) (blocks_of (length turn)) a.0 turn [] w.0)) empty),
         )
+      where
+        empty : is_filled (count_of kind.Dest f.vars) (lanes f) size_first ≡ false
+        empty = filled_no (count_of kind.Dest f.vars) (lanes f) size_first (λ some e. test (ap₂ (λ a b. a * b) n_is (first_size some) ∙ e))
+
+    module _ (fills : n * first ≡ 16) (list : List Ins) (stored : IsTurnOf f at n true 1 list) (turns : Tree) (are : AreWholeTurns f at true b list (flat_of turns)) (l : Layout) (l_is : l ≡ layout_of f) where
+      yes_filled : is_filled (count_of kind.Dest f.vars) (lanes f) size_first ≡ true
+      yes_filled = filled_yes (count_of kind.Dest f.vars) (lanes f) size_first (some_dest fills) (sym (ap₂ (λ a b. a * b) n_is (first_size (some_dest fills))) ∙ fills)
+
+      w : AreWholeTurns f at true (blocks_of (length turn)) list (flat_of turns)
+      w = by_blocks true list turns are
+
+      these : (single : List Ins) → (whole ≡ false → IsTurnOf f at 1 false 1 single) → Turns f at single turn list w.0
+      these single one = record {
+        good = good f at sizes steps x;
+        one = one;
+        more = more_is;
+        stored = λ y. subst (λ k. IsTurnOf f at k true 1 list) n_is stored;
+        many = λ l. subst (λ k. IsTurnOf f at (lanes f) k (blocks_of (length turn)) w.0) (sym yes_filled) (w.1 l);
+      }
+
+      abbrev Elements : Bool → Bool → List Ins → List Ins
+      Elements filled begins single = flat (elements_flow filled begins whole (shift_of size_first) (lanes f) (blocks_of (length turn)) single turn list w.0)
+
+      pub begun_elements : nat_le 16 (slice_index l.facts.aligns.items 0) ≡ true → (t : Tree) → AreFromFirst f at (flat_of turns) (flat_of t) → IsElements f at t
+      begun_elements begins t a = (
+        a.0,
+        turn,
+        list,
+        w.0,
+        these a.0 a.1,
+        a.2
+            ∙ ap (λ z. flat (from_first whole (lanes f) a.0 (Plain z))) w.2
+            ∙ flat_first whole (lanes f) a.0 (turns_flow (lanes f) (blocks_of (length turn)) w.0 list)
+            ∙ sym (ap₂ (λ k q. Elements k q a.0) yes_filled (sym (begins_is f l l_is (some_dest fills)) ∙ begins)),
+      )
+
+      pub searched_elements : nat_le 16 (slice_index l.facts.aligns.items 0) ≡ false → (t : Tree) → AreFromBoundary f at turn (flat_of turns) (flat_of t) → IsElements f at t
+      searched_elements begins t a = (
+        a.0,
+        turn,
+        list,
+        w.0,
+        these a.0 a.1,
+        a.2
+            ∙ ap (λ z. flat (from_boundary whole (shift_of size_first) (lanes f) a.0 turn (Plain z))) w.2
+            ∙ flat_boundary whole (shift_of size_first) (lanes f) a.0 turn (turns_flow (lanes f) (blocks_of (length turn)) w.0 list)
+            ∙ sym (ap₂ (λ k q. Elements k q a.0) yes_filled (sym (begins_is f l l_is (some_dest fills)) ∙ begins)),
+      )
 
 -- ---- their bytes
 
@@ -222,7 +327,7 @@ fits_turns lanes b most few large turn h g = go (nat_lt 1 b) refl
 
 -- they are allowed, and are few
 pub fits_elements : (f : FunctionValue) → is_function f ≡ true → (at : List ℕ) (single wide aligned large : List Ins) → Turns f at single wide aligned large → Fits 960000 (flat (elements_of f single wide aligned large))
-fits_elements f h at single wide aligned large t = go (fills f) refl
+fits_elements f h at single wide aligned large t = go (fills f) (begins_aligned f) refl
   where
     count : IsCount f (lanes f)
     count = lanes_count f h
@@ -236,8 +341,8 @@ fits_elements f h at single wide aligned large t = go (fills f) refl
         let bytes = turn_size f h at t.good count is_count aligned b near list x in
         record { allowed = all_allowed list (turn_fine f h at t.good count is_count aligned b near list x); bytes = omega (arith, bytes, room) }
 
-    fits_one : Fits 118943 single
-    fits_one = fits_turn 1 (one_count f h) false 1 118943 (omega arith) (omega arith) single t.one
+    fits_one : has_whole_turns f ≡ false → Fits 118943 single
+    fits_one e = fits_turn 1 (one_count f h) false 1 118943 (omega arith) (omega arith) single (t.one e)
 
     fits_more : Fits 118943 wide
     fits_more = fits_turn (lanes f) count false 1 118943 (omega arith) (omega arith) wide t.more
@@ -245,18 +350,34 @@ fits_elements f h at single wide aligned large t = go (fills f) refl
     fits_stored : fills f ≡ true → Fits 118943 aligned
     fits_stored e = fits_turn (lanes f) count true 1 118943 (omega arith) (omega arith) aligned (t.stored e)
 
-    fits_many : 1 < blocks_of (length wide) → Fits 475343 large
-    fits_many l = (let few = few_blocks (length wide) in fits_turn (lanes f) count (fills f) (blocks_of (length wide)) 475343 few (omega (arith, few)) large (t.many l))
+    abbrev b : ℕ
+    b = blocks_of (length wide)
 
-    go : (k : Bool) → fills f ≡ k → Fits 960000 (flat (elements_flow (fills f) (shift_of (size_of_slot f.vars 0)) (lanes f) (blocks_of (length wide)) single wide aligned large))
-    go true e =
-        let body = fits_turns (lanes f) (blocks_of (length wide)) count.most (few_blocks (length wide)) large aligned (fits_stored e) fits_many in
-        let fits = fits_aligned (Plain single) (wide_loop (Plain wide)) (turns_flow (lanes f) (blocks_of (length wide)) large aligned) (lanes f) 118943 118955 594400 most (omega arith) (omega arith) (omega arith) fits_one (fits_wide 118943 (omega arith) wide fits_more) body (shift_of (size_of_slot f.vars 0)) (shift_few (size_of_slot f.vars 0)) in
-        subst (λ k. Fits 960000 (flat (elements_flow k (shift_of (size_of_slot f.vars 0)) (lanes f) (blocks_of (length wide)) single wide aligned large))) (sym e) (record { allowed = fits.allowed; bytes = (let b = fits.bytes in omega (arith, b)) })
-    go false e =
-        let body = fits_turns (lanes f) (blocks_of (length wide)) count.most (few_blocks (length wide)) large wide fits_more fits_many in
-        let fits = fits_plain (Plain single) (turns_flow (lanes f) (blocks_of (length wide)) large wide) (wide_loop (Plain wide)) (lanes f) 118943 594400 118955 most (omega arith) (omega arith) (omega arith) fits_one body (fits_wide 118943 (omega arith) wide fits_more) in
-        subst (λ k. Fits 960000 (flat (elements_flow k (shift_of (size_of_slot f.vars 0)) (lanes f) (blocks_of (length wide)) single wide aligned large))) (sym e) (record { allowed = fits.allowed; bytes = (let b = fits.bytes in omega (arith, b)) })
+    -- whole turns of which those of one block are these
+    fits_body : (turn : List Ins) → Fits 118943 turn → Fits 594400 (flat (turns_flow (lanes f) b large turn))
+    fits_body turn x = fits_turns (lanes f) b count.most (few_blocks (length wide)) large turn x (λ l. let few = few_blocks (length wide) in fits_turn (lanes f) count (fills f) b 475343 few (omega (arith, few)) large (t.many l))
+
+    fits_first : (w : Bool) → has_whole_turns f ≡ w → (turns : Flow) → Fits 594400 (flat turns) → Fits 960000 (flat (from_first w (lanes f) single turns))
+    fits_first true e turns x = (let y = fits_whole turns (lanes f) 594400 most x in record { allowed = y.allowed; bytes = (let b = y.bytes in omega (arith, b)) })
+    fits_first false e turns x =
+        let y = fits_plain (Plain single) turns turns (lanes f) 118943 594400 594400 most (omega arith) (omega arith) (omega arith) (fits_one e) x x in
+        record { allowed = y.allowed; bytes = (let b = y.bytes in omega (arith, b)) }
+
+    abbrev shift : ℕ
+    shift = shift_of (size_of_slot f.vars 0)
+
+    fits_boundary : (w : Bool) → has_whole_turns f ≡ w → (turns : Flow) → Fits 594400 (flat turns) → Fits 960000 (flat (from_boundary w shift (lanes f) single wide turns))
+    fits_boundary true e turns x =
+        let y = fits_tested (wide_loop (Plain wide)) turns (lanes f) 118955 594400 most (omega arith) (omega arith) (fits_wide 118943 (omega arith) wide fits_more) x in
+        record { allowed = y.allowed; bytes = (let b = y.bytes in omega (arith, b)) }
+    fits_boundary false e turns x =
+        let y = fits_aligned (Plain single) (wide_loop (Plain wide)) turns (lanes f) 118943 118955 594400 most (omega arith) (omega arith) (omega arith) (fits_one e) (fits_wide 118943 (omega arith) wide fits_more) x shift (shift_few (size_of_slot f.vars 0)) in
+        record { allowed = y.allowed; bytes = (let b = y.bytes in omega (arith, b)) }
+
+    go : (k q : Bool) → fills f ≡ k → Fits 960000 (flat (elements_flow k q (has_whole_turns f) shift (lanes f) b single wide aligned large))
+    go true true e = fits_first (has_whole_turns f) refl (turns_flow (lanes f) b large aligned) (fits_body aligned (fits_stored e))
+    go true false e = fits_boundary (has_whole_turns f) refl (turns_flow (lanes f) b large aligned) (fits_body aligned (fits_stored e))
+    go false q e = fits_first (has_whole_turns f) refl (turns_flow (lanes f) b large wide) (fits_body wide fits_more)
 
 pub elements_few : (f : FunctionValue) → is_function f ≡ true → (at : List ℕ) (t : Tree) → IsElements f at t → size (flat_of t) ≤ 960000
 elements_few f h at t (single, wide, aligned, large, turns, e) = (let b = (fits_elements f h at single wide aligned large turns).bytes in omega (arith, ap size e, b))

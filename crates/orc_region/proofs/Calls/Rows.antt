@@ -1,15 +1,20 @@
 -- The loops of a row do the elements of a row of a good call.
-use Rattle.std.proofs.Common.{◌≡◌, ℕ, ◌+◌, ◌*◌, ◌%◌, ◌^◌, ◌<◌, ◌≤◌, ◌==◌, nat_lt, Bool, true, false, true≢false, List, length, Ok, is_some, refl, sym, ap, ◌∙◌, subst, arith, mul-le-mul_left, ◌⊎◌, inl, inr}
+use Rattle.std.proofs.Common.{◌≡◌, ℕ, ◌+◌, ◌*◌, ◌/◌, ◌%◌, ◌^◌, ◌<◌, ◌≤◌, ◌==◌, min, nat_lt, nat_le, Bool, true, false, true≢false, if◌then◌else◌, List, length, slice_index, Ok, is_some, refl, sym, ap, ◌∙◌, subst, arith, mul-le-mul_left, ◌⊎◌, inl, inr}
+use Rattle.std.specs.Int.{cast_unsigned, cast_signed, w64}
 use Rattle.std.proofs.Math.Nat.{mul-add, mul-le-mul_right}
+use Rattle.std.proofs.lemmas.Int.{of_z-to_z}
+use Rattle.std.proofs.lemmas.Nat.{mul-mod_second}
 use Rattle.std.proofs.lemmas.Bool.{ltb-true}
 use Rattle.orc_bits.specs.Memory.{Memory}
 use Rattle.orc_program.specs.declared.program.VarKind.TheVariants as kind
 use Rattle.orc_program.specs.Program.{FunctionValue, count_of}
+use Rattle.orc_program.specs.Facts.{facts_of}
 use Rattle.orc_program.specs.Kept.{is_function}
 use Rattle.orc_program.specs.Meaning.{State, row_of}
-use Rattle.orc_program.specs.Need.{cost, lanes, turns}
+use Rattle.orc_program.specs.Need.{cost, lanes, most_turns, has_whole_turns, begins_aligned, turns}
 use Rattle.orc_program.specs.Slots.{size_of_slot}
 use Rattle.orc_program.proofs.Sizes.{both}
+use Rattle.orc_program.proofs.Meeting as met
 use Rattle.orc_plan.specs.Lowered.{steps_of}
 use Rattle.x86_ins.specs.declared.ins.Ins.{Ins}
 use Rattle.x86_ins.specs.Machine.{Core, Point, Touches}
@@ -25,20 +30,20 @@ use Rattle.orc_frame.specs.Parts.{InFrame, InChanged}
 use Rattle.orc_frame.specs.Subject.{Call as Arguments, IsArray, rows, cell}
 use Rattle.orc_frame.specs.GoodCall.{GoodCall, lowered}
 use Rattle.orc_frame.specs.Function.{IsCellByte, subject_of}
-use Rattle.orc_region.specs.Code.{Action, Plan, AreActions, IsTurnOf, Turns, IsElements, plan_with, aligned_first, shift_of, is_filled, blocks_of, fills, elements_flow, elements_of}
+use Rattle.orc_region.specs.Code.{Action, Plan, AreActions, IsTurnOf, Turns, IsElements, plan_with, aligned_first, shift_of, is_filled, blocks_of, turns_flow, from_first, from_boundary, fills, elements_flow, elements_of}
 use Rattle.orc_region.specs.Elements.{meant_call, HasCome, Holds, PointsAt, InElements, IsDest, IsQuiet, IsAlone, DoesRow, arrays_of}
 use Rattle.orc_region.proofs.Block.Cells.{OfDests}
 use Rattle.orc_region.proofs.Block.Emulated.{state}
 use Rattle.orc_region.proofs.Block.Touched.{TouchesPart}
 use Rattle.orc_region.proofs.Built.Turns.{fits_elements}
 use Rattle.orc_region.proofs.Checked.Several.{IsCount, one_count, lanes_count}
-use Rattle.orc_region.proofs.Row.Gaps.{AtSixteen}
+use Rattle.orc_region.proofs.Row.Gaps.{AtSixteen, some_turns, turns_behind}
 use Rattle.orc_region.proofs.Sizes.Steps.{regions_of}
 use Rattle.orc_region.proofs.Turn.Advancing.{Setting, Able, IsCell, IsDestCell, Inside}
 use Rattle.orc_region.proofs.Turn.Lists.{turns_map, few_blocks, blocks_near, stand_is, fit_actions, ins_blocks, turn_ins, turn_few}
 use Rattle.orc_region.proofs.Turn.Operands.{turn_light}
-use Rattle.orc_region.proofs.Turn.Rounds.{Outside, At, Round, plain_done, aligned_done}
-use Rattle.orc_region.proofs.Calls.Cells.{Arrays, stack_room, mapped, cell_cells, cell_at, cell_frame}
+use Rattle.orc_region.proofs.Turn.Rounds.{Outside, At, Round, wide_turns, aligned_turns, narrow, first_done, boundary_done}
+use Rattle.orc_region.proofs.Calls.Cells.{Arrays, stack_room, stride_small, mapped, cell_cells, cell_at, cell_frame}
 use Rattle.orc_region.proofs.Calls.Setting.{meant, base, numbers, Emul, Slot, setting, apart, changed_frame}
 use Rattle.orc_region.proofs.Calls.Holding.{totals_in, framed_in, agrees_in, holds_again}
 use Rattle.orc_region.proofs.Calls.Wide.{by_pointer, cell_weight, part_wide}
@@ -74,8 +79,18 @@ many_short b c a some =
     omega (arith, e, m, same)
 
 -- a turn may take more
-roomy : (list : List Ins) (besides t turn more : ℕ) → turn ≤ more → length list ≤ besides + t * turn → length list ≤ besides + t * more
-roomy list besides t turn more l h = (let m : t * turn ≤ t * more = mul-le-mul_left t l in omega (arith, h, m))
+roomy : (list : List Ins) (a b t turn more : ℕ) → a ≤ b → turn ≤ more → length list ≤ a + t * turn → length list ≤ b + t * more
+roomy list a b t turn more few l h = (let m : t * turn ≤ t * more = mul-le-mul_left t l in omega (arith, h, m, few))
+
+-- where an array begins in row r, by its base and its stride
+begins_at : (b s r k : ℕ) → b % 16 ≡ 0 → (r * s) % 16 ≡ 0 → AtSixteen k ((b + r * s) % 2 ^ 64) 0
+begins_at b s r k h g = (let z : 0 * 2 ^ k ≡ 0 = omega arith in omega (arith, h, g, z))
+
+row_multiple : (r s : ℕ) → s % 16 ≡ 0 → (r * s) % 16 ≡ 0
+row_multiple r s h = sym (mul-mod_second r s 16) ∙ ap (λ z. (r * z) % 16) h ∙ ap (λ x. x % 16) (let z : r * 0 ≡ 0 = omega arith in z)
+
+only_row : (r s : ℕ) → r < 1 → (r * s) % 16 ≡ 0
+only_row r s l = (let z : r ≡ 0 = omega (arith, l) in subst (λ x. (x * s) % 16 ≡ 0) (sym z) (omega arith))
 
 module _ (f : FunctionValue) (is : is_function f ≡ true) (at : List ℕ) (single wide aligned large : List Ins) (x : Turns f at single wide aligned large) where
   abbrev known : Arrays f
@@ -96,7 +111,7 @@ module _ (f : FunctionValue) (is : is_function f ≡ true) (at : List ℕ) (sing
   module _ (code : Placed) (s : Point) (args : Arguments) (back : ℕ) (good : GoodCall (subject_of f) code s args back) (r : ℕ) (row : r < rows (subject_of f) args) where
     -- where no movdqu stores to the first dest
     abbrev pub Wanted : Type 0
-    Wanted = (lanes f * size 0 ≡ 16) × ((h : ℕ) × (h + lanes f ≤ args.n) × (cell (subject_of f) args 0 r h 0 % 16 ≡ 0)) × IsAlone f args
+    Wanted = (lanes f * size 0 ≡ 16) × ((h : ℕ) × (h + lanes f ≤ args.n) × (cell (subject_of f) args 0 r h 0 % 16 ≡ 0) × (has_whole_turns f ≡ true → h ≡ 0)) × IsAlone f args
 
     abbrev Base : ℕ → ℕ
     Base = base f is known code s args back good r row
@@ -114,14 +129,14 @@ module _ (f : FunctionValue) (is : is_function f ≡ true) (at : List ℕ) (sing
       set : (count : ℕ) (actions : List Action) → AreActions at count (steps_of f) actions → Setting args.n Base Slots (numbers f is known code s args back good at) low (plan_with f actions) Emulates (InFrame low)
       set count actions are = setting f is known code s args back good r row at x.good come.0 count actions are
 
-      abbrev one : List Action
-      one = x.one.1.1
+      abbrev several : List Action
+      several = x.more.1.1
 
       abbrev plan : Plan
-      plan = plan_with f one
+      plan = plan_with f several
 
       first : Setting args.n Base Slots (numbers f is known code s args back good at) low plan Emulates (InFrame low)
-      first = set 1 one x.one.1.3
+      first = set (lanes f) several x.more.1.3
 
       abbrev Within : ℕ → Memory → (ℕ → ℕ) → Core → Type 0
       Within = Inside args.n Base Slots (numbers f is known code s args back good at) low plan Emulates (InFrame low) first (s.core.gpr 7) c.memory
@@ -213,7 +228,7 @@ module _ (f : FunctionValue) (is : is_function f ≡ true) (at : List ℕ) (sing
       }
 
       abbrev Goes : Flow → ℕ → Type 0
-      Goes flow besides = (list : List Ins) × (d : Core) × Does Q flow c list d × Place args.n d × (length list ≤ besides + turns (lanes f) args.n * (2 + most_turn f)) × (weigh cell_weight list ≤ turns (lanes f) args.n * some)
+      Goes flow besides = (list : List Ins) × (d : Core) × Does Q flow c list d × Place args.n d × (length list ≤ besides + turns f args.n * (2 + most_turn f)) × (weigh cell_weight list ≤ turns f args.n * some)
 
       -- ---- turns
 
@@ -234,8 +249,8 @@ module _ (f : FunctionValue) (is : is_function f ≡ true) (at : List ℕ) (sing
             light = turn_light by_pointer refl f is at (stand_is f is at x.good) count is_count aligned blocks list t;
           }
 
-      one_is : Turned 1 false 1 single
-      one_is = turned 1 (one_count f is) false 1 (omega arith) (omega arith) single x.one
+      one_is : has_whole_turns f ≡ false → Turned 1 false 1 single
+      one_is some_left = turned 1 (one_count f is) false 1 (omega arith) (omega arith) single (x.one some_left)
 
       more_is : Turned (lanes f) false 1 wide
       more_is = turned (lanes f) (lanes_count f is) false 1 (omega arith) (omega arith) wide x.more
@@ -247,28 +262,75 @@ module _ (f : FunctionValue) (is : is_function f ≡ true) (at : List ℕ) (sing
       none_filled : fills f ≡ false → Free
       none_filled empty w = true≢false (sym (filled_is (count_of kind.Dest f.vars) (lanes f) (size 0) w.2.0 w.0) ∙ empty)
 
-      plain : fills f ≡ false → Goes (elements_flow false (shift_of (size 0)) (lanes f) b single wide aligned large) 7
+      -- ---- what the facts say
+
+      -- a row is whole turns
+      none_left : has_whole_turns f ≡ true → args.n % lanes f ≡ 0
+      none_left = met.whole_turns f args.n args.m args.base args.stride args.param good.facts
+
+      few_behind : args.n / lanes f + args.n % lanes f ≤ turns f args.n
+      few_behind = turns_behind (lanes f) args.n (has_whole_turns f) (begins_aligned f) (lanes_count f is).some none_left
+
+      -- where the first dest needn't begin at a multiple of 16
+      few_before : begins_aligned f ≡ false → has_whole_turns f ≡ false → (h m rest : ℕ) → h < lanes f → rest < lanes f → h + (m * lanes f + rest) ≡ args.n → h + m + rest ≤ turns f args.n
+      few_before e w h m rest near short all =
+          subst (λ a. h + m + rest ≤ min args.n (most_turns (lanes f) (has_whole_turns f) a args.n)) (sym e)
+          (subst (λ k. h + m + rest ≤ min args.n (most_turns (lanes f) k false args.n)) (sym w) (some_turns (lanes f) args.n h m rest (lanes_count f is).some near short all))
+
+      -- the first dest is at a multiple of 16
+      at_first : (k : ℕ) → begins_aligned f ≡ true → AtSixteen k (Base 0) 0
+      at_first k e = begins_at (args.base 0) (args.stride 0) r k stated.0 (go f.two_d refl)
+        where
+          some_dest : 0 < count_of kind.Dest f.vars
+          some_dest = ltb-true 0 (count_of kind.Dest f.vars) (both (nat_lt 0 (count_of kind.Dest f.vars)) (nat_le 16 (slice_index (facts_of f).aligns.items 0)) e).0
+
+          stated : (args.base 0 % 16 ≡ 0) × (f.two_d ≡ true → cast_unsigned w64 (cast_signed w64 (args.stride 0)) % 16 ≡ 0)
+          stated = met.first_dest f args.n args.m args.base args.stride args.param good.facts e
+
+          go : (t : Bool) → f.two_d ≡ t → (r * args.stride 0) % 16 ≡ 0
+          go true t = row_multiple r (args.stride 0) (sym (ap (λ z. z % 16) (of_z-to_z w64 (args.stride 0) (stride_small f known code s args back good 0 (inl some_dest)))) ∙ stated.1 t)
+          go false t = only_row r (args.stride 0) (subst (λ two. r < (if two then args.m else 1)) t row)
+
+      -- ---- the loops
+
+      plain : fills f ≡ false → Goes (from_first (has_whole_turns f) (lanes f) single (turns_flow (lanes f) b large wide)) 7
       plain empty =
-          let y = plain_done args.n Base Slots (numbers f is known code s args back good at) low plan Emulates (InFrame low) first (s.core.gpr 7) c.memory Q (stack_room f known code s args back good) in_frame Free calmly by_pointer refl each some (lanes f) (lanes_count f is).some (lanes_count f is).most b (few_blocks (length wide))
-          single one_is wide more_is large (none_filled empty) (many_is false empty) c place_first counter in
-          (y.0, y.1, y.2, y.3, roomy y.0 7 (turns (lanes f) args.n) (2 + each) (2 + most_turn f) (omega arith) y.4, y.5)
+          let free = none_filled empty in
+          let y = first_done args.n Base Slots (numbers f is known code s args back good at) low plan Emulates (InFrame low) first (s.core.gpr 7) c.memory Q (stack_room f known code s args back good) in_frame Free calmly by_pointer refl each some (lanes f) (lanes_count f is).some (lanes_count f is).most b (few_blocks (length wide)) single (has_whole_turns f) one_is none_left (turns f args.n) few_behind (turns_flow (lanes f) b large wide) (λ i. Unit {0})
+          (wide_turns args.n Base Slots (numbers f is known code s args back good at) low plan Emulates (InFrame low) first (s.core.gpr 7) c.memory Q (stack_room f known code s args back good) in_frame Free calmly by_pointer refl each some (lanes f) (lanes_count f is).some (lanes_count f is).most b (few_blocks (length wide)) wide more_is free large (many_is false empty)) tt (λ e. free) c place_first counter in
+          (y.0, y.1, y.2, y.3, roomy y.0 7 7 (turns f args.n) (2 + each) (2 + most_turn f) (omega arith) (omega arith) y.4, y.5)
+
+      stored_is : fills f ≡ true → Turned (lanes f) true 1 aligned
+      stored_is full = turned (lanes f) (lanes_count f is) true 1 (omega arith) (omega arith) aligned (x.stored full)
+
+      begun : fills f ≡ true → begins_aligned f ≡ true → Goes (from_first (has_whole_turns f) (lanes f) single (turns_flow (lanes f) b large aligned)) 19
+      begun full begins =
+          let z = filled_first f is full in
+          let k = shift_of (size 0) in
+          let stored = stored_is full in
+          let y = first_done args.n Base Slots (numbers f is known code s args back good at) low plan Emulates (InFrame low) first (s.core.gpr 7) c.memory Q (stack_room f known code s args back good) in_frame Free calmly by_pointer refl each some (lanes f) (lanes_count f is).some (lanes_count f is).most b (few_blocks (length wide)) single (has_whole_turns f) one_is none_left (turns f args.n) few_behind (turns_flow (lanes f) b large aligned) (AtSixteen k (Base 0))
+          (aligned_turns args.n Base Slots (numbers f is known code s args back good at) low plan Emulates (InFrame low) first (s.core.gpr 7) c.memory Q (stack_room f known code s args back good) in_frame Free calmly by_pointer refl each some (lanes f) (lanes_count f is).some (lanes_count f is).most b (few_blocks (length wide)) aligned stored k z.shift z.full z.size_is large (many_is true full)) (at_first k begins)
+          (λ e. absurd (narrow args.n Base Slots (numbers f is known code s args back good at) low plan Emulates (InFrame low) first (s.core.gpr 7) c.memory Q (stack_room f known code s args back good) in_frame Free calmly by_pointer refl each some (lanes f) (lanes_count f is).some (lanes_count f is).most b (few_blocks (length wide)) aligned stored k z.shift z.full z.size_is e)) c place_first counter in
+          (y.0, y.1, y.2, y.3, roomy y.0 7 19 (turns f args.n) (2 + each) (2 + most_turn f) (omega arith) (omega arith) y.4, y.5)
 
       -- where some element of the first dest begins at a multiple of 16, it does so by the row's base
-      some_reached : (k : ℕ) → size 0 ≡ 2 ^ k → ((j : ℕ) → j + lanes f ≤ args.n → AtSixteen k (Base 0) j → ⊥) → Free
-      some_reached k is_size none w =
-          let y = w.1 in
-          none y.0 y.1 (ap (λ z. (Base 0 + y.0 * z) % 16) (sym is_size) ∙ cell_begins (args.base 0 + r * args.stride 0) (y.0 * size 0) y.2)
+      reached_at : (k : ℕ) → size 0 ≡ 2 ^ k → (h : ℕ) → cell (subject_of f) args 0 r h 0 % 16 ≡ 0 → AtSixteen k (Base 0) h
+      reached_at k is_size h e = ap (λ z. (Base 0 + h * z) % 16) (sym is_size) ∙ cell_begins (args.base 0 + r * args.stride 0) (h * size 0) e
 
-      filled : fills f ≡ true → Goes (elements_flow true (shift_of (size 0)) (lanes f) b single wide aligned large) 19
-      filled full =
+      searched : fills f ≡ true → begins_aligned f ≡ false → Goes (from_boundary (has_whole_turns f) (shift_of (size 0)) (lanes f) single wide (turns_flow (lanes f) b large aligned)) 19
+      searched full begins =
           let y = filled_first f is full in
-          let z = aligned_done args.n Base Slots (numbers f is known code s args back good at) low plan Emulates (InFrame low) first (s.core.gpr 7) c.memory Q (stack_room f known code s args back good) in_frame Free calmly by_pointer refl each some (lanes f) (lanes_count f is).some (lanes_count f is).most b (few_blocks (length wide))
-          single one_is wide more_is large aligned (turned (lanes f) (lanes_count f is) true 1 (omega arith) (omega arith) aligned (x.stored full)) (shift_of (size 0)) y.shift y.full y.some y.size_is (many_is true full) (some_reached (shift_of (size 0)) y.size_is) c place_first counter in
-          (z.0, z.1, z.2, z.3, roomy z.0 19 (turns (lanes f) args.n) (3 + (2 + each)) (2 + most_turn f) (omega arith) z.4, z.5)
+          let k = shift_of (size 0) in
+          let z = boundary_done args.n Base Slots (numbers f is known code s args back good at) low plan Emulates (InFrame low) first (s.core.gpr 7) c.memory Q (stack_room f known code s args back good) in_frame Free calmly by_pointer refl each some (lanes f) (lanes_count f is).some (lanes_count f is).most b (few_blocks (length wide)) single (has_whole_turns f) one_is none_left (turns f args.n) few_behind (few_before begins) wide more_is aligned (stored_is full) k y.shift y.full y.some y.size_is large (many_is true full)
+          (λ e none w. none w.1.0 w.1.1 (reached_at k y.size_is w.1.0 w.1.2))
+          (λ e none w. none (subst (AtSixteen k (Base 0)) (w.1.3 e) (reached_at k y.size_is w.1.0 w.1.2)))
+          c place_first counter in
+          (z.0, z.1, z.2, z.3, roomy z.0 19 19 (turns f args.n) (3 + (2 + each)) (2 + most_turn f) (omega arith) (omega arith) z.4, z.5)
 
-      by_turns : (filled_one : Bool) → fills f ≡ filled_one → Goes (elements_flow filled_one (shift_of (size 0)) (lanes f) b single wide aligned large) (besides_of filled_one)
-      by_turns false empty = plain empty
-      by_turns true full = filled full
+      by_facts : (full begins : Bool) → fills f ≡ full → begins_aligned f ≡ begins → Goes (elements_flow full begins (has_whole_turns f) (shift_of (size 0)) (lanes f) b single wide aligned large) (besides_of full)
+      by_facts false begins e q = plain e
+      by_facts true true e q = begun e q
+      by_facts true false e q = searched e q
 
       few_besides : (b : Bool) → fills f ≡ b → besides_of b ≤ most_besides f
       few_besides true e = besides_fit (count_of kind.Dest f.vars) (lanes f) (size 0) (count_of kind.Source f.vars) e
@@ -277,11 +339,11 @@ module _ (f : FunctionValue) (is : is_function f ≡ true) (at : List ℕ) (sing
       -- ---- what they leave
 
       abbrev Left : ℕ → List Ins → Core → Type 0
-      Left steps = Leaves f code s args back good r 0 args.n Wanted c at steps (turns (lanes f) args.n * some)
+      Left steps = Leaves f code s args back good r 0 args.n Wanted c at steps (turns f args.n * some)
 
-      pub row_does : (done : List Ins) × (d : Core) × Does Q (elements_of f single wide aligned large) c done d × Left (regions_of (most_besides f) (lanes f) (most_turn f) args.n) done d
+      pub row_does : (done : List Ins) × (d : Core) × Does Q (elements_of f single wide aligned large) c done d × Left (regions_of (most_besides f) (turns f args.n) (most_turn f)) done d
       row_does =
-          let y = by_turns (fills f) refl in
+          let y = by_facts (fills f) (begins_aligned f) refl refl in
           let d = y.1 in
           let p = y.3 in
           let w = p.inside in
@@ -309,7 +371,7 @@ module _ (f : FunctionValue) (is : is_function f ≡ true) (at : List ℕ) (sing
       let l = y.3 in
       let steps : 2 + most_turn f ≡ cost f + arrays_of f + 6 = omega arith in
       let z = doing f code s args back good r 0 args.n (Wanted code s args back good r row) c at (elements_of f single wide aligned large) (fits_elements f is at single wide aligned large x).allowed from stands
-      (most_besides f + turns (lanes f) args.n * (cost f + arrays_of f + 6)) (turns (lanes f) args.n * some) y.0 y.1 y.2 (record { e = l.e; come = l.come; short = subst (λ k. length y.0 ≤ most_besides f + turns (lanes f) args.n * k) steps l.short; light = l.light; quiet = l.quiet; holds = l.holds; words = l.words }) in
+      (most_besides f + turns f args.n * (cost f + arrays_of f + 6)) (turns f args.n * some) y.0 y.1 y.2 (record { e = l.e; come = l.come; short = subst (λ k. length y.0 ≤ most_besides f + turns f args.n * k) steps l.short; light = l.light; quiet = l.quiet; holds = l.holds; words = l.words }) in
       (z.0, λ full reached alone. z.2 (full, reached, alone))
 
 -- as the tree is built

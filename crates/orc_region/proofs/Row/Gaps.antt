@@ -1,7 +1,8 @@
 -- The elements before a boundary of 16 bytes, and the turns of a row.
-use Rattle.std.proofs.Common.{◌≡◌, ℕ, zero, suc, ◌+◌, ◌-◌, ◌*◌, ◌/◌, ◌%◌, ◌^◌, ◌<◌, ◌≤◌, arith, suc-mul}
-use Rattle.std.proofs.Math.Nat.{le-div_iff_mul-le, le-min}
-use Rattle.orc_program.specs.Need.{turns}
+use Rattle.std.proofs.Common.{◌≡◌, ℕ, zero, suc, ◌+◌, ◌-◌, ◌*◌, ◌/◌, ◌%◌, ◌^◌, ◌<◌, ◌≤◌, min, Bool, true, false, refl, arith, suc-mul}
+use Rattle.std.proofs.lemmas.Nat.{div-add-mod'}
+use Rattle.std.proofs.Math.Nat.{le-div_iff_mul-le, le-min, mod-lt}
+use Rattle.orc_program.specs.Need.{most_turns}
 
 -- what holds of sizes of 1, 2, 4 and 8 bytes
 pub each_size : (P : ℕ → Type 0) → P 0 → P 1 → P 2 → P 3 → (k : ℕ) → k ≤ 3 → P k
@@ -62,9 +63,13 @@ sixteen_on k l = each_size (λ k. (base i : ℕ) → AtSixteen k base i → AtSi
 
 -- ---- turns
 
--- so many single elements, whole turns and single elements are few
-pub turns_few : (lanes n h m rest : ℕ) → 0 < lanes → h < lanes → rest < lanes → h + (m * lanes + rest) ≡ n → h + m + rest ≤ turns lanes n
-turns_few lanes n h m rest some near short all =
+at_least : (m l : ℕ) → 0 < l → m ≤ m * l
+at_least zero l h = omega arith
+at_least (suc m) l h = omega (arith, at_least m l h, h, suc-mul m l)
+
+-- so many single elements, whole turns and single elements
+pub some_turns : (lanes n h m rest : ℕ) → 0 < lanes → h < lanes → rest < lanes → h + (m * lanes + rest) ≡ n → h + m + rest ≤ min n (n / lanes + 2 * lanes - 2)
+some_turns lanes n h m rest some near short all =
     let whole : m ≤ n / lanes = fits m (omega (arith, all)) in
     let single : m ≤ m * lanes = at_least m lanes some in
     le-min (omega (arith, single, all)) (omega (arith, whole, near, short))
@@ -72,6 +77,17 @@ turns_few lanes n h m rest some near short all =
     fits : (m : ℕ) → m * lanes ≤ n → m ≤ n / lanes
     fits m l = (le-div_iff_mul-le some).1 l
 
-    at_least : (m l : ℕ) → 0 < l → m ≤ m * l
-    at_least zero l h = omega arith
-    at_least (suc m) l h = omega (arith, at_least m l h, h, suc-mul m l)
+-- whole turns from the first element on, and single ones behind them, of which there are none if the row is whole turns
+pub turns_behind : (lanes n : ℕ) (whole begins : Bool) → 0 < lanes → (whole ≡ true → n % lanes ≡ 0) → n / lanes + n % lanes ≤ min n (most_turns lanes whole begins n)
+turns_behind lanes n whole begins some none = go whole begins none
+  where
+    short : n % lanes < lanes
+    short = mod-lt n some
+
+    within : n / lanes + n % lanes ≤ n
+    within = (let single : n / lanes ≤ n / lanes * lanes = at_least (n / lanes) lanes some in omega (arith, single, div-add-mod' n lanes))
+
+    go : (whole begins : Bool) → (whole ≡ true → n % lanes ≡ 0) → n / lanes + n % lanes ≤ min n (most_turns lanes whole begins n)
+    go true begins none = le-min within (omega (arith, none refl))
+    go false true none = le-min within (omega (arith, short))
+    go false false none = le-min within (omega (arith, short, some))

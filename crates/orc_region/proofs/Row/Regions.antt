@@ -27,10 +27,9 @@ use Rattle.x86_flow.specs.Touching.{base_of, touch_weight}
 use Rattle.x86_flow.proofs.Touching.{touches_none, touches_in}
 use Rattle.x86_flow.proofs.Words.{load_word, store_word, at_away}
 use Rattle.x86_flow.proofs.Frame.{word_same, word_stored}
-use Rattle.orc_program.specs.Need.{turns}
 use Rattle.orc_frame.specs.Layout.{left_slot, frame_size}
-use Rattle.orc_region.specs.Regions.{never, gap_code, gap_flow, behind_code, enter_head_code, leave_head_code, reached_flow, unreached_flow, tail_flow, aligned_row, plain_row, wide_loops}
-use Rattle.orc_region.proofs.Row.Gaps.{each_size, AtSixteen, gap, IsGap, gap_is, no_gap, turns_few}
+use Rattle.orc_region.specs.Regions.{never, gap_code, gap_flow, behind_code, enter_head_code, leave_head_code, low_bits_code, reached_flow, unreached_flow, tail_flow, aligned_row, whole_row, plain_row, tested_row, wide_loops}
+use Rattle.orc_region.proofs.Row.Gaps.{each_size, AtSixteen, gap, IsGap, gap_is, no_gap}
 use Rattle.orc_region.proofs.Block.Keeping.{line_bounded}
 use Rattle.orc_region.proofs.Row.Counters.{Tested}
 
@@ -93,16 +92,29 @@ two_loops xs ys p q r m x y l e = omega (arith, length-append xs ys, x, y, l, e)
 two_weights : (v : Ins → ℕ) (xs ys : List Ins) (p q r m : ℕ) → weigh v xs ≤ p → weigh v ys ≤ r → p ≤ q → q + r ≡ m → weigh v (xs ++ ys) ≤ m
 two_weights v xs ys p q r m x y l e = omega (arith, weigh_append v xs ys, x, y, l, e)
 
--- whole turns and single ones, and an instruction before
-plain_steps : (a : Ins) (xs ys : List Ins) (fixed m rest each t : ℕ) → length xs ≤ fixed + m * each → length ys ≤ 2 + rest * each → 0 + m + rest ≤ t → length (a ∷ (xs ++ ys)) ≤ 3 + fixed + t * each
-plain_steps a xs ys fixed m rest each t x y l =
-    let few : (0 + m + rest) * each ≤ t * each = mul-le-mul_right each l in
+-- whole turns, and single ones behind them
+plain_steps : (xs ys : List Ins) (fixed m rest each t : ℕ) → length xs ≤ 1 + fixed + m * each → length ys ≤ 2 + rest * each → m + rest ≤ t → length (xs ++ ys) ≤ 3 + fixed + t * each
+plain_steps xs ys fixed m rest each t x y l =
+    let few : (m + rest) * each ≤ t * each = mul-le-mul_right each l in
     omega (arith, few, add-mul m rest each, length-append xs ys, x, y)
 
-plain_touches : (v : Ins → ℕ) (a : Ins) (xs ys : List Ins) (m rest some t : ℕ) → v a ≡ 0 → weigh v xs ≤ m * some → weigh v ys ≤ rest * some → 0 + m + rest ≤ t → weigh v (a ∷ (xs ++ ys)) ≤ t * some
-plain_touches v a xs ys m rest some t e x y l =
-    let few : (0 + m + rest) * some ≤ t * some = mul-le-mul_right some l in
-    omega (arith, few, add-mul m rest some, weigh_append v xs ys, x, y, e)
+plain_touches : (v : Ins → ℕ) (xs ys : List Ins) (m rest some t : ℕ) → weigh v xs ≤ m * some → weigh v ys ≤ rest * some → m + rest ≤ t → weigh v (xs ++ ys) ≤ t * some
+plain_touches v xs ys m rest some t x y l =
+    let few : (m + rest) * some ≤ t * some = mul-le-mul_right some l in
+    omega (arith, few, add-mul m rest some, weigh_append v xs ys, x, y)
+
+-- whole turns behind a test, on either way
+tested_steps : (a : List Ins) (i : Ins) (xs : List Ins) (fixed p : ℕ) → length a ≡ 2 → length xs ≤ 1 + fixed + p → length (a ++ i ∷ xs) ≤ 5 + fixed + p
+tested_steps a i xs fixed p e x = omega (arith, length-append a (i ∷ xs), e, x)
+
+tested_other : (a : List Ins) (i j : Ins) (xs : List Ins) (fixed p : ℕ) → length a ≡ 2 → length xs ≤ 1 + fixed + p → length (a ++ i ∷ (xs ++ j ∷ [])) ≤ 5 + fixed + p
+tested_other a i j xs fixed p e x = omega (arith, length-append a (i ∷ (xs ++ j ∷ [])), length-append xs (j ∷ []), e, x)
+
+tested_weight : (v : Ins → ℕ) (a : List Ins) (i : Ins) (xs : List Ins) (p : ℕ) → weigh v a ≡ 0 → v i ≡ 0 → weigh v xs ≤ p → weigh v (a ++ i ∷ xs) ≤ p
+tested_weight v a i xs p e z x = omega (arith, weigh_append v a (i ∷ xs), e, z, x)
+
+tested_both : (v : Ins → ℕ) (a : List Ins) (i j : Ins) (xs : List Ins) (p : ℕ) → weigh v a ≡ 0 → v i ≡ 0 → v j ≡ 0 → weigh v xs ≤ p → weigh v (a ++ i ∷ (xs ++ j ∷ [])) ≤ p
+tested_both v a i j xs p e z y x = omega (arith, weigh_append v a (i ∷ (xs ++ j ∷ [])), weigh_append v xs (j ∷ []), e, z, y, x)
 
 -- rsp is the lowered RSP
 module _ (Q : Core → Ins → Type 0) (rsp : ℕ) (stack_low : rsp + (frame_size + 8) ≤ 2 ^ 47) where
@@ -392,11 +404,11 @@ module _ (Q : Core → Ins → Type 0) (rsp : ℕ) (stack_low : rsp + (frame_siz
             let first = AluImm Add 1 (pos lanes) in
             (first ∷ y.0, y.1, (first ∷ [], y.0, u, (line, refl), y.2, refl), subst (λ i. At i y.1) end last.at, one_more first y.0 (rest * (2 + each)) y.4, one_weight v first y.0 (rest * some) refl y.5)
 
-    -- ---- a row without aligned stores
+    -- ---- a row from its first element on
 
-    pub plain_line : (single wide : Flow) (lanes fixed : ℕ) (Pre : ℕ → Type 0) → 0 < lanes → lanes ≤ 64 → IsTurn single 1 (λ i. Unit {0}) each some → IsRegion wide lanes Pre fixed → Pre 0 → (c : Core) → At 0 c → c.gpr 1 ≡ n
-        → (done : List Ins) × (d : Core) × Does Q (plain_row lanes single wide) c done d × At n d × (length done ≤ 3 + fixed + turns lanes n * (2 + each)) × (weigh v done ≤ turns lanes n * some)
-    plain_line single wide lanes fixed Pre positive most does_single does_wide pre c at count = go (lower_line lanes (omega (arith, most)) 0 c at)
+    pub whole_line : (wide : Flow) (lanes fixed : ℕ) (Pre : ℕ → Type 0) → 0 < lanes → lanes ≤ 64 → IsRegion wide lanes Pre fixed → Pre 0 → (c : Core) → At 0 c → c.gpr 1 ≡ n
+        → (done : List Ins) × (u : Core) × (d : Core) × Does Q (whole_row lanes wide) c done d × Rest lanes (n % lanes) u d × (length done ≤ 1 + fixed + n / lanes * (2 + each)) × (weigh v done ≤ n / lanes * some)
+    whole_line wide lanes fixed Pre positive most does_wide pre c at count = go (lower_line lanes (omega (arith, most)) 0 c at)
       where
         short : n % lanes < lanes
         short = mod-lt n positive
@@ -408,19 +420,98 @@ module _ (Q : Core → Ins → Type 0) (rsp : ℕ) (stack_low : rsp + (frame_siz
         down x e = e ∙ ap (λ t. (t + (2 ^ 64 - lanes)) % 2 ^ 64) count ∙ omega arith
 
         go : (u : Core) × Line Q (AluImm Sub 1 (pos lanes) ∷ []) c u × Recounted 0 ((c.gpr 1 + (2 ^ 64 - lanes)) % 2 ^ 64) c u
-            → (done : List Ins) × (d : Core) × Does Q (plain_row lanes single wide) c done d × At n d × (length done ≤ 3 + fixed + turns lanes n * (2 + each)) × (weigh v done ≤ turns lanes n * some)
+            → (done : List Ins) × (u : Core) × (d : Core) × Does Q (whole_row lanes wide) c done d × Rest lanes (n % lanes) u d × (length done ≤ 1 + fixed + n / lanes * (2 + each)) × (weigh v done ≤ n / lanes * some)
         go (u, line, x) =
             let y = does_wide 0 u (n / lanes) (n % lanes) all short x.at pre (down (u.gpr 1) x.counter_is) x.tested in
-            let z = tail_line single lanes most does_single (n % lanes) u y.1 short y.3 in
             let first = AluImm Sub 1 (pos lanes) in
-            let few = turns_few lanes n 0 (n / lanes) (n % lanes) positive positive short all in (
-              first ∷ (y.0 ++ z.0),
-              z.1,
-              (first ∷ [], y.0 ++ z.0, u, (line, refl), (y.0, z.0, y.1, y.2, z.2, refl), refl),
-              z.3,
-              plain_steps first y.0 z.0 fixed (n / lanes) (n % lanes) (2 + each) (turns lanes n) y.4 z.4 few,
-              plain_touches v first y.0 z.0 (n / lanes) (n % lanes) some (turns lanes n) refl y.5 z.5 few,
-            )
+            (first ∷ y.0, u, y.1, (first ∷ [], y.0, u, (line, refl), y.2, refl), y.3, one_before first y.0 fixed (n / lanes * (2 + each)) y.4, one_weight v first y.0 (n / lanes * some) refl y.5)
+
+    -- and then single elements
+    pub plain_line : (single wide : Flow) (lanes fixed t : ℕ) (Pre : ℕ → Type 0) → 0 < lanes → lanes ≤ 64 → IsTurn single 1 (λ i. Unit {0}) each some → IsRegion wide lanes Pre fixed → Pre 0 → n / lanes + n % lanes ≤ t → (c : Core) → At 0 c → c.gpr 1 ≡ n
+        → (done : List Ins) × (d : Core) × Does Q (plain_row lanes single wide) c done d × At n d × (length done ≤ 3 + fixed + t * (2 + each)) × (weigh v done ≤ t * some)
+    plain_line single wide lanes fixed t Pre positive most does_single does_wide pre fit c at count =
+        let y = whole_line wide lanes fixed Pre positive most does_wide pre c at count in
+        let z = tail_line single lanes most does_single (n % lanes) y.1 y.2 (mod-lt n positive) y.4 in (
+          y.0 ++ z.0,
+          z.1,
+          (y.0, z.0, y.2, y.3, z.2, refl),
+          z.3,
+          plain_steps y.0 z.0 fixed (n / lanes) (n % lanes) (2 + each) t y.5 z.4 fit,
+          plain_touches v y.0 z.0 (n / lanes) (n % lanes) some t y.6 z.5 fit,
+        )
+
+    -- where whole turns are all of the row
+    pub turns_line : (wide : Flow) (lanes fixed : ℕ) (Pre : ℕ → Type 0) → 0 < lanes → lanes ≤ 64 → n % lanes ≡ 0 → IsRegion wide lanes Pre fixed → Pre 0 → (c : Core) → At 0 c → c.gpr 1 ≡ n
+        → (done : List Ins) × (d : Core) × Does Q (whole_row lanes wide) c done d × At n d × (length done ≤ 1 + fixed + n / lanes * (2 + each)) × (weigh v done ≤ n / lanes * some)
+    turns_line wide lanes fixed Pre positive most whole does_wide pre c at count =
+        let y = whole_line wide lanes fixed Pre positive most does_wide pre c at count in
+        let last = y.4 in
+        let end : last.i ≡ n = (let a = last.all in omega (arith, a, whole)) in
+        (y.0, y.2, y.3, subst (λ i. At i y.2) end last.at, y.5, y.6)
+
+    -- ---- the low bits of the pointer
+
+    -- what low_bits_code leaves
+    record HasLowBits (k : ℕ) (c d : Core) : Type 0 where
+      at : At 0 d
+      pointer : d.gpr 2 ≡ c.gpr 2
+      counter : d.gpr 1 ≡ c.gpr 1
+      tests : test E d.flags ≡ Some (c.gpr 2 % 2 ^ k == 0)
+
+    low_bits_line : (k : ℕ) → 2 ^ k - 1 < 2 ^ 31 → (c : Core) → At 0 c → (d : Core) × Line Q (low_bits_code k) c d × HasLowBits k c d
+    low_bits_line k small c h =
+        let c1 : Core = with_gpr c 0 (c.gpr 2) in
+        let c2 : Core = alu_core And c1 0 ((2 ^ k - 1) % 2 ^ 64) in
+        let b1 : Beside c c1 = set_0 c c _ _ (beside_same c) in
+        let b2 : Beside c c2 = set_0 c c1 _ _ b1 in
+        let line : Line Q (low_bits_code k) c c2 = (quiet 0 c h c (Move 0 2) (beside_same c) refl, (c1, refl, (quiet 0 c h c1 (AluImm And 0 (pos (2 ^ k - 1))) b1 refl, (c2, refl, refl)))) in
+        let bits : bit_and (c.gpr 2) ((2 ^ k - 1) % 2 ^ 64) ≡ c.gpr 2 % 2 ^ k = ap (λ m. bit_and (c.gpr 2) m) (mod-eq_of_lt (omega (arith, small))) ∙ and_mask (c.gpr 2) k in (
+          c2,
+          line,
+          record { at = on_list (low_bits_code k) ((omega arith, omega arith), ((omega arith, fits_up (2 ^ k - 1) small), tt)) 0 c c2 h line b2; pointer = refl; counter = refl; tests = ap (λ x. Some (x == 0)) bits },
+        )
+
+    -- ---- a row of whole turns whose first cell is at a multiple of 16, or isn't
+
+    module _ (wide aligned : Flow) (lanes fixed : ℕ) (Yes No : ℕ → Type 0) (positive : 0 < lanes) (most : lanes ≤ 64) (whole : n % lanes ≡ 0) (does_aligned : IsRegion aligned lanes Yes fixed) (does_wide : IsRegion wide lanes No fixed) where
+      abbrev TestedEnds : Core → Type 0
+      TestedEnds c = (done : List Ins) × (d : Core) × Does Q (tested_row lanes wide aligned) c done d × At n d × (length done ≤ 5 + fixed + n / lanes * (2 + each)) × (weigh v done ≤ n / lanes * some)
+
+      abbrev to_first : Ins
+      to_first = JumpIf E (pos (size (flat (whole_row lanes wide)) + 5))
+
+      abbrev over_second : Ins
+      over_second = Jump (pos (size (flat (whole_row lanes aligned))))
+
+      tested_yes : (c u : Core) → Line Q (low_bits_code 4) c u → HasLowBits 4 c u → c.gpr 1 ≡ n → c.gpr 2 % 16 ≡ 0 → Yes 0 → TestedEnds c
+      tested_yes c u line x count m pre =
+          let y = turns_line aligned lanes fixed Yes positive most whole does_aligned pre u x.at (x.counter ∙ count) in
+          let goes : test E u.flags ≡ Some true = x.tests ∙ ap (λ z. Some (z == 0)) m in (
+            low_bits_code 4 ++ to_first ∷ y.0,
+            y.1,
+            (low_bits_code 4, to_first ∷ y.0, u, (line, refl), inl (jumps 0 u x.at, goes, (y.0, y.2, refl)), refl),
+            y.3,
+            tested_steps (low_bits_code 4) to_first y.0 fixed (n / lanes * (2 + each)) refl y.4,
+            tested_weight v (low_bits_code 4) to_first y.0 (n / lanes * some) refl refl y.5,
+          )
+
+      tested_no : (c u : Core) → Line Q (low_bits_code 4) c u → HasLowBits 4 c u → c.gpr 1 ≡ n → c.gpr 2 % 16 ≢ 0 → No 0 → TestedEnds c
+      tested_no c u line x count m pre =
+          let y = turns_line wide lanes fixed No positive most whole does_wide pre u x.at (x.counter ∙ count) in
+          let goes : test E u.flags ≡ Some false = x.tests ∙ ap Some (eq_false (c.gpr 2 % 16) 0 m) in (
+            low_bits_code 4 ++ to_first ∷ (y.0 ++ over_second ∷ []),
+            y.1,
+            (low_bits_code 4, to_first ∷ (y.0 ++ over_second ∷ []), u, (line, refl), inr (jumps 0 u x.at, goes, (y.0, y.2, jumps n y.1 y.3, refl)), refl),
+            y.3,
+            tested_other (low_bits_code 4) to_first over_second y.0 fixed (n / lanes * (2 + each)) refl y.4,
+            tested_both v (low_bits_code 4) to_first over_second y.0 (n / lanes * some) refl refl refl y.5,
+          )
+
+      pub tested_line : (c : Core) → At 0 c → c.gpr 1 ≡ n → (c.gpr 2 % 16 ≡ 0 → Yes 0) → (c.gpr 2 % 16 ≢ 0 → No 0) → TestedEnds c
+      tested_line c h count yes_pre no_pre = go (low_bits_line 4 (omega arith) c h)
+        where
+          go : (u : Core) × Line Q (low_bits_code 4) c u × HasLowBits 4 c u → TestedEnds c
+          go (u, line, x) = ⊎_elim (λ m. tested_yes c u line x count m (yes_pre m)) (λ m. tested_no c u line x count m (no_pre m)) (cases_eq (c.gpr 2 % 16) 0)
 
     -- ---- the gap
 
@@ -485,53 +576,19 @@ module _ (Q : Core → Ins → Type 0) (rsp : ℕ) (stack_low : rsp + (frame_siz
       counter : d.gpr 1 ≡ c.gpr 1
       kind : Kind k base (d.gpr 0)
 
-    -- elements of more than a byte
-    module _ (k : ℕ) (few : suc k ≤ 3) (base : ℕ) (c : Core) (h : At 0 c) (e : base % 2 ^ 64 ≡ c.gpr 2) where
-      abbrev c1 : Core
-      c1 = with_gpr c 0 (c.gpr 2)
-
-      -- the low bits of the pointer
-      abbrev c2 : Core
-      c2 = alu_core And c1 0 ((2 ^ suc k - 1) % 2 ^ 64)
-
-      b1 : Beside c c1
-      b1 = set_0 c c _ _ (beside_same c)
-
-      b2 : Beside c c2
-      b2 = set_0 c c1 _ _ b1
-
+    -- elements of more than a byte, behind the low bits of the pointer
+    module _ (k : ℕ) (few : suc k ≤ 3) (base : ℕ) (c c2 : Core) (e : base % 2 ^ 64 ≡ c.gpr 2) (line : Line Q (low_bits_code (suc k)) c c2) (low : HasLowBits (suc k) c c2) where
       abbrev first : List Ins
-      first = Move 0 2 ∷ AluImm And 0 (pos (2 ^ suc k - 1)) ∷ []
-
-      small : 2 ^ suc k - 1 < 2 ^ 31
-      small = each_size (λ j. 2 ^ j - 1 < 2 ^ 31) (omega arith) (omega arith) (omega arith) (omega arith) (suc k) few
-
-      line : Line Q (Move 0 2 ∷ AluImm And 0 (pos (2 ^ suc k - 1)) ∷ []) c c2
-      line = (quiet 0 c h c (Move 0 2) (beside_same c) refl, (c1, refl, (quiet 0 c h c1 (AluImm And 0 (pos (2 ^ suc k - 1))) b1 refl, (c2, refl, refl))))
-
-      at : At 0 c2
-      at = on_list (Move 0 2 ∷ AluImm And 0 (pos (2 ^ suc k - 1)) ∷ []) ((omega arith, omega arith), ((omega arith, fits_up (2 ^ suc k - 1) small), tt)) 0 c c2 h line b2
-
-      bits : bit_and (c.gpr 2) ((2 ^ suc k - 1) % 2 ^ 64) ≡ c.gpr 2 % 2 ^ suc k
-      bits = ap (λ m. bit_and (c.gpr 2) m) (mod-eq_of_lt (omega (arith, small))) ∙ and_mask (c.gpr 2) (suc k)
-
-      pointer : c2.gpr 2 ≡ c.gpr 2
-      pointer = refl
-
-      count : c2.gpr 1 ≡ c.gpr 1
-      count = refl
-
-      tests : test E c2.flags ≡ Some (c.gpr 2 % 2 ^ suc k == 0)
-      tests = ap (λ x. Some (x == 0)) bits
+      first = low_bits_code (suc k)
 
       multiple : c.gpr 2 % 2 ^ suc k ≡ 0 → (done : List Ins) × (d : Core) × Does Q (gap_flow (suc k)) c done d × HasGap (suc k) base c d × (length done ≤ 7) × (weigh v done ≤ 0)
       multiple m =
-          let x = gap_line (suc k) few c2 at in
-          let q : gap (suc k) (c2.gpr 2) ≡ gap (suc k) (c.gpr 2) = ap (gap (suc k)) pointer in (
+          let x = gap_line (suc k) few c2 low.at in
+          let q : gap (suc k) (c2.gpr 2) ≡ gap (suc k) (c.gpr 2) = ap (gap (suc k)) low.pointer in (
             first ++ (JumpIf E (pos (size (MovImm 0 never ∷ []) + 5)) ∷ gap_code (suc k)),
             x.0,
-            (first, JumpIf E (pos (size (MovImm 0 never ∷ []) + 5)) ∷ gap_code (suc k), c2, (line, refl), inl (jumps 0 c2 at, tests ∙ ap (λ z. Some (z == 0)) m, (gap_code (suc k), (x.1, refl), refl)), refl),
-            record { at = x.2.at; counter = x.2.counter ∙ count; kind = inl (subst (λ g. IsGap (suc k) base g) (sym (x.2.bytes ∙ q)) (gap_is (suc k) few base (c.gpr 2) e m)) },
+            (first, JumpIf E (pos (size (MovImm 0 never ∷ []) + 5)) ∷ gap_code (suc k), c2, (line, refl), inl (jumps 0 c2 low.at, low.tests ∙ ap (λ z. Some (z == 0)) m, (gap_code (suc k), (x.1, refl), refl)), refl),
+            record { at = x.2.at; counter = x.2.counter ∙ low.counter; kind = inl (subst (λ g. IsGap (suc k) base g) (sym (x.2.bytes ∙ q)) (gap_is (suc k) few base (c.gpr 2) e m)) },
             omega arith,
             omega arith,
           )
@@ -540,13 +597,13 @@ module _ (Q : Core → Ins → Type 0) (rsp : ℕ) (stack_low : rsp + (frame_siz
       other ne =
           let d : Core = with_gpr c2 0 never in
           let b : Beside c2 d = set_0 c2 c2 _ _ (beside_same c2) in
-          let last : Line Q (MovImm 0 never ∷ []) c2 d = (quiet 0 c2 at c2 (MovImm 0 never) (beside_same c2) refl, (d, refl, refl)) in
-          let at_d : At 0 d = on_list (MovImm 0 never ∷ []) ((omega arith, omega arith), tt) 0 c2 d at last b in
+          let last : Line Q (MovImm 0 never ∷ []) c2 d = (quiet 0 c2 low.at c2 (MovImm 0 never) (beside_same c2) refl, (d, refl, refl)) in
+          let at_d : At 0 d = on_list (MovImm 0 never ∷ []) ((omega arith, omega arith), tt) 0 c2 d low.at last b in
           let rest = JumpIf E (pos (size (MovImm 0 never ∷ []) + 5)) ∷ MovImm 0 never ∷ Jump (pos (size (gap_code (suc k)))) ∷ [] in (
             first ++ rest,
             d,
-            (first, rest, c2, (line, refl), inr (jumps 0 c2 at, tests ∙ ap Some (eq_false (c.gpr 2 % 2 ^ suc k) 0 ne), (MovImm 0 never ∷ [], (last, refl), jumps 0 d at_d, refl)), refl),
-            record { at = at_d; counter = count; kind = inr (refl, no_gap (suc k) few base (c.gpr 2) e ne) },
+            (first, rest, c2, (line, refl), inr (jumps 0 c2 low.at, low.tests ∙ ap Some (eq_false (c.gpr 2 % 2 ^ suc k) 0 ne), (MovImm 0 never ∷ [], (last, refl), jumps 0 d at_d, refl)), refl),
+            record { at = at_d; counter = low.counter; kind = inr (refl, no_gap (suc k) few base (c.gpr 2) e ne) },
             omega arith,
             omega arith,
           )
@@ -555,7 +612,10 @@ module _ (Q : Core → Ins → Type 0) (rsp : ℕ) (stack_low : rsp + (frame_siz
     gap_done zero base few c h e =
         let x = gap_line 0 few c h in
         (gap_code 0, x.0, (x.1, refl), record { at = x.2.at; counter = x.2.counter; kind = inl (subst (λ g. IsGap 0 base g) (sym x.2.bytes) (gap_is 0 few base (c.gpr 2) e (omega arith))) }, omega arith, omega arith)
-    gap_done (suc k) base few c h e = ⊎_elim (multiple k few base c h e) (other k few base c h e) (cases_eq (c.gpr 2 % 2 ^ suc k) 0)
+    gap_done (suc k) base few c h e =
+        let small : 2 ^ suc k - 1 < 2 ^ 31 = each_size (λ j. 2 ^ j - 1 < 2 ^ 31) (omega arith) (omega arith) (omega arith) (omega arith) (suc k) few in
+        let y = low_bits_line (suc k) small c h in
+        ⊎_elim (multiple k few base c y.0 e y.1 y.2) (other k few base c y.0 e y.1 y.2) (cases_eq (c.gpr 2 % 2 ^ suc k) 0)
 
     -- ---- RCX behind the gap
 
@@ -665,7 +725,8 @@ module _ (Q : Core → Ins → Type 0) (rsp : ℕ) (stack_low : rsp + (frame_siz
       few : length done ≤ fixed + turned * steps
       light : weigh v done ≤ turned * some
 
-    module _ (single wide aligned : Flow) (k lanes fixed base : ℕ) (positive : 0 < lanes) (most : lanes ≤ 64) (does_single : IsTurn single 1 (λ i. Unit {0}) each some)
+    -- so many single elements, whole turns and single elements are at most t turns
+    module _ (single wide aligned : Flow) (k lanes fixed base : ℕ) (positive : 0 < lanes) (most : lanes ≤ 64) (t : ℕ) (fit : (g m rest : ℕ) → g < lanes → rest < lanes → g + (m * lanes + rest) ≡ n → g + m + rest ≤ t) (does_single : IsTurn single 1 (λ i. Unit {0}) each some)
         (does_aligned : IsRegion aligned lanes (AtSixteen k base) (3 + fixed))
         (does_wide : IsRegion wide lanes (λ i. (j : ℕ) → j + lanes ≤ n → AtSixteen k base j → ⊥) fixed) where
       reached_line : (g : ℕ) (c : Core) → At 0 c → c.gpr 0 ≡ g → c.gpr 1 ≡ less lanes g → AtSixteen k base g → (m rest : ℕ) → g + (m * lanes + rest) ≡ n → rest < lanes → ToTail lanes rest (g + m) (6 + (3 + fixed)) (2 + each) (reached_flow single aligned) c
@@ -718,7 +779,7 @@ module _ (Q : Core → Ins → Type 0) (rsp : ℕ) (stack_low : rsp + (frame_siz
         turned : ℕ
         rest : ℕ
         short : rest < lanes
-        fit : turned + rest ≤ turns lanes n
+        within : turned + rest ≤ t
         to : ToTail lanes rest turned (7 + fixed) (3 + (2 + each)) (Choice Ns (reached_flow single aligned) (unreached_flow wide)) c
 
       none_left : (g : ℕ) → g ≤ never → n < g + lanes → not (nat_le (2 ^ 63) (less lanes g)) ≡ false
@@ -747,7 +808,7 @@ module _ (Q : Core → Ins → Type 0) (rsp : ℕ) (stack_low : rsp + (frame_siz
               turned = g + m;
               rest = rest;
               short = short;
-              fit = turns_few lanes n g m rest positive near short all;
+              within = fit g m rest near short all;
               to = record {
                 done = jump ∷ x.done;
                 middle = x.middle;
@@ -773,7 +834,7 @@ module _ (Q : Core → Ins → Type 0) (rsp : ℕ) (stack_low : rsp + (frame_siz
               turned = m;
               rest = rest;
               short = short;
-              fit = no_head m rest (turns lanes n) (turns_few lanes n 0 m rest positive positive short all);
+              within = no_head m rest t (fit 0 m rest positive short all);
               to = record {
                 done = jump ∷ (x.done ++ past ∷ []);
                 middle = x.middle;
@@ -797,11 +858,11 @@ module _ (Q : Core → Ins → Type 0) (rsp : ℕ) (stack_low : rsp + (frame_siz
 
       -- a row whose first dest has elements of 2 ^ k bytes, of which `lanes` fill a register
       pub aligned_line : k ≤ 3 → 16 / 2 ^ k ≡ lanes → (c : Core) → At 0 c → c.gpr 1 ≡ n → base % 2 ^ 64 ≡ c.gpr 2
-          → (done : List Ins) × (d : Core) × Does Q (aligned_row k lanes single wide aligned) c done d × At n d × (length done ≤ 18 + fixed + turns lanes n * (3 + (2 + each))) × (weigh v done ≤ turns lanes n * some)
+          → (done : List Ins) × (d : Core) × Does Q (aligned_row k lanes single wide aligned) c done d × At n d × (length done ≤ 18 + fixed + t * (3 + (2 + each))) × (weigh v done ≤ t * some)
       aligned_line few same c h counts address_is = first (gap_done k base few c h address_is)
         where
           Ends : Type 0
-          Ends = (done : List Ins) × (d : Core) × Does Q (aligned_row k lanes single wide aligned) c done d × At n d × (length done ≤ 18 + fixed + turns lanes n * (3 + (2 + each))) × (weigh v done ≤ turns lanes n * some)
+          Ends = (done : List Ins) × (d : Core) × Does Q (aligned_row k lanes single wide aligned) c done d × At n d × (length done ≤ 18 + fixed + t * (3 + (2 + each))) × (weigh v done ≤ t * some)
 
           under : (g : ℕ) → Kind k base g → g ≤ never
           under g (inl gap) = (let l : g < lanes = subst (λ l. g < l) same gap.near in omega (arith, l, most))
@@ -814,8 +875,8 @@ module _ (Q : Core → Ins → Type 0) (rsp : ℕ) (stack_low : rsp + (frame_siz
                 z.1,
                 (xs, behind_code lanes ++ (x.to.done ++ z.0), b, gaps, (behind_code lanes, x.to.done ++ z.0, u, (behinds, refl), (x.to.done, z.0, x.to.d, x.to.does, z.2, refl), refl), refl),
                 z.3,
-                row_steps xs (behind_code lanes) x.to.done z.0 fixed x.turned x.rest (3 + (2 + each)) (turns lanes n) few_as refl x.to.few (tail_steps z.0 x.rest (2 + each) z.4) x.fit,
-                row_touches v xs (behind_code lanes) x.to.done z.0 x.turned x.rest some (turns lanes n) light_as refl x.to.light z.5 x.fit,
+                row_steps xs (behind_code lanes) x.to.done z.0 fixed x.turned x.rest (3 + (2 + each)) t few_as refl x.to.few (tail_steps z.0 x.rest (2 + each) z.4) x.within,
+                row_touches v xs (behind_code lanes) x.to.done z.0 x.turned x.rest some t light_as refl x.to.light z.5 x.within,
               )
 
           next : (xs : List Ins) (b : Core) → Does Q (gap_flow k) c xs b → length xs ≤ 7 → weigh v xs ≤ 0 → Kind k base (b.gpr 0) → (u : Core) × Line Q (behind_code lanes) b u × Behind lanes b u → Ends

@@ -13,7 +13,7 @@ use Rattle.x86_flow.specs.Moves.{away}
 use Rattle.x86_flow.proofs.Spelled.{IsFine, fits_up, fine_zero, fine_alu, fine_alu_imm, fine_move, fine_shift, fine_load, fine_store, fine_test, each_both, all_allowed, size_within}
 use Rattle.x86_flow.proofs.Shapes.{size_both, loop_size, choice_size, loop_fine, choice_fine}
 use Rattle.orc_frame.specs.Layout.{left_slot}
-use Rattle.orc_region.specs.Regions.{never, gap_code, low_bits_code, never_code, gap_flow, behind_code, enter_head_code, leave_head_code, reached_flow, unreached_flow, tail_flow, aligned_row, plain_row, wide_loops}
+use Rattle.orc_region.specs.Regions.{never, gap_code, low_bits_code, never_code, gap_flow, behind_code, enter_head_code, leave_head_code, reached_flow, unreached_flow, tail_flow, aligned_row, whole_row, plain_row, tested_row, wide_loops}
 use Rattle.orc_region.proofs.Row.Gaps.{each_size}
 
 -- instructions that are allowed, of at most so many bytes
@@ -59,6 +59,30 @@ fits_gap (suc k) l =
 fine_count : (op : AluOp) (n : ℕ) → n ≤ 64 → IsFine (AluImm op 1 (pos n))
 fine_count op n l = fine_alu_imm op 1 (pos n) (omega arith) (fits_up n (omega (arith, l)))
 
+-- several at once from the first element on
+pub fits_whole : (wide : Flow) (lanes w : ℕ) → lanes ≤ 64 → Fits w (flat wide) → Fits (w + 11) (flat (whole_row lanes wide))
+fits_whole wide lanes w most is_wide =
+    let first = fits_list (AluImm Sub 1 (pos lanes) ∷ []) 1 (omega arith) (fine_count Sub lanes most, tt) in
+    let x = fits_both 11 w (AluImm Sub 1 (pos lanes) ∷ []) (flat wide) first is_wide in
+    record { allowed = x.allowed; bytes = (let b = x.bytes in omega (arith, b)) }
+
+-- behind a test of the pointer
+pub fits_tested : (wide aligned : Flow) (lanes w a : ℕ) → lanes ≤ 64 → w ≤ 1000000 → a ≤ 1000000 → Fits w (flat wide) → Fits a (flat aligned) → Fits (a + w + 55) (flat (tested_row lanes wide aligned))
+fits_tested wide aligned lanes w a most few_wide few_aligned is_wide is_aligned =
+    let one = flat (whole_row lanes aligned) in
+    let two = flat (whole_row lanes wide) in
+    let bits = fits_list (low_bits_code 4) 2 (omega arith) (fine_move 0 2 (omega arith) (omega arith), (fine_alu_imm And 0 (pos 15) (omega arith) (fits_up 15 (omega arith)), tt)) in
+    let h = fits_whole aligned lanes a most is_aligned in
+    let g = fits_whole wide lanes w most is_wide in
+    let b = h.bytes in
+    let c = g.bytes in
+    let ways : Fits (a + w + 33) (choice_code E one two) = record {
+      allowed = choice_fine E one two (omega (arith, b, few_aligned)) (omega (arith, c, few_wide)) h.allowed g.allowed;
+      bytes = omega (arith, choice_size E one two, b, c);
+    } in
+    let x = fits_both 22 (a + w + 33) (low_bits_code 4) (choice_code E one two) bits ways in
+    record { allowed = x.allowed; bytes = (let d = x.bytes in omega (arith, d)) }
+
 module _ (single wide aligned : Flow) (lanes s w a : ℕ) (most : lanes ≤ 64) (few_single : s ≤ 1000000) (few_wide : w ≤ 1000000) (few_aligned : a ≤ 1000000) (is_single : Fits s (flat single)) (is_wide : Fits w (flat wide)) (is_aligned : Fits a (flat aligned)) where
   fits_singles : Fits (s + 12) (loop_code Ne (flat single))
   fits_singles = (let b = is_single.bytes in record { allowed = loop_fine Ne (flat single) (omega (arith, b, few_single)) is_single.allowed; bytes = omega (arith, loop_size Ne (flat single), b) })
@@ -68,11 +92,10 @@ module _ (single wide aligned : Flow) (lanes s w a : ℕ) (most : lanes ≤ 64) 
       let x = fits_both 11 (s + 12) (AluImm Add 1 (pos lanes) ∷ []) (loop_code Ne (flat single)) (fits_list (AluImm Add 1 (pos lanes) ∷ []) 1 (omega arith) (fine_count Add lanes most, tt)) fits_singles in
       record { allowed = x.allowed; bytes = (let b = x.bytes in omega (arith, b)) }
 
-  -- a row without aligned stores
+  -- whole turns and single elements
   pub fits_plain : Fits (s + w + 34) (flat (plain_row lanes single wide))
   fits_plain =
-      let first = fits_list (AluImm Sub 1 (pos lanes) ∷ []) 1 (omega arith) (fine_count Sub lanes most, tt) in
-      let x = fits_both 11 (w + (s + 23)) (AluImm Sub 1 (pos lanes) ∷ []) (flat wide ++ flat (tail_flow lanes single)) first (fits_both w (s + 23) (flat wide) (flat (tail_flow lanes single)) is_wide fits_tail) in
+      let x = fits_both (w + 11) (s + 23) (flat (whole_row lanes wide)) (flat (tail_flow lanes single)) (fits_whole wide lanes w most is_wide) fits_tail in
       record { allowed = x.allowed; bytes = (let b = x.bytes in omega (arith, b)) }
 
   fits_reached : Fits (s + a + 67) (flat (reached_flow single aligned))

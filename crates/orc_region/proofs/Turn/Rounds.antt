@@ -1,19 +1,18 @@
 -- Turns of so many elements are what the loops of a row ask for.
-use Rattle.std.proofs.Common.{◌≡◌, ℕ, zero, suc, ◌+◌, ◌/◌, true≢false, inl, ⊎_elim, ◌*◌, ◌%◌, ◌^◌, ◌<◌, ◌≤◌, Bool, true, false, is_some, if◌then◌else◌, nat_lt, suc-mul, le_refl, sym, ap, ◌∙◌, subst, arith, refl, List, length}
-use Rattle.std.proofs.Math.Nat.{mul-le-mul_right}
+use Rattle.std.proofs.Common.{◌≡◌, ◌≢◌, ℕ, zero, suc, ◌+◌, ◌/◌, true≢false, inl, ⊎_elim, ◌*◌, ◌%◌, ◌^◌, ◌<◌, ◌≤◌, Bool, true, false, is_some, if◌then◌else◌, nat_lt, suc-mul, le_refl, sym, ap, ◌∙◌, subst, arith, refl, List, length}
+use Rattle.std.proofs.Math.Nat.{mul-le-mul_left, mul-le-mul_right}
 use Rattle.std.proofs.lemmas.Bool.{ltb-true}
 use Rattle.orc_bits.specs.Memory.{Memory, IsMapped}
 use Rattle.x86_ins.specs.declared.ins.Ins.{Ins}
 use Rattle.x86_ins.specs.Machine.{Core, Bounded}
 use Rattle.x86_ins.specs.Spelling.{IsIns}
 use Rattle.x86_ins.specs.Way.{Each}
-use Rattle.x86_flow.specs.Flow.{Plain}
+use Rattle.x86_flow.specs.Flow.{Flow, Plain}
 use Rattle.x86_flow.specs.Touching.{touch_weight}
 use Rattle.x86_flow.specs.Does.{Does}
 use Rattle.x86_flow.proofs.Plans.{weigh}
-use Rattle.orc_program.specs.Need.{turns}
-use Rattle.orc_region.specs.Code.{Plan, IsBlocksTurn, pointer, sum_register, aligned_first, turns_flow}
-use Rattle.orc_region.specs.Regions.{plain_row, aligned_row, wide_loop, wide_loops}
+use Rattle.orc_region.specs.Code.{Plan, IsBlocksTurn, pointer, sum_register, aligned_first, turns_flow, from_first, from_boundary}
+use Rattle.orc_region.specs.Regions.{wide_loop, wide_loops}
 use Rattle.orc_region.proofs.Block.Registers.{not_0, not_1}
 use Rattle.orc_region.proofs.Block.Cells.{Numbers}
 use Rattle.orc_frame.specs.Layout.{frame_size}
@@ -21,8 +20,18 @@ use Rattle.orc_frame.specs.Parts.{InChanged}
 use Rattle.orc_region.proofs.Block.Frames.{framed_below}
 use Rattle.orc_region.proofs.Block.Touched.{TouchesPart}
 use Rattle.orc_region.proofs.Turn.Advancing.{Setting, Able, IsDestCell, Calm, Inside, turn_line}
-use Rattle.orc_region.proofs.Row.Regions.{InWord, Beside, Ground, IsTurn, IsRegion, wide_region, wide_regions, plain_line, aligned_line}
+use Rattle.orc_region.proofs.Row.Regions.{InWord, Beside, Ground, IsTurn, IsRegion, wide_region, wide_regions, plain_line, turns_line, tested_line, aligned_line}
 use Rattle.orc_region.proofs.Row.Gaps.{AtSixteen, each_size, sixteen_on}
+
+-- fewer turns, of no more instructions and touches
+few_turns : (xs : List Ins) (a b m t x y : ℕ) → a ≤ b → m ≤ t → x ≤ y → length xs ≤ a + m * x → length xs ≤ b + t * y
+few_turns xs a b m t x y l few less h =
+    let one : m * x ≤ t * x = mul-le-mul_right x few in
+    let two : t * x ≤ t * y = mul-le-mul_left t less in
+    omega (arith, one, two, l, h)
+
+light_turns : (v : Ins → ℕ) (xs : List Ins) (m t x : ℕ) → m ≤ t → weigh v xs ≤ m * x → weigh v xs ≤ t * x
+light_turns v xs m t x few h = (let one : m * x ≤ t * x = mul-le-mul_right x few in omega (arith, one, h))
 
 -- F are the addresses of the frame; `first` is the memory before the row's elements
 module _ (n : ℕ) (base : ℕ → ℕ) (P : ℕ → Type 0) (numbers : Numbers) (rsp : ℕ) (p : Plan) (Emul : ℕ → Memory → (ℕ → ℕ) → Type 0) (F : ℕ → Type 0) (set : Setting n base P numbers rsp p Emul F) (rdi : ℕ) (first : Memory)
@@ -165,7 +174,7 @@ module _ (n : ℕ) (base : ℕ → ℕ) (P : ℕ → Type 0) (numbers : Numbers)
                   wide_regions Q rsp stack_low n At ground by by_stack each some (Plain list) (Plain large) lanes b Pre (length large) (b * some) positive (omega (arith, several)) width (under several) next (next_many b) one_turn
                   (turn_is lanes aligned b large large_is positive (b * lanes) refl width (length large) (le_refl (length large)) Pre aligns free) large_is.short (le_refl (b * some))
 
--- the loops of a row, whose turns of one element are `single`
+-- the loops of a row
 module _ (n : ℕ) (base : ℕ → ℕ) (P : ℕ → Type 0) (numbers : Numbers) (rsp : ℕ) (p : Plan) (Emul : ℕ → Memory → (ℕ → ℕ) → Type 0) (F : ℕ → Type 0) (set : Setting n base P numbers rsp p Emul F) (rdi : ℕ) (first : Memory)
     (Q : Core → Ins → Type 0) (stack_low : rsp + (frame_size + 8) ≤ 2 ^ 47) (framed : (a : ℕ) → rsp ≤ a → a < rsp + frame_size → F a)
     (Free : Type 0) (calmly : (u : Core) (i : Ins) → Outside n base P numbers rsp p Emul F set rdi first Q stack_low framed u → TouchesPart n base p.size P rsp Free u i → Q u i)
@@ -185,46 +194,91 @@ module _ (n : ℕ) (base : ℕ → ℕ) (P : ℕ → Type 0) (numbers : Numbers)
   none_aligned : (count i : ℕ) → Aligns count false i
   none_aligned count i k h e = absurd (true≢false (sym e))
 
-  module _ (single : List Ins) (is_single : Turned 1 false 1 single) (wide : List Ins) (is_wide : Turned lanes false 1 wide) (large : List Ins) where
-    single_turn : (1 * p.size 0 ≡ 16 → Free) → IsTurn Q rsp stack_low n Place g by by_stack each some (Plain single) 1 (λ i. Unit {0}) each some
-    single_turn free i c within h pre =
-        let short = is_single.short in
-        let t = turn_is n base P numbers rsp p Emul F set rdi first Q stack_low framed Free calmly by by_stack each some 1 (aligned_first false) 1 single is_single (omega arith) 1 (omega arith) (omega arith) each (omega (arith, short)) (λ i. Unit {0}) (λ i t. none_aligned 1 i) (λ i t u. free) i c within h pre in
+  -- turns of several elements without aligned stores
+  module _ (wide : List Ins) (is_wide : Turned lanes false 1 wide) where
+    pub wide_turns : Free → (large : List Ins) → (1 < b → Turned lanes false b large) → IsRegion Q rsp stack_low n Place g by by_stack each some (turns_flow lanes b large wide) lanes (λ i. Unit {0}) 4
+    wide_turns free large is_large =
+        turns_are n base P numbers rsp p Emul F set rdi first Q stack_low framed Free calmly by by_stack each some lanes positive most (λ i. Unit {0}) (λ i t. tt) (aligned_first false) (λ i t. none_aligned lanes i) (λ i t u e. free) wide is_wide b few large is_large
+
+    -- one block a turn, while Pre holds, by which no store of a whole register to the first dest need be aligned
+    unaligned_turns : (Pre : ℕ → Type 0) → ((i : ℕ) → Pre i → Pre (lanes + i)) → ((i : ℕ) → Pre i → Free) → IsRegion Q rsp stack_low n Place g by by_stack each some (wide_loop (Plain wide)) lanes Pre 1
+    unaligned_turns Pre next free = wide_is n base P numbers rsp p Emul F set rdi first Q stack_low framed Free calmly by by_stack each some lanes positive most Pre next (aligned_first false) (λ i t. none_aligned lanes i) (λ i h u e. free i h) wide is_wide
+
+  -- the first dest alone is stored aligned
+  first_is : (k : ℕ) → aligned_first true k ≡ true → k ≡ 0
+  first_is k e = grind (arith, e)
+
+  -- a first dest with elements of 2 ^ k bytes, of which `lanes` fill a register; the turns `aligned` store it aligned
+  module _ (aligned : List Ins) (is_aligned : Turned lanes true 1 aligned) (k : ℕ) (small : k ≤ 3) (full : 16 / 2 ^ k ≡ lanes) (size_is : p.size 0 ≡ 2 ^ k) where
+    whole_register : lanes * p.size 0 ≡ 16
+    whole_register = each_size (λ k. (l s : ℕ) → 16 / 2 ^ k ≡ l → s ≡ 2 ^ k → l * s ≡ 16)
+        (λ l s a b. sym (ap (λ x. x * s) a) ∙ ap (λ x. 16 * x) b) (λ l s a b. sym (ap (λ x. x * s) a) ∙ ap (λ x. 8 * x) b) (λ l s a b. sym (ap (λ x. x * s) a) ∙ ap (λ x. 4 * x) b) (λ l s a b. sym (ap (λ x. x * s) a) ∙ ap (λ x. 2 * x) b)
+        k small lanes (p.size 0) full size_is
+
+    aligns : (i : ℕ) → AtSixteen k (base 0) i → Aligns lanes true i
+    aligns i at j h e =
+        let z = first_is j e in
+        (ap (λ t. lanes * p.size t) z ∙ whole_register, ap (λ t. (base t + i * p.size t) % 16) z ∙ ap (λ t. (base 0 + i * t) % 16) size_is ∙ at)
+
+    pub aligned_turns : (large : List Ins) → (1 < b → Turned lanes true b large) → IsRegion Q rsp stack_low n Place g by by_stack each some (turns_flow lanes b large aligned) lanes (AtSixteen k (base 0)) 4
+    aligned_turns large is_large =
+        turns_are n base P numbers rsp p Emul F set rdi first Q stack_low framed Free calmly by by_stack each some lanes positive most (AtSixteen k (base 0)) (λ i t. subst (λ l. AtSixteen k (base 0) (l + i)) full (sixteen_on k small (base 0) i t)) (aligned_first true) aligns (λ i t e. absurd (true≢false (sym e))) aligned is_aligned b few large is_large
+
+    -- one element is no whole register
+    pub narrow : 1 * p.size 0 ≡ 16 → ⊥
+    narrow e = each_size (λ k. p.size 0 ≡ 2 ^ k → ⊥) (λ s. omega (arith, e, s)) (λ s. omega (arith, e, s)) (λ s. omega (arith, e, s)) (λ s. omega (arith, e, s)) k small size_is
+
+  -- whole turns, which are all of the row where `whole` is true, and single elements, at most t turns
+  module _ (single : List Ins) (whole : Bool) (is_single : whole ≡ false → Turned 1 false 1 single) (none : whole ≡ true → n % lanes ≡ 0) (t : ℕ) (behind : n / lanes + n % lanes ≤ t) where
+    single_turn : whole ≡ false → (1 * p.size 0 ≡ 16 → Free) → IsTurn Q rsp stack_low n Place g by by_stack each some (Plain single) 1 (λ i. Unit {0}) each some
+    single_turn some_left free i c within h pre =
+        let x = is_single some_left in
+        let short = x.short in
+        let t = turn_is n base P numbers rsp p Emul F set rdi first Q stack_low framed Free calmly by by_stack each some 1 (aligned_first false) 1 single x (omega arith) 1 (omega arith) (omega arith) each (omega (arith, short)) (λ i. Unit {0}) (λ i t. none_aligned 1 i) (λ i t u. free) i c within h pre in
         (t.0, t.1, t.2, t.3, t.4, t.5, omega (arith, t.6))
 
-    -- a row without aligned stores
-    pub plain_done : Free → (1 < b → Turned lanes false b large) → (c : Core) → Place 0 c → c.gpr 1 ≡ n
-        → (done : List Ins) × (d : Core) × Does Q (plain_row lanes (Plain single) (turns_flow lanes b large wide)) c done d × Place n d × (length done ≤ 7 + turns lanes n * (2 + each)) × (weigh (touch_weight by) done ≤ turns lanes n * some)
-    plain_done free is_large c h counts =
-        plain_line Q rsp stack_low n Place g by by_stack each some (Plain single) (turns_flow lanes b large wide) lanes 4 (λ i. Unit {0}) positive (omega (arith, most)) (single_turn (λ e. free))
-        (turns_are n base P numbers rsp p Emul F set rdi first Q stack_low framed Free calmly by by_stack each some lanes positive most (λ i. Unit {0}) (λ i t. tt) (aligned_first false) (λ i t. none_aligned lanes i) (λ i t u e. free) wide is_wide b few large is_large)
-        tt c h counts
+    -- from the first element on
+    pub first_done : (turns : Flow) (Pre : ℕ → Type 0) → IsRegion Q rsp stack_low n Place g by by_stack each some turns lanes Pre 4 → Pre 0 → (1 * p.size 0 ≡ 16 → Free) → (c : Core) → Place 0 c → c.gpr 1 ≡ n
+        → (done : List Ins) × (d : Core) × Does Q (from_first whole lanes single turns) c done d × Place n d × (length done ≤ 7 + t * (2 + each)) × (weigh (touch_weight by) done ≤ t * some)
+    first_done turns Pre region pre free c h counts = go whole refl
+      where
+        go : (k : Bool) → whole ≡ k → (done : List Ins) × (d : Core) × Does Q (from_first k lanes single turns) c done d × Place n d × (length done ≤ 7 + t * (2 + each)) × (weigh (touch_weight by) done ≤ t * some)
+        go true e =
+            let y = turns_line Q rsp stack_low n Place g by by_stack each some turns lanes 4 Pre positive (omega (arith, most)) (none e) region pre c h counts in
+            let fewer : n / lanes ≤ t = omega (arith, behind) in
+            (y.0, y.1, y.2, y.3, few_turns y.0 5 7 (n / lanes) t (2 + each) (2 + each) (omega arith) fewer (omega arith) y.4, light_turns (touch_weight by) y.0 (n / lanes) t some fewer y.5)
+        go false e = plain_line Q rsp stack_low n Place g by by_stack each some (Plain single) turns lanes 4 t Pre positive (omega (arith, most)) (single_turn e free) region pre behind c h counts
 
-    -- the first dest alone is stored aligned
-    first_is : (k : ℕ) → aligned_first true k ≡ true → k ≡ 0
-    first_is k e = grind (arith, e)
+    -- from where the first dest is at a multiple of 16, if it is somewhere
+    module _ (many : whole ≡ false → (g m rest : ℕ) → g < lanes → rest < lanes → g + (m * lanes + rest) ≡ n → g + m + rest ≤ t)
+        (wide : List Ins) (is_wide : Turned lanes false 1 wide) (aligned : List Ins) (is_aligned : Turned lanes true 1 aligned) (k : ℕ) (small : k ≤ 3) (full : 16 / 2 ^ k ≡ lanes) (some_dest : 0 < p.dests) (size_is : p.size 0 ≡ 2 ^ k)
+        (large : List Ins) (is_large : 1 < b → Turned lanes true b large)
+        -- where it is nowhere, or, where the row is whole turns, not at the first element
+        (free_nowhere : whole ≡ false → ((j : ℕ) → j + lanes ≤ n → AtSixteen k (base 0) j → ⊥) → Free) (free_first : whole ≡ true → (AtSixteen k (base 0) 0 → ⊥) → Free) where
+      pub boundary_done : (c : Core) → Place 0 c → c.gpr 1 ≡ n
+          → (done : List Ins) × (d : Core) × Does Q (from_boundary whole k lanes single wide (turns_flow lanes b large aligned)) c done d × Place n d × (length done ≤ 19 + t * (3 + (2 + each))) × (weigh (touch_weight by) done ≤ t * some)
+      boundary_done c h counts = go whole refl
+        where
+          address : base 0 % 2 ^ 64 ≡ c.gpr 2
+          address = (let x = h.inside.pointers 0 (inl some_dest) in omega (arith, x))
 
-    -- a row whose first dest has elements of 2 ^ k bytes, of which `lanes` fill a register; the turns `aligned` store it aligned
-    module _ (aligned : List Ins) (is_aligned : Turned lanes true 1 aligned) (k : ℕ) (small : k ≤ 3) (full : 16 / 2 ^ k ≡ lanes) (some_dest : 0 < p.dests) (size_is : p.size 0 ≡ 2 ^ k) where
-      whole : lanes * p.size 0 ≡ 16
-      whole = each_size (λ k. (l s : ℕ) → 16 / 2 ^ k ≡ l → s ≡ 2 ^ k → l * s ≡ 16)
-          (λ l s a b. sym (ap (λ x. x * s) a) ∙ ap (λ x. 16 * x) b) (λ l s a b. sym (ap (λ x. x * s) a) ∙ ap (λ x. 8 * x) b) (λ l s a b. sym (ap (λ x. x * s) a) ∙ ap (λ x. 4 * x) b) (λ l s a b. sym (ap (λ x. x * s) a) ∙ ap (λ x. 2 * x) b)
-          k small lanes (p.size 0) full size_is
+          region : IsRegion Q rsp stack_low n Place g by by_stack each some (turns_flow lanes b large aligned) lanes (AtSixteen k (base 0)) 4
+          region = aligned_turns aligned is_aligned k small full size_is large is_large
 
-      aligns : (i : ℕ) → AtSixteen k (base 0) i → Aligns lanes true i
-      aligns i at j h e =
-          let z = first_is j e in
-          (ap (λ t. lanes * p.size t) z ∙ whole, ap (λ t. (base t + i * p.size t) % 16) z ∙ ap (λ t. (base 0 + i * t) % 16) size_is ∙ at)
+          unaligned_4 : IsRegion Q rsp stack_low n Place g by by_stack each some (wide_loop (Plain wide)) lanes (λ i. Free) 4
+          unaligned_4 = λ i c m rest all short at pre counter tested. (let z = unaligned_turns wide is_wide (λ i. Free) (λ i f. f) (λ i f. f) i c m rest all short at pre counter tested in (z.0, z.1, z.2, z.3, omega (arith, z.4), z.5))
 
-      -- one element is no whole register
-      narrow : 1 * p.size 0 ≡ 16 → ⊥
-      narrow e = each_size (λ k. p.size 0 ≡ 2 ^ k → ⊥) (λ s. omega (arith, e, s)) (λ s. omega (arith, e, s)) (λ s. omega (arith, e, s)) (λ s. omega (arith, e, s)) k small size_is
+          at_first : c.gpr 2 % 16 ≡ 0 → AtSixteen k (base 0) 0
+          at_first m = omega (arith, address, m)
 
-      pub aligned_done : (1 < b → Turned lanes true b large) → (((j : ℕ) → j + lanes ≤ n → AtSixteen k (base 0) j → ⊥) → Free) → (c : Core) → Place 0 c → c.gpr 1 ≡ n
-          → (done : List Ins) × (d : Core) × Does Q (aligned_row k lanes (Plain single) (wide_loop (Plain wide)) (turns_flow lanes b large aligned)) c done d × Place n d × (length done ≤ 19 + turns lanes n * (3 + (2 + each))) × (weigh (touch_weight by) done ≤ turns lanes n * some)
-      aligned_done is_large free c h counts =
-          let address : base 0 % 2 ^ 64 ≡ c.gpr 2 = (let x = h.inside.pointers 0 (inl some_dest) in omega (arith, x)) in
-          aligned_line Q rsp stack_low n Place g by by_stack each some (Plain single) (wide_loop (Plain wide)) (turns_flow lanes b large aligned) k lanes 1 (base 0) positive (omega (arith, most)) (single_turn (λ e. absurd (narrow e)))
-          (turns_are n base P numbers rsp p Emul F set rdi first Q stack_low framed Free calmly by by_stack each some lanes positive most (AtSixteen k (base 0)) (λ i t. subst (λ l. AtSixteen k (base 0) (l + i)) full (sixteen_on k small (base 0) i t)) (aligned_first true) aligns (λ i t e. absurd (true≢false e)) aligned is_aligned b few large is_large)
-          (wide_is n base P numbers rsp p Emul F set rdi first Q stack_low framed Free calmly by by_stack each some lanes positive most (λ i. (j : ℕ) → j + lanes ≤ n → AtSixteen k (base 0) j → ⊥) (λ i t. t) (aligned_first false) (λ i t. none_aligned lanes i) (λ i none u e. free none) wide is_wide)
-          small full c h counts address
+          not_first : c.gpr 2 % 16 ≢ 0 → AtSixteen k (base 0) 0 → ⊥
+          not_first m at = m (omega (arith, address, at))
+
+          go : (w : Bool) → whole ≡ w → (done : List Ins) × (d : Core) × Does Q (from_boundary w k lanes single wide (turns_flow lanes b large aligned)) c done d × Place n d × (length done ≤ 19 + t * (3 + (2 + each))) × (weigh (touch_weight by) done ≤ t * some)
+          go true e =
+              let y = tested_line Q rsp stack_low n Place g by by_stack each some (wide_loop (Plain wide)) (turns_flow lanes b large aligned) lanes 4 (AtSixteen k (base 0)) (λ i. Free) positive (omega (arith, most)) (none e) region unaligned_4 c h counts at_first (λ m. free_first e (not_first m)) in
+              let fewer : n / lanes ≤ t = omega (arith, behind) in
+              (y.0, y.1, y.2, y.3, few_turns y.0 9 19 (n / lanes) t (2 + each) (3 + (2 + each)) (omega arith) fewer (omega arith) y.4, light_turns (touch_weight by) y.0 (n / lanes) t some fewer y.5)
+          go false e =
+              aligned_line Q rsp stack_low n Place g by by_stack each some (Plain single) (wide_loop (Plain wide)) (turns_flow lanes b large aligned) k lanes 1 (base 0) positive (omega (arith, most)) t (many e) (single_turn e (λ z. absurd (narrow aligned is_aligned k small full size_is z))) region
+              (unaligned_turns wide is_wide (λ i. (j : ℕ) → j + lanes ≤ n → AtSixteen k (base 0) j → ⊥) (λ i t. t) (λ i none. free_nowhere e none)) small full c h counts address

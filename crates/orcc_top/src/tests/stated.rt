@@ -1,8 +1,8 @@
 //! Facts that a text states of calls: what the image has of them, and jobs that don't meet them.
 
-use super::run;
+use super::{has_at_most, run};
 use crate::Status;
-use std::alloc::AllocError;
+use std::alloc::{AllocError, Global};
 
 /// The image of the first kernel up to its code's length, where n is a multiple of 16 and the dest begins at one.
 const HEAD: [u8; 72] = [
@@ -62,14 +62,50 @@ const CASES: [Case; 10] = [
     ),
 ];
 
+/// A kernel's lines but for the instruction, the bound on the steps of a call of 1,600 elements, and whether single elements are loaded.
+const BOUNDS: [(&str, u64, bool); 4] = [
+    (".dest 1 d1 align 16\n.n mult 16\n", 1912, false),
+    (".dest 1 d1 align 16\n", 2182, true),
+    (".dest 1 d1\n.n 1600\n", 1912, false),
+    (".dest 1 d1\n", 2452, true),
+];
+
+/// The image of a kernel with these lines that adds bytes.
+fn image_with(alloc: Global, declared: &str) -> Result<Vec<u8>, AllocError> {
+    let mut text = Vec::from_slice(alloc, b".function add8\n")?;
+    text.extend_from_slice(declared.as_bytes())?;
+    text.extend_from_slice(b".source 1 s1\n.source 1 s2\naddb d1, s1, s2\n")?;
+    Ok(run(alloc, &["asm"], text.as_slice())?.output)
+}
+
+#[test]
+fn facts_drop_single_elements(rt: HostRuntime) -> Result<(), AllocError> {
+    let alloc = rt.alloc();
+    for (declared, most, singles) in BOUNDS {
+        let mut input = image_with(alloc, declared)?;
+        let listing = run(alloc, &["dis"], input.as_slice())?.output;
+        let listed = str::from_utf8(listing.as_slice()).is_ok_and(|text| text.contains("movzx"));
+        assert_eq!(rt; listed, singles, "{declared}");
+        input.extend_from_slice(b"{\"function\":\"add8\",\"n\":1600,\"m\":1,\"arrays\":[{\"base\":4096,\"stride\":0},{\"base\":8192,\"stride\":0},{\"base\":8192,\"stride\":0}],\"params\":[],\"memory\":[{\"at\":4096,\"bytes\":\"")?;
+        for _ in 0..1600 {
+            input.extend_from_slice(b"00")?;
+        }
+        input.extend_from_slice(b"\"},{\"at\":8192,\"bytes\":\"")?;
+        for _ in 0..1600 {
+            input.extend_from_slice(b"7b")?;
+        }
+        input.extend_from_slice(b"\"}],\"budget\":100000}")?;
+        let ran = run(alloc, &["run"], input.as_slice())?;
+        assert!(rt; has_at_most(ran.output.as_slice(), "end returned ", most), "{declared}");
+    }
+    Ok(())
+}
+
 #[test]
 fn facts_are_stated_and_asked(rt: HostRuntime) -> Result<(), AllocError> {
     let alloc = rt.alloc();
     for (declared, version, n, base, noted) in CASES {
-        let mut text = Vec::from_slice(alloc, b".function add8\n")?;
-        text.extend_from_slice(declared.as_bytes())?;
-        text.extend_from_slice(b".source 1 s1\n.source 1 s2\naddb d1, s1, s2\n")?;
-        let mut input = run(alloc, &["asm"], text.as_slice())?.output;
+        let mut input = image_with(alloc, declared)?;
         if version == 2 && noted == "" {
             assert!(rt; input.as_slice().starts_with(&HEAD));
         }
