@@ -9,7 +9,7 @@ use Rattle.orc_program.specs.declared.call.Call.{Call}
 use Rattle.orc_program.specs.Program.{FunctionValue, count_of}
 use Rattle.orc_program.specs.Meaning.{Gap, emulate}
 use Rattle.orc_program.specs.Good.{IsByte, GoodArrays, byte_at}
-use Rattle.orc_program.specs.Need.{is_array_operand, steps, lanes, turns}
+use Rattle.orc_program.specs.Need.{is_array_operand, lanes, turns}
 use Rattle.orc_program.specs.Slots.{call_of, size_of_slot}
 use Rattle.orc_frame.specs.Subject.{End, Subject}
 
@@ -43,7 +43,6 @@ subject_of f = record {
   cells = λ call a. IsCellByte f (call_of f call.n call.m call.base call.stride call.param) a;
   good = λ call mem. GoodArrays f (call_of f call.n call.m call.base call.stride call.param) mem;
   emulate = λ call mem. end_of (emulate f (call_of f call.n call.m call.base call.stride call.param) mem);
-  steps = steps f;
   lanes = lanes f;
   turns = turns (lanes f);
   operands = sum_by (array_operands f.vars) f.insns;

@@ -10,6 +10,7 @@ use Rattle.x86_flow.specs.Flow.{Plain, flat, size, loop_code}
 use Rattle.x86_flow.specs.Tree.{flat_of}
 use Rattle.x86_flow.proofs.Shapes.{loop_size, loop_fine}
 use Rattle.x86_flow.proofs.Spelled.{all_allowed}
+use Rattle.orc_ops.specs.declared.target.Target.{Target as CodeTarget}
 use Rattle.orc_program.specs.declared.program.VarKind.TheVariants as kind
 use Rattle.orc_program.specs.Program.{FunctionValue, count_of}
 use Rattle.orc_program.specs.Kept.{is_function}
@@ -86,27 +87,27 @@ module _ (f : FunctionValue) (at sizes : List ℕ) (steps : List Step) (x : Lowe
         subst (λ y. All (IsReady y at (slice_index sizes) count) steps) (sym e)
         (ready_slices (layout_of f) count at (sizes_of f) sizes (steps_of f) steps x.sizes_are x.steps_are (ready_is f x.kept at good count several))
 
-    pub turn_of : (aligned : Bool) (b : ℕ) (list : List Ins) → IsTurnBy at sizes steps (used_from (slice_index sizes) 0 4) (used_from (slice_index sizes) 4 8) (span_of count aligned) b list → IsTurnOf f at count aligned b list
-    turn_of aligned b list t =
+    pub turn_of : {target : CodeTarget} (aligned : Bool) (b : ℕ) (list : List Ins) → IsTurnBy at sizes steps (used_from (slice_index sizes) 0 4) (used_from (slice_index sizes) 4 8) (span_of target count aligned) b list → IsTurnOf f target at count aligned b list
+    turn_of {target} aligned b list t =
         let dests = used_from (slice_index sizes) 0 4 in
         let sources = used_from (slice_index sizes) 4 8 in
         turn_is f x.kept at good count several aligned b list
-        (subst (λ n. IsTurnBy at (sizes_of f) (steps_of f) (count_of kind.Dest f.vars) n (span_of count aligned) b list) (used_sources f x.kept sizes x.sizes_are)
-        (subst (λ n. IsTurnBy at (sizes_of f) (steps_of f) n sources (span_of count aligned) b list) (used_dests f x.kept sizes x.sizes_are)
-        (subst (λ xs. IsTurnBy at (sizes_of f) xs dests sources (span_of count aligned) b list) x.steps_are
-        (subst (λ xs. IsTurnBy at xs steps dests sources (span_of count aligned) b list) x.sizes_are t))))
+        (subst (λ n. IsTurnBy at (sizes_of f) (steps_of f) (count_of kind.Dest f.vars) n (span_of target count aligned) b list) (used_sources f x.kept sizes x.sizes_are)
+        (subst (λ n. IsTurnBy at (sizes_of f) (steps_of f) n sources (span_of target count aligned) b list) (used_dests f x.kept sizes x.sizes_are)
+        (subst (λ xs. IsTurnBy at (sizes_of f) xs dests sources (span_of target count aligned) b list) x.steps_are
+        (subst (λ xs. IsTurnBy at xs steps dests sources (span_of target count aligned) b list) x.sizes_are t))))
 
-    pub block_of : (aligned : Bool) (list : List Ins) → IsBlockBy at sizes steps (span_of count aligned) list → IsBlock f at count aligned list
-    block_of aligned list t =
+    pub block_of : {target : CodeTarget} (aligned : Bool) (list : List Ins) → IsBlockBy at sizes steps (span_of target count aligned) list → IsBlock f target at count aligned list
+    block_of {target} aligned list t =
         block_is f x.kept at good count several aligned list
-        (subst (λ xs. IsBlockBy at (sizes_of f) xs (span_of count aligned) list) x.steps_are
-        (subst (λ xs. IsBlockBy at xs steps (span_of count aligned) list) x.sizes_are t))
+        (subst (λ xs. IsBlockBy at (sizes_of f) xs (span_of target count aligned) list) x.steps_are
+        (subst (λ xs. IsBlockBy at xs steps (span_of target count aligned) list) x.sizes_are t))
 
-    pub block_spelled_of : (aligned : Bool) (list : List Ins) → IsBlock f at count aligned list → All (λ i. IsTrue (has_spelling i)) list
+    pub block_spelled_of : {target : CodeTarget} (aligned : Bool) (list : List Ins) → IsBlock f target at count aligned list → All (λ i. IsTrue (has_spelling i)) list
     block_spelled_of aligned list t = block_spelled f x.kept at good count several aligned list t
 
     -- with aligned stores where they were asked for and elements of the first dest fill a register
-    pub does_block : (aligned stored : Bool) → stored ≡ aligned && (count * slice_index sizes 0 == 16) → (list : List Ins) → IsBlock f at count stored list → DoesElements f at count aligned list
+    pub does_block : {target : CodeTarget} (aligned stored : Bool) → stored ≡ aligned && (count * slice_index sizes 0 == 16) → (list : List Ins) → IsBlock f target at count stored list → DoesElements f target at count aligned list
     does_block aligned stored e list t = does_elements f x.kept at good count several aligned stored asked given list t
       where
         asked : stored ≡ true → (0 < count_of kind.Dest f.vars) × (count * size_of_slot f.vars 0 ≡ 16) × (aligned ≡ true)
@@ -121,7 +122,7 @@ module _ (f : FunctionValue) (at sizes : List ℕ) (steps : List Step) (x : Lowe
             let first : slice_index sizes 0 ≡ size_of_slot f.vars 0 = ap (λ xs. slice_index xs 0) x.sizes_are ∙ slot_sized f x.kept 0 (inl some) in
             e ∙ ap₂ (λ a k. a && k == 16) t (ap (λ s. count * s) first ∙ whole)
 
-    pub spelled_of : (aligned : Bool) (b : ℕ) → b ≤ 4 → (list : List Ins) → IsTurnOf f at count aligned b list → All (λ i. IsTrue (has_spelling i)) list
+    pub spelled_of : {target : CodeTarget} (aligned : Bool) (b : ℕ) → b ≤ 4 → (list : List Ins) → IsTurnOf f target at count aligned b list → All (λ i. IsTrue (has_spelling i)) list
     spelled_of aligned b few list t = turn_spelled f x.kept at good count several aligned b (blocks_near count b several.most few) list t
 
 -- ---- whole turns
@@ -130,12 +131,12 @@ one_or_more : (lanes b : ℕ) (large turn : List Ins) (t : Bool) → nat_lt 1 b 
 one_or_more lanes b large turn t e = ap (λ t. if t then wide_loops lanes (b * lanes) (Plain large) (Plain turn) else wide_loop (Plain turn)) e
 
 -- large ones, and then those of one block
-pub whole_of_many : (f : FunctionValue) (at : List ℕ) (aligned : Bool) (b : ℕ) → 1 ≤ b → b ≢ 1 → (n : ℕ) → n ≡ lanes f → (large turn : List Ins) → IsTurnOf f at n aligned b large → (larges turns loop : Tree) → flat_of larges ≡ large → flat_of turns ≡ turn
-    → flat_of loop ≡ flat (wide_loops n (b * n) (Plain (flat_of larges)) (Plain (flat_of turns))) → AreWholeTurns f at aligned b turn (flat_of loop)
-whole_of_many f at aligned b some more n n_is large turn is larges turns loop l t e =
+pub whole_of_many : {target : CodeTarget} (f : FunctionValue) (at : List ℕ) (aligned : Bool) (b : ℕ) → 1 ≤ b → b ≢ 1 → (n : ℕ) → n ≡ lanes f → (large turn : List Ins) → IsTurnOf f target at n aligned b large → (larges turns loop : Tree) → flat_of larges ≡ large → flat_of turns ≡ turn
+    → flat_of loop ≡ flat (wide_loops n (b * n) (Plain (flat_of larges)) (Plain (flat_of turns))) → AreWholeTurns f target at aligned b turn (flat_of loop)
+whole_of_many {target} f at aligned b some more n n_is large turn is larges turns loop l t e =
     let several : nat_lt 1 b ≡ true = lt-ltb 1 b (omega (arith, some, more)) in (
       large,
-      λ z. subst (λ k. IsTurnOf f at k aligned b large) n_is is,
+      λ z. subst (λ k. IsTurnOf f target at k aligned b large) n_is is,
       e ∙ ap₂ (λ x y. flat (wide_loops n (b * n) (Plain x) (Plain y))) l t ∙ ap (λ k. flat (wide_loops k (b * k) (Plain large) (Plain turn))) n_is ∙ sym (ap flat (one_or_more (lanes f) b large turn true several)),
     )
 
@@ -148,8 +149,8 @@ filled_no : (dests n bytes : ℕ) → (0 < dests → n * bytes ≢ 16) → is_fi
 filled_no zero n bytes h = refl
 filled_no (suc dests) n bytes h = ap₂ (λ a b. a && b) (lt-ltb 0 (suc dests) (omega arith)) (ne_eqb (n * bytes) 16 (h (omega arith)))
 
-module _ (f : FunctionValue) (at sizes : List ℕ) (steps : List Step) (x : Lowered f at sizes steps) (n : ℕ) (n_is : n ≡ lanes f) (first : ℕ) (first_is : first ≡ slice_index sizes 0)
-    (tail turn : List Ins) (one : IsTurnOf f at 1 false 1 tail) (more : IsTurnOf f at n false 1 turn) (b : ℕ) (b_is : b ≡ blocks_of (length turn)) where
+module _ {target : CodeTarget} (f : FunctionValue) (at sizes : List ℕ) (steps : List Step) (x : Lowered f at sizes steps) (n : ℕ) (n_is : n ≡ lanes f) (first : ℕ) (first_is : first ≡ slice_index sizes 0)
+    (tail turn : List Ins) (one : IsTurnOf f target at 1 false 1 tail) (more : IsTurnOf f target at n false 1 turn) (b : ℕ) (b_is : b ≡ blocks_of (length turn)) where
   abbrev size_first : ℕ
   size_first = size_of_slot f.vars 0
 
@@ -157,24 +158,24 @@ module _ (f : FunctionValue) (at sizes : List ℕ) (steps : List Step) (x : Lowe
   first_size : 0 < count_of kind.Dest f.vars → first ≡ size_first
   first_size some = first_is ∙ ap (λ xs. slice_index xs 0) x.sizes_are ∙ slot_sized f x.kept 0 (inl some)
 
-  more_is : IsTurnOf f at (lanes f) false 1 turn
-  more_is = subst (λ k. IsTurnOf f at k false 1 turn) n_is more
+  more_is : IsTurnOf f target at (lanes f) false 1 turn
+  more_is = subst (λ k. IsTurnOf f target at k false 1 turn) n_is more
 
-  pub plain_elements : n * first ≢ 16 → (wide : Tree) → AreWholeTurns f at false b turn (flat_of wide) → (t : Tree) → flat_of t ≡ flat (plain_row n (Plain tail) (Plain (flat_of wide))) → IsElements f at t
+  pub plain_elements : n * first ≢ 16 → (wide : Tree) → AreWholeTurns f target at false b turn (flat_of wide) → (t : Tree) → flat_of t ≡ flat (plain_row n (Plain tail) (Plain (flat_of wide))) → IsElements f target at t
   plain_elements test wide whole t e =
-      let w = subst (λ k. AreWholeTurns f at false k turn (flat_of wide)) b_is whole in (
+      let w = subst (λ k. AreWholeTurns f target at false k turn (flat_of wide)) b_is whole in (
         tail,
         turn,
         [],
         w.0,
-        record { good = good f at sizes steps x; one = one; more = more_is; stored = λ y. absurd (true≢false (sym y ∙ empty)); many = λ l. subst (λ k. IsTurnOf f at (lanes f) k (blocks_of (length turn)) w.0) (sym empty) (w.1 l) },
+        record { good = good f at sizes steps x; one = one; more = more_is; stored = λ y. absurd (true≢false (sym y ∙ empty)); many = λ l. subst (λ k. IsTurnOf f target at (lanes f) k (blocks_of (length turn)) w.0) (sym empty) (w.1 l) },
         e ∙ ap₂ (λ k w. flat (plain_row k (Plain tail) (Plain w))) n_is w.2 ∙ sym (ap (λ k. flat (elements_flow k (shift_of size_first) (lanes f) (blocks_of (length turn)) tail turn [] w.0)) empty),
       )
     where
       empty : is_filled (count_of kind.Dest f.vars) (lanes f) size_first ≡ false
       empty = filled_no (count_of kind.Dest f.vars) (lanes f) size_first (λ some e. test (ap₂ (λ a b. a * b) n_is (first_size some) ∙ e))
 
-  module _ (fills : n * first ≡ 16) (list : List Ins) (stored : IsTurnOf f at n true 1 list) (turns wide aligned : Tree) (turns_are : flat_of turns ≡ turn) (wide_is : flat_of wide ≡ loop_code Ns (flat_of turns)) (whole : AreWholeTurns f at true b list (flat_of aligned)) where
+  module _ (fills : n * first ≡ 16) (list : List Ins) (stored : IsTurnOf f target at n true 1 list) (turns wide aligned : Tree) (turns_are : flat_of turns ≡ turn) (wide_is : flat_of wide ≡ loop_code Ns (flat_of turns)) (whole : AreWholeTurns f target at true b list (flat_of aligned)) where
     some_dest : 0 < count_of kind.Dest f.vars
     some_dest = (first_there f x.kept sizes x.sizes_are (subst (λ s. 0 < s) first_is (some_factor n first fills))).0
 
@@ -184,14 +185,14 @@ module _ (f : FunctionValue) (at sizes : List ℕ) (steps : List Step) (x : Lowe
     wide_flat : flat_of wide ≡ loop_code Ns turn
     wide_flat = wide_is ∙ ap (loop_code Ns) turns_are
 
-    pub aligned_elements : (head : List Ins) (shift : ℕ) → head ≡ tail → shift ≡ shift_of first → (t : Tree) → flat_of t ≡ flat (aligned_row shift n (Plain head) (Plain (flat_of wide)) (Plain (flat_of aligned))) → IsElements f at t
+    pub aligned_elements : (head : List Ins) (shift : ℕ) → head ≡ tail → shift ≡ shift_of first → (t : Tree) → flat_of t ≡ flat (aligned_row shift n (Plain head) (Plain (flat_of wide)) (Plain (flat_of aligned))) → IsElements f target at t
     aligned_elements head shift same s t e =
-        let w = subst (λ k. AreWholeTurns f at true k list (flat_of aligned)) b_is whole in (
+        let w = subst (λ k. AreWholeTurns f target at true k list (flat_of aligned)) b_is whole in (
           tail,
           turn,
           list,
           w.0,
-          record { good = good f at sizes steps x; one = one; more = more_is; stored = λ y. subst (λ k. IsTurnOf f at k true 1 list) n_is stored; many = λ l. subst (λ k. IsTurnOf f at (lanes f) k (blocks_of (length turn)) w.0) (sym yes_filled) (w.1 l) },
+          record { good = good f at sizes steps x; one = one; more = more_is; stored = λ y. subst (λ k. IsTurnOf f target at k true 1 list) n_is stored; many = λ l. subst (λ k. IsTurnOf f target at (lanes f) k (blocks_of (length turn)) w.0) (sym yes_filled) (w.1 l) },
           e
               ∙ ap₂ (λ k h. flat (aligned_row k n (Plain h) (Plain (flat_of wide)) (Plain (flat_of aligned)))) (s ∙ ap shift_of (first_size some_dest)) same
               ∙ ap₂ (λ k w. flat (aligned_row (shift_of size_first) k (Plain tail) (Plain w) (Plain (flat_of aligned)))) n_is wide_flat
@@ -221,8 +222,8 @@ fits_turns lanes b most few large turn h g = go (nat_lt 1 b) refl
     go true e = (let near = blocks_near lanes b most few in let x = fits_larges lanes (b * lanes) 475343 118943 near (omega arith) (omega arith) large turn (g (ltb-true 1 b e)) h in record { allowed = x.allowed; bytes = (let b = x.bytes in omega (arith, b)) })
 
 -- they are allowed, and are few
-pub fits_elements : (f : FunctionValue) → is_function f ≡ true → (at : List ℕ) (single wide aligned large : List Ins) → Turns f at single wide aligned large → Fits 960000 (flat (elements_of f single wide aligned large))
-fits_elements f h at single wide aligned large t = go (fills f) refl
+pub fits_elements : {target : CodeTarget} (f : FunctionValue) → is_function f ≡ true → (at : List ℕ) (single wide aligned large : List Ins) → Turns f target at single wide aligned large → Fits 960000 (flat (elements_of f single wide aligned large))
+fits_elements {target} f h at single wide aligned large t = go (fills f) refl
   where
     count : IsCount f (lanes f)
     count = lanes_count f h
@@ -230,7 +231,7 @@ fits_elements f h at single wide aligned large t = go (fills f) refl
     most : lanes f ≤ 64
     most = lanes_few f h (lanes f) refl
 
-    fits_turn : (count : ℕ) → IsCount f count → (aligned : Bool) (b n : ℕ) → b ≤ 4 → 143 + b * 118800 ≤ n → (list : List Ins) → IsTurnOf f at count aligned b list → Fits n list
+    fits_turn : (count : ℕ) → IsCount f count → (aligned : Bool) (b n : ℕ) → b ≤ 4 → 143 + b * 118800 ≤ n → (list : List Ins) → IsTurnOf f target at count aligned b list → Fits n list
     fits_turn count is_count aligned b n few room list x =
         let near = blocks_near count b is_count.most few in
         let bytes = turn_size f h at t.good count is_count aligned b near list x in
@@ -258,5 +259,5 @@ fits_elements f h at single wide aligned large t = go (fills f) refl
         let fits = fits_plain (Plain single) (turns_flow (lanes f) (blocks_of (length wide)) large wide) (wide_loop (Plain wide)) (lanes f) 118943 594400 118955 most (omega arith) (omega arith) (omega arith) fits_one body (fits_wide 118943 (omega arith) wide fits_more) in
         subst (λ k. Fits 960000 (flat (elements_flow k (shift_of (size_of_slot f.vars 0)) (lanes f) (blocks_of (length wide)) single wide aligned large))) (sym e) (record { allowed = fits.allowed; bytes = (let b = fits.bytes in omega (arith, b)) })
 
-pub elements_few : (f : FunctionValue) → is_function f ≡ true → (at : List ℕ) (t : Tree) → IsElements f at t → size (flat_of t) ≤ 960000
+pub elements_few : {target : CodeTarget} (f : FunctionValue) → is_function f ≡ true → (at : List ℕ) (t : Tree) → IsElements f target at t → size (flat_of t) ≤ 960000
 elements_few f h at t (single, wide, aligned, large, turns, e) = (let b = (fits_elements f h at single wide aligned large turns).bytes in omega (arith, ap size e, b))
