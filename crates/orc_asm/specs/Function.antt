@@ -1,25 +1,26 @@
 -- What is promised of a function's code, and which functions have none.
 use Rattle.std.specs.Prelude.{◌≡◌, ℕ, suc, nat_lt, if◌then◌else◌, List, [], ◌∷◌, Option, Some, None}
+use Rattle.orc_ops.specs.declared.target.Target.{Target}
 use Rattle.orc_program.specs.declared.program.Insn.{Insn}
 use Rattle.orc_program.specs.Program.{FunctionValue}
-use Rattle.orc_program.specs.Need.{need_of, places}
+use Rattle.orc_program.specs.Need.{need_of, places, steps}
 use Rattle.orc_plan.specs.declared.steps.Pressure.{Pressure}
 use Rattle.orc_frame.specs.Function.{subject_of}
 use Rattle.orc_asm.specs.declared.refusal.AsmError.{AsmError}
 use Rattle.orc_asm.specs.declared.refusal.AsmError.TheVariants as refusal
 use Rattle.orc_asm.specs.RunsAs as runs
 
--- each good call of the code returns as the function means
-abbrev pub RunsAs : FunctionValue → List ℕ → Type 0
-RunsAs f bytes = runs.RunsAs (subject_of f) bytes
+-- each good call of the code returns as the function means, in at most as many steps as are stated for the target
+abbrev pub RunsAs : FunctionValue → Target → List ℕ → Type 0
+RunsAs f target bytes = runs.RunsAs (subject_of f) (steps f target) bytes
 
 -- so does each call of the code whose memory, cut down to the parts, makes a good call, and in every state on the way all bytes but those of dests' cells, of accumulators' words and of the frame are as at the start
-abbrev pub RunsQuietly : FunctionValue → List ℕ → Type 0
-RunsQuietly f bytes = runs.RunsQuietly (subject_of f) bytes
+abbrev pub RunsQuietly : FunctionValue → Target → List ℕ → Type 0
+RunsQuietly f target bytes = runs.RunsQuietly (subject_of f) (steps f target) bytes
 
 -- and besides, at most rows times turns times operands that are arrays of the steps touch cells, and where in every row a register of the first dest can be stored at a multiple of 16, and no other dest is that very array, no movdqu stores to it
-abbrev pub RunsFully : FunctionValue → List ℕ → Type 0
-RunsFully f bytes = runs.RunsFully (subject_of f) bytes
+abbrev pub RunsFully : FunctionValue → Target → List ℕ → Type 0
+RunsFully f target bytes = runs.RunsFully (subject_of f) (steps f target) bytes
 
 -- ---- functions that need too many values at once
 

@@ -27,14 +27,14 @@ pub record Saved (s t : Core) : Type 0 where
   pub r14 : t.gpr 14 ≡ s.gpr 14
   pub r15 : t.gpr 15 ≡ s.gpr 15
 
--- the run from s, whose good call has the memory `small` alone; `More` is what else is promised of its way and of its end
-pub record Returns (f : Subject) (More : List Moment → Point → Type 0) (code : Placed) (s : Point) (small : Memory) (call : Call) (back : ℕ) : Type 0 where
+-- the run from s, whose good call has the memory `small` alone, in at most as many steps as `bound` says of n and the number of rows; `More` is what else is promised of its way and of its end
+pub record Returns (f : Subject) (bound : ℕ → ℕ → ℕ) (More : List Moment → Point → Type 0) (code : Placed) (s : Point) (small : Memory) (call : Call) (back : ℕ) : Type 0 where
   pub end : End
   pub means : f.emulate call small ≡ Some end
   pub way : List Moment
   pub t : Point
   pub runs : Way code s way t
-  pub short : length way ≤ f.steps call.n (rows f call)
+  pub short : length way ≤ bound call.n (rows f call)
   pub over : IsOver (stop s back) t
   pub not_before : Each (λ m. IsOver (stop s back) m.point → ⊥) way
   -- outside the frame memory is emulation's, but for the accumulators' words
@@ -50,24 +50,24 @@ abbrev pub Promise : Type 1
 Promise = Point → Memory → Call → List Moment → Point → Type 0
 
 -- each good call returns
-abbrev pub RunsWith : Subject → Promise → List ℕ → Type 0
-RunsWith f P bytes = (start : ℕ) (s : Point) (call : Call) (back : ℕ) → GoodCall f (record { bytes = bytes; start = start }) s call back →
-    Returns f (P s s.core.memory call) (record { bytes = bytes; start = start }) s s.core.memory call back
+abbrev pub RunsWith : Subject → (ℕ → ℕ → ℕ) → Promise → List ℕ → Type 0
+RunsWith f bound P bytes = (start : ℕ) (s : Point) (call : Call) (back : ℕ) → GoodCall f (record { bytes = bytes; start = start }) s call back →
+    Returns f bound (P s s.core.memory call) (record { bytes = bytes; start = start }) s s.core.memory call back
 
 -- so does each call whose memory, cut down to the parts, makes a good call
-abbrev pub RunsInsideWith : Subject → Promise → List ℕ → Type 0
-RunsInsideWith f P bytes = (start : ℕ) (s : Point) (small : Memory) (call : Call) (back : ℕ) → Within small s.core.memory →
+abbrev pub RunsInsideWith : Subject → (ℕ → ℕ → ℕ) → Promise → List ℕ → Type 0
+RunsInsideWith f bound P bytes = (start : ℕ) (s : Point) (small : Memory) (call : Call) (back : ℕ) → Within small s.core.memory →
     GoodCall f (record { bytes = bytes; start = start }) (record s { core = record (s.core) { memory = small } }) call back →
-    Returns f (P s small call) (record { bytes = bytes; start = start }) s small call back
+    Returns f bound (P s small call) (record { bytes = bytes; start = start }) s small call back
 
 abbrev pub no_promise : Promise
 no_promise s small call way t = Unit {0}
 
-abbrev pub RunsAs : Subject → List ℕ → Type 0
-RunsAs f = RunsWith f no_promise
+abbrev pub RunsAs : Subject → (ℕ → ℕ → ℕ) → List ℕ → Type 0
+RunsAs f bound = RunsWith f bound no_promise
 
-abbrev pub RunsInside : Subject → List ℕ → Type 0
-RunsInside f = RunsInsideWith f no_promise
+abbrev pub RunsInside : Subject → (ℕ → ℕ → ℕ) → List ℕ → Type 0
+RunsInside f bound = RunsInsideWith f bound no_promise
 
 -- ---- quiet: only dest cells, accumulators' words and the frame change
 
@@ -78,8 +78,8 @@ abbrev pub quiet : Subject → Promise
 quiet f s small call way t = Each (λ m. QuietAt f s call m.point) way × QuietAt f s call t
 
 -- a call whose memory, cut down to the parts, makes a good call returns, and is quiet on its way
-abbrev pub RunsQuietly : Subject → List ℕ → Type 0
-RunsQuietly f = RunsInsideWith f (quiet f)
+abbrev pub RunsQuietly : Subject → (ℕ → ℕ → ℕ) → List ℕ → Type 0
+RunsQuietly f bound = RunsInsideWith f bound (quiet f)
 
 -- ---- wide: few steps touch cells, and aligned rows are stored by aligned stores
 
@@ -99,5 +99,5 @@ abbrev pub fully : Subject → Promise
 fully f s small call way t = quiet f s small call way t × wide f s small call way t
 
 -- a call whose memory, cut down to the parts, makes a good call returns, and is quiet and wide on its way: all that the compiler's code promises
-abbrev pub RunsFully : Subject → List ℕ → Type 0
-RunsFully f = RunsInsideWith f (fully f)
+abbrev pub RunsFully : Subject → (ℕ → ℕ → ℕ) → List ℕ → Type 0
+RunsFully f bound = RunsInsideWith f bound (fully f)

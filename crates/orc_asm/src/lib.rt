@@ -5,5 +5,5 @@ mod assembly;
 mod refusal;
 mod rows;
 
-pub use assembly::assemble;
+pub use assembly::{assemble, assemble_for};
 pub use refusal::AsmError;

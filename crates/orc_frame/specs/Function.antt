@@ -10,7 +10,7 @@ use Rattle.orc_program.specs.Program.{FunctionValue, count_of}
 use Rattle.orc_program.specs.Meaning.{Gap, emulate}
 use Rattle.orc_program.specs.Facts.{facts_of, call_meets}
 use Rattle.orc_program.specs.Good.{IsByte, GoodArrays, byte_at}
-use Rattle.orc_program.specs.Need.{is_array_operand, steps, lanes, has_whole_turns, turns}
+use Rattle.orc_program.specs.Need.{is_array_operand, lanes, has_whole_turns, turns}
 use Rattle.orc_program.specs.Slots.{call_of, size_of_slot}
 use Rattle.orc_frame.specs.Subject.{End, Subject}
 
@@ -44,7 +44,6 @@ subject_of f = record {
   cells = λ call a. IsCellByte f (call_of f call.n call.m call.base call.stride call.param) a;
   good = λ call mem. GoodArrays f (call_of f call.n call.m call.base call.stride call.param) mem;
   emulate = λ call mem. end_of (emulate f (call_of f call.n call.m call.base call.stride call.param) mem);
-  steps = steps f;
   lanes = lanes f;
   whole = has_whole_turns f;
   turns = turns f;

@@ -32,8 +32,6 @@ pub record Subject : Type 1 where
   pub good : Call → Memory → Type 0
   -- none where a cell isn't mapped
   pub emulate : Call → Memory → Option End
-  -- the bound on steps, from n and the number of rows
-  pub steps : ℕ → ℕ → ℕ
   -- elements at once, whether they divide n by the facts, the bound on turns in a row from n, and the operands that are arrays
   pub lanes : ℕ
   pub whole : Bool

@@ -7,6 +7,7 @@ use Rattle.x86_ins.specs.declared.state.Trap.{Trap}
 use Rattle.x86_ins.specs.Machine.{Point}
 use Rattle.x86_ins.specs.Way.{Each, IsOver}
 use Rattle.x86_flow.proofs.Returning.{each_map}
+use Rattle.orc_ops.specs.declared.target.Target.{Target}
 use Rattle.orc_program.specs.declared.program.VarKind.TheVariants as kind
 use Rattle.orc_program.specs.declared.call.Call.{Call}
 use Rattle.orc_program.specs.declared.rect.Rect.{Rect}
@@ -17,6 +18,7 @@ use Rattle.orc_program.specs.Meaning.{rows as call_rows, ended as ended_call}
 use Rattle.orc_program.proofs.Steps.{go_on_ok, ok_same}
 use Rattle.std.proofs.lemmas.List.{length-map}
 use Rattle.orc_program.proofs.Places.{length-places_of}
+use Rattle.orc_program.specs.Need.{steps}
 use Rattle.orc_program.specs.Cut.{IsCut, IsCell, IsDestCell, AddsUp, rect_at, total}
 use Rattle.orc_program.proofs.Cutting.{parts_add_up}
 use Rattle.orc_frame.specs.Parts.{InBlock, InFrame, InSums, sum_word}
@@ -53,7 +55,7 @@ bytes_agree (suc n) m b a h =
 word_agrees : (m b : Memory) (a : ℕ) → ((j : ℕ) → j < 8 → m ((a + j) % 2 ^ 64) ≡ b ((a + j) % 2 ^ 64)) → word m a ≡ word b a
 word_agrees m b a h = ap (λ o. bind o (λ bs. Some (number bs))) (bytes_agree 8 m b a h)
 
-module _ (f : FunctionValue) (kept : is_function f ≡ true) (call : Call) (rects : List Rect) (w : Shared) (s : Split f call rects w) where
+module _ {target : Target} (f : FunctionValue) (kept : is_function f ≡ true) (call : Call) (rects : List Rect) (w : Shared) (s : Split f target call rects w) where
   abbrev F : Subject
   F = subject_of f
 
@@ -68,10 +70,10 @@ module _ (f : FunctionValue) (kept : is_function f ≡ true) (call : Call) (rect
   W k a = InDests F (s.words k) a ⊎ (InSums ((core_at w k).gpr 7) F.accs a ⊎ InFrame (lowered (core_at w k)) a)
 
   abbrev bound : ℕ → ℕ
-  bound k = F.steps (s.words k).n (rows F (s.words k))
+  bound k = steps f target (s.words k).n (rows F (s.words k))
 
   abbrev Run : ℕ → Type 0
-  Run k = Returns F (quiet F (first k) (s.own k) (s.words k)) (stand_at w k).code (first k) (s.own k) (s.words k) (s.back k)
+  Run k = Returns F (steps f target) (quiet F (first k) (s.own k) (s.words k)) (stand_at w k).code (first k) (s.own k) (s.words k) (s.back k)
 
   abbrev run_of : (k : ℕ) → k < n → Run k
   run_of k l = let b = s.begins k l in b.code (stand_at w k).code.start (first k) (s.own k) (s.words k) (s.back k) (λ a v e. e) b.good
@@ -202,12 +204,12 @@ module _ (f : FunctionValue) (kept : is_function f ≡ true) (call : Call) (rect
     outward : (k : ℕ) → k < n → k < length w.stands
     outward k l = let c = s.count in omega (arith, c, l)
 
-    steps_so : (k : ℕ) → k < n → (stand_at v k).steps ≤ F.steps (rect_at rects k).elements (rect_at rects k).rows
+    steps_so : (k : ℕ) → k < n → (stand_at v k).steps ≤ steps f target (rect_at rects k).elements (rect_at rects k).rows
     steps_so k l =
         let a = played.steps k (outward k l) in
         let b = (s.begins k l).fresh in
         let p = s.parts k l in
-        let same : bound k ≡ F.steps (rect_at rects k).elements (rect_at rects k).rows = ap₂ F.steps p.n p.m in
+        let same : bound k ≡ steps f target (rect_at rects k).elements (rect_at rects k).rows = ap₂ (steps f target) p.n p.m in
         omega (arith, a, b, same)
 
     -- a byte that a runner may write is there as after its run alone
@@ -253,7 +255,7 @@ module _ (f : FunctionValue) (kept : is_function f ≡ true) (call : Call) (rect
         ap (λ (x : Memory × List ℕ). length x.1) (sym (ok_same (u.0.memory, sums_of f u.0) total_end u.2))
         ∙ length-map (places_of kind.Accumulator f.vars) u.0.sums ∙ length-places_of kind.Accumulator f.vars
 
-    as_one : emulate f call w.memory ≡ Ok total_end → PlaysAsOne f call rects schedule w v
+    as_one : emulate f call w.memory ≡ Ok total_end → PlaysAsOne f target call rects schedule w v
     as_one means = record {
       end = total_end;
       means = means;
@@ -263,18 +265,18 @@ module _ (f : FunctionValue) (kept : is_function f ≡ true) (call : Call) (rect
       sums = λ e g l. ((λ k. slice_index (ends k).1 g), sums_so e g (subst (λ m. g < m) (sums_count means) l), adds.sums g l);
     }
 
-  pub plays_as_one : (schedule : List ℕ) (trap : Option (ℕ × Trap)) (v : Shared) → All (λ k. k < length w.stands) schedule → Plays w schedule trap v → PlaysAsOne f call rects schedule w v
+  pub plays_as_one : (schedule : List ℕ) (trap : Option (ℕ × Trap)) (v : Shared) → All (λ k. k < length w.stands) schedule → Plays w schedule trap v → PlaysAsOne f target call rects schedule w v
   plays_as_one schedule trap v all plays = as_one schedule trap v all plays whole.0 whole.2.0 whole.2.1 whole.2.2 whole.1
 
   -- ---- drawn turns
 
-  bounds_so : (m : ℕ) → m ≤ n → sum_below m bound ≡ total m (part_steps f rects)
+  bounds_so : (m : ℕ) → m ≤ n → sum_below m bound ≡ total m (part_steps f target rects)
   bounds_so zero l = refl
-  bounds_so (suc m) l = let p = s.parts m (omega (arith, l)) in ap₂ (λ x y. x + y) (bounds_so m (omega (arith, l))) (ap₂ F.steps p.n p.m)
+  bounds_so (suc m) l = let p = s.parts m (omega (arith, l)) in ap₂ (λ x y. x + y) (bounds_so m (omega (arith, l))) (ap₂ (steps f target) p.n p.m)
 
-  pub drawn_as_one : (v : Shared) (seed budget count : ℕ) (why : Stopped) → total n (part_steps f rects) ≤ budget → PlaysDrawn w seed budget why count v → EndsAsOne f call rects why w v
+  pub drawn_as_one : (v : Shared) (seed budget count : ℕ) (why : Stopped) → total n (part_steps f target rects) ≤ budget → PlaysDrawn w seed budget why count v → EndsAsOne f target call rects why w v
   drawn_as_one v seed budget count why b p =
-      let same : sum_below (length w.stands) bound ≡ total n (part_steps f rects) = ap (λ m. sum_below m bound) (sym s.count) ∙ bounds_so n (omega arith) in
+      let same : sum_below (length w.stands) bound ≡ total n (part_steps f target rects) = ap (λ m. sum_below m bound) (sym s.count) ∙ bounds_so n (omega arith) in
       let ended = (drawn_as_alone w s.own W bound end isolated seed budget why count v (omega (arith, same, b)) p).all_ended in
       let turns = plays_drawn w seed budget why count v p in
       let one = plays_as_one p.schedule None v turns.0 turns.1 in

@@ -3,12 +3,12 @@
 ghost use Rattle.std.specs.Prelude.{◌≡◌, ◌*◌, ◌≤◌, length, map, max};
 ghost use Rattle.std.specs.List.{fold, sum_by};
 ghost use Rattle.orc_program.specs.Checks.{operand_sizes};
-ghost use Rattle.orc_program.specs.Need.{largest, declared_size, insn_size, lanes, spills, cost, source_cost, result_cost, insn_cost};
+ghost use Rattle.orc_program.specs.Need.{largest, declared_size, insn_size, lanes, spills, cost, cost_for, source_cost, result_cost, insn_cost};
 
 use crate::counting::widest_need;
 use crate::lowering::lower;
 use crate::placing::REGISTERS;
-use orc_ops::{Op, info};
+use orc_ops::{Op, Target, class_for};
 use orc_program::variables::kind_at;
 use orc_program::{Function, Insn, Operand, Var, VarKind, is_count, result_size, source_size};
 
@@ -137,33 +137,40 @@ fn results_cost(spills: bool, vars: &[Var], operands: &[Operand]) -> u32
     result_cost(spills, vars, *operand) + results_cost(spills, vars, rest)
 }
 
-/// The cost of an instruction: its sources', its results', and the class of its opcode.
-fn insn_cost(spills: bool, vars: &[Var], insn: &Insn) -> u32
-    ensures cost { result ≡ insn_cost spills vars.now insn.now }
+/// The cost of an instruction: its sources', its results', and the class of its opcode for the target.
+fn insn_cost(spills: bool, vars: &[Var], insn: &Insn, target: Target) -> u32
+    ensures cost { result ≡ insn_cost target spills vars.now insn.now }
     ensures few { result ≤ 300 }
 {
     let sources = sources_cost(vars, insn.sources.as_slice());
     let results = results_cost(spills, vars, insn.results.as_slice());
-    sources + results + u32::from(info(insn.op).class)
+    sources + results + u32::from(class_for(insn.op, target))
 }
 
 /// The cost of instructions.
-fn cost_of(spills: bool, vars: &[Var], insns: &[Insn]) -> u32
+fn cost_of(spills: bool, vars: &[Var], insns: &[Insn], target: Target) -> u32
     requires { length insns.now ≤ 100 }
-    ensures cost { result ≡ sum_by (insn_cost spills vars.now) insns.now }
+    ensures cost { result ≡ sum_by (insn_cost target spills vars.now) insns.now }
     ensures few { result ≤ 300 * length insns.now }
 {
     let [insn, rest @ ..] = insns else {
         return 0;
     };
-    insn_cost(spills, vars, insn) + cost_of(spills, vars, rest)
+    insn_cost(spills, vars, insn, target) + cost_of(spills, vars, rest, target)
 }
 
-/// The sum over all instructions of the class of the opcode, 2 for each source that is a dest or a source variable, 1 for each other
-/// source, and 2 for each result that is a dest or an accumulator; a result that is a temp costs 1 where some instruction needs more than
-/// ten values of temps at once, else nothing.
+/// The sum over all instructions of the class of the opcode for the target, 2 for each source that is a dest or a source variable, 1 for
+/// each other source, and 2 for each result that is a dest or an accumulator; a result that is a temp costs 1 where some instruction needs
+/// more than ten values of temps at once, else nothing.
+pub fn cost_for(f: &Function, target: Target) -> u32
+    ensures { result ≡ cost_for f.now target }
+{
+    cost_of(spills(f), f.vars.as_slice(), f.insns.as_slice(), target)
+}
+
+/// The cost for SSE2: [`cost_for`] of [`Target::Sse2`].
 pub fn cost(f: &Function) -> u32
     ensures { result ≡ cost f.now }
 {
-    cost_of(spills(f), f.vars.as_slice(), f.insns.as_slice())
+    cost_for(f, Target::Sse2)
 }

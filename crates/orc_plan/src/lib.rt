@@ -22,7 +22,7 @@ mod steps;
 mod variables;
 
 pub use counting::{need, widest_need};
-pub use figures::{cost, lanes};
+pub use figures::{cost, cost_for, lanes};
 pub use laws::places_stand;
 pub use lowering::lower;
 pub use placing::{place, place_of};

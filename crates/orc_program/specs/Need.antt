@@ -1,7 +1,9 @@
 -- Need, lanes, cost and steps.
 use Rattle.std.specs.Prelude.{ℕ, zero, suc, ◌+◌, ◌-◌, ◌*◌, ◌/◌, ◌%◌, min, max, Bool, not, ◌&&◌, ◌||◌, ◌==◌, nat_lt, nat_le, List, [], ◌∷◌, if◌then◌else◌, length, drop, slice_index, map}
 use Rattle.std.specs.List.{list_any, count_by, sum_by, range_with_len, fold}
-use Rattle.orc_ops.specs.Table.{row}
+use Rattle.orc_ops.specs.declared.target.Target.{Target}
+use Rattle.orc_ops.specs.declared.target.Target.TheVariants as target
+use Rattle.orc_ops.specs.Targets.{class_for}
 use Rattle.orc_program.specs.declared.program.Var.{Var}
 use Rattle.orc_program.specs.declared.program.VarKind.TheVariants as kind
 use Rattle.orc_program.specs.declared.program.Insn.{Insn}
@@ -113,13 +115,16 @@ source_cost vars o = if is_array_operand vars o then 2 else 1
 abbrev pub result_cost : Bool → List Var → Operand → ℕ
 result_cost spills vars o = if operand_is kind.Dest vars o || operand_is kind.Accumulator vars o then 2 else (if spills && is_temp vars o then 1 else 0)
 
--- the cost of an instruction: its sources', its results', and the class of its opcode
-abbrev pub insn_cost : Bool → List Var → Insn → ℕ
-insn_cost spills vars insn = sum_by (source_cost vars) insn.sources.items + sum_by (result_cost spills vars) insn.results.items + (row insn.op).class
+-- the cost of an instruction: its sources', its results', and the class of its opcode for the target
+abbrev pub insn_cost : Target → Bool → List Var → Insn → ℕ
+insn_cost target spills vars insn = sum_by (source_cost vars) insn.sources.items + sum_by (result_cost spills vars) insn.results.items + class_for insn.op target
 
 -- E: the sum over all instructions
+abbrev pub cost_for : FunctionValue → Target → ℕ
+cost_for f target = sum_by (insn_cost target (spills f) f.vars) f.insns
+
 abbrev pub cost : FunctionValue → ℕ
-cost f = sum_by (insn_cost (spills f) f.vars) f.insns
+cost f = cost_for f target.Sse2
 
 -- ---- steps
 
@@ -147,6 +152,6 @@ turns f n = min n (most_turns (lanes f) (has_whole_turns f) (begins_aligned f) n
 abbrev pub steps_with : ℕ → ℕ → ℕ → ℕ → ℕ → ℕ → ℕ
 steps_with turned cost patterns sums arrays m = 64 + 8 * patterns + 16 * sums + m * (24 + 8 * arrays + turned * (cost + arrays + 6))
 
--- Steps: at most so many machine instructions do n elements of m rows, m taken as 1 where the function has no rows
-abbrev pub steps : FunctionValue → ℕ → ℕ → ℕ
-steps f n m = steps_with (turns f n) (cost f) (length (patterns_of f.vars f.insns)) (count_of kind.Accumulator f.vars) (array_count f.vars) (if f.two_d then m else 1)
+-- Steps: at most so many machine instructions of the target do n elements of m rows, m taken as 1 where the function has no rows
+abbrev pub steps : FunctionValue → Target → ℕ → ℕ → ℕ
+steps f target n m = steps_with (turns f n) (cost_for f target) (length (patterns_of f.vars f.insns)) (count_of kind.Accumulator f.vars) (array_count f.vars) (if f.two_d then m else 1)

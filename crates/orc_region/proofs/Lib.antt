@@ -6,3 +6,4 @@ pub mod Row
 pub mod Sizes
 pub mod Built
 pub mod Calls
+pub mod Shortened

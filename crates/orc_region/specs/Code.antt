@@ -9,7 +9,9 @@ use Rattle.x86_ins.specs.Renaming.{renamed}
 use Rattle.x86_ins.specs.Spelling.{IsIns}
 use Rattle.x86_ins.specs.Way.{Each}
 use Rattle.orc_ops.specs.declared.opcode.Op.{Op}
+use Rattle.orc_ops.specs.declared.target.Target.{Target as CodeTarget}
 use Rattle.orc_ops.specs.Table.{row, size_of_result}
+use Rattle.orc_ops.specs.Targets.{class_for}
 use Rattle.orc_program.specs.declared.program.VarKind.TheVariants as kind
 use Rattle.orc_program.specs.declared.program.Pattern.{Pattern}
 use Rattle.orc_program.specs.Program.{FunctionValue, count_of}
@@ -63,11 +65,10 @@ pub record Action : Type 0 where
 abbrev pub HasRule : ℕ → Op → Type 0
 HasRule count op = is_sum (row op).kind ≡ true → (1 ≤ count) × (count ≤ 16) × (count ≤ 16 / size_of_result op 0)
 
--- the list computes the opcode, or adds its numbers of so many elements to a running sum, in at most as many instructions as its class says
+-- the list computes the opcode, or adds its numbers of so many elements to a running sum
 pub record IsRule (count : ℕ) (op : Op) (rule : List Ins) : Type 0 where
   pub meets : is_sum (row op).kind ≡ false → Meets op rule
   pub adds : is_sum (row op).kind ≡ true → AddsUp op count rule
-  pub few : length rule ≤ (row op).class
   pub short : length rule ≤ 100
   pub known : Each IsIns rule
 
@@ -247,19 +248,20 @@ target_of at (item.Array slot) = ToArray slot
 target_of at (item.Acc slot size) = to_sum at slot
 target_of at (item.Pattern j) = ToArray j
 
--- the action is the step's, by some list that computes its opcode; `at` are the places of values
-pub record IsAction (at : List ℕ) (count : ℕ) (step : Step) (a : Action) : Type 0 where
+-- the action is the step's, by some list that computes its opcode, in at most as many instructions as its class for the target says; `at` are the places of values
+pub record IsAction (target : CodeTarget) (at : List ℕ) (count : ℕ) (step : Step) (a : Action) : Type 0 where
   pub op : a.op ≡ step.op
   pub prefix : a.prefix ≡ step.prefix
   pub to : a.to ≡ map (target_of at) step.results.items
   pub sources : a.sources ≡ map (source_of at) step.sources.items
   pub rule : IsRule count a.op a.rule
+  pub few : length a.rule ≤ class_for a.op target
 
-abbrev pub AreActions : List ℕ → ℕ → List Step → List Action → Type 0
-AreActions at count [] [] = Unit {0}
-AreActions at count (s ∷ steps) (a ∷ rest) = IsAction at count s a × AreActions at count steps rest
-AreActions at count [] (a ∷ rest) = ⊥
-AreActions at count (s ∷ steps) [] = ⊥
+abbrev pub AreActions : CodeTarget → List ℕ → ℕ → List Step → List Action → Type 0
+AreActions target at count [] [] = Unit {0}
+AreActions target at count (s ∷ steps) (a ∷ rest) = IsAction target at count s a × AreActions target at count steps rest
+AreActions target at count [] (a ∷ rest) = ⊥
+AreActions target at count (s ∷ steps) [] = ⊥
 
 -- a function's patterns
 abbrev pub patterns_in : FunctionValue → List Pattern
@@ -292,17 +294,17 @@ sum_stores_code at (suc n) = sum_stores_code at n ++ sum_store_code at n
 
 -- ---- code by some lists that compute the opcodes
 
-abbrev pub AddsRule : ℕ → Op → List Target → List Ins → List Ins → Type 0
-AddsRule count op to old new = (rule : List Ins) × IsRule count op rule × (new ≡ old ++ map (renamed (rule_register to)) rule)
+abbrev pub AddsRule : CodeTarget → ℕ → Op → List Target → List Ins → List Ins → Type 0
+AddsRule target count op to old new = (rule : List Ins) × IsRule count op rule × (length rule ≤ class_for op target) × (new ≡ old ++ map (renamed (rule_register to)) rule)
 
 -- `size` has the bytes of an element of each array slot
 abbrev pub AddsAction : List ℕ → (ℕ → ℕ) → Span → Step → List Ins → List Ins → Type 0
 AddsAction at size span step old new =
-    (a : Action) × IsAction at span.count step a × (new ≡ old ++ action_far_code span.count size (far_by span.first size) (aligned_first span.aligned) a)
+    (a : Action) × IsAction span.target at span.count step a × (new ≡ old ++ action_far_code span.count size (far_by span.first size) (aligned_first span.aligned) a)
 
 abbrev pub AddsActions : List ℕ → (ℕ → ℕ) → Span → List Step → List Ins → List Ins → Type 0
 AddsActions at size span steps old new =
-    (actions : List Action) × AreActions at span.count steps actions × (new ≡ old ++ actions_far_code span.count size (far_by span.first size) (aligned_first span.aligned) actions)
+    (actions : List Action) × AreActions span.target at span.count steps actions × (new ≡ old ++ actions_far_code span.count size (far_by span.first size) (aligned_first span.aligned) actions)
 
 -- a block of steps with these places, by the sizes of array slots
 abbrev pub IsBlockBy : List ℕ → List ℕ → List Step → Span → List Ins → Type 0
@@ -321,20 +323,20 @@ IsBlocksTurn Are count size aligned dests sources b list =
 
 -- a turn of blocks of steps with these places, by the sizes of array slots
 abbrev pub IsTurnBy : List ℕ → List ℕ → List Step → ℕ → ℕ → Span → ℕ → List Ins → Type 0
-IsTurnBy at sizes steps dests sources span = IsBlocksTurn (AreActions at span.count steps) span.count (slice_index sizes) (aligned_first span.aligned) dests sources
+IsTurnBy at sizes steps dests sources span = IsBlocksTurn (AreActions span.target at span.count steps) span.count (slice_index sizes) (aligned_first span.aligned) dests sources
 
--- so many elements from the one that the pointers are at, with aligned stores to the first dest or without
-abbrev pub span_of : ℕ → Bool → Span
-span_of count aligned = record { first = 0; count = count; aligned = aligned }
+-- so many elements from the one that the pointers are at, by rules for the target, with aligned stores to the first dest or without
+abbrev pub span_of : CodeTarget → ℕ → Bool → Span
+span_of target count aligned = record { first = 0; count = count; aligned = aligned; target = target }
 
--- a block for so many elements of a function's code, by these places of its values, with aligned stores to the first dest or without
-abbrev pub IsBlock : FunctionValue → List ℕ → ℕ → Bool → List Ins → Type 0
-IsBlock f at count aligned list =
-    (actions : List Action) × AreActions at count (steps_of f) actions × (list ≡ actions_far_code count (size_of_slot f.vars) (far_by 0 (size_of_slot f.vars)) (aligned_first aligned) actions)
+-- a block for so many elements of a function's code for the target, by these places of its values, with aligned stores to the first dest or without
+abbrev pub IsBlock : FunctionValue → CodeTarget → List ℕ → ℕ → Bool → List Ins → Type 0
+IsBlock f target at count aligned list =
+    (actions : List Action) × AreActions target at count (steps_of f) actions × (list ≡ actions_far_code count (size_of_slot f.vars) (far_by 0 (size_of_slot f.vars)) (aligned_first aligned) actions)
 
 -- a turn of so many blocks of a function's code, each of `count` elements, with aligned stores to the first dest or without
-abbrev pub IsTurnOf : FunctionValue → List ℕ → ℕ → Bool → ℕ → List Ins → Type 0
-IsTurnOf f at count aligned = IsBlocksTurn (AreActions at count (steps_of f)) count (size_of_slot f.vars) (aligned_first aligned) (count_of kind.Dest f.vars) (count_of kind.Source f.vars)
+abbrev pub IsTurnOf : FunctionValue → CodeTarget → List ℕ → ℕ → Bool → ℕ → List Ins → Type 0
+IsTurnOf f target at count aligned = IsBlocksTurn (AreActions target at count (steps_of f)) count (size_of_slot f.vars) (aligned_first aligned) (count_of kind.Dest f.vars) (count_of kind.Source f.vars)
 
 -- ---- the elements of a row
 
@@ -360,8 +362,8 @@ abbrev pub turns_flow : ℕ → ℕ → List Ins → List Ins → Flow
 turns_flow lanes b large turn = if nat_lt 1 b then wide_loops lanes (b * lanes) (Plain large) (Plain turn) else wide_loop (Plain turn)
 
 -- so they are in a function's code, by large turns where these have several blocks
-abbrev pub AreWholeTurns : FunctionValue → List ℕ → Bool → ℕ → List Ins → List Ins → Type 0
-AreWholeTurns f at aligned b turn list = (large : List Ins) × (1 < b → IsTurnOf f at (lanes f) aligned b large) × (list ≡ flat (turns_flow (lanes f) b large turn))
+abbrev pub AreWholeTurns : FunctionValue → CodeTarget → List ℕ → Bool → ℕ → List Ins → List Ins → Type 0
+AreWholeTurns f target at aligned b turn list = (large : List Ins) × (1 < b → IsTurnOf f target at (lanes f) aligned b large) × (list ≡ flat (turns_flow (lanes f) b large turn))
 
 -- turns from the first element on, and single elements where the turns may leave some
 abbrev pub from_first : Bool → ℕ → List Ins → Flow → Flow
@@ -384,34 +386,34 @@ abbrev pub fills : FunctionValue → Bool
 fills f = is_filled (count_of kind.Dest f.vars) (lanes f) (size_of_slot f.vars 0)
 
 -- the turn of one element, where a row may have single elements
-abbrev pub IsSingle : FunctionValue → List ℕ → List Ins → Type 0
-IsSingle f at single = has_whole_turns f ≡ false → IsTurnOf f at 1 false 1 single
+abbrev pub IsSingle : FunctionValue → CodeTarget → List ℕ → List Ins → Type 0
+IsSingle f target at single = has_whole_turns f ≡ false → IsTurnOf f target at 1 false 1 single
 
 -- the turns of a function's code by good places of its values
-pub record Turns (f : FunctionValue) (at : List ℕ) (single wide aligned large : List Ins) : Type 0 where
+pub record Turns (f : FunctionValue) (target : CodeTarget) (at : List ℕ) (single wide aligned large : List Ins) : Type 0 where
   pub good : GoodPlaces (steps_of f) at
-  pub one : IsSingle f at single
-  pub more : IsTurnOf f at (lanes f) false 1 wide
-  pub stored : fills f ≡ true → IsTurnOf f at (lanes f) true 1 aligned
+  pub one : IsSingle f target at single
+  pub more : IsTurnOf f target at (lanes f) false 1 wide
+  pub stored : fills f ≡ true → IsTurnOf f target at (lanes f) true 1 aligned
   -- where they have several blocks
-  pub many : 1 < blocks_of (length wide) → IsTurnOf f at (lanes f) (fills f) (blocks_of (length wide)) large
+  pub many : 1 < blocks_of (length wide) → IsTurnOf f target at (lanes f) (fills f) (blocks_of (length wide)) large
 
 abbrev pub elements_of : FunctionValue → List Ins → List Ins → List Ins → List Ins → Flow
 elements_of f single wide aligned large = elements_flow (fills f) (begins_aligned f) (has_whole_turns f) (shift_of (size_of_slot f.vars 0)) (lanes f) (blocks_of (length wide)) single wide aligned large
 
 -- in a function's code these turns are from the first element on
-abbrev pub AreFromFirst : FunctionValue → List ℕ → List Ins → List Ins → Type 0
-AreFromFirst f at turns list = (single : List Ins) × IsSingle f at single × (list ≡ flat (from_first (has_whole_turns f) (lanes f) single (Plain turns)))
+abbrev pub AreFromFirst : FunctionValue → CodeTarget → List ℕ → List Ins → List Ins → Type 0
+AreFromFirst f target at turns list = (single : List Ins) × IsSingle f target at single × (list ≡ flat (from_first (has_whole_turns f) (lanes f) single (Plain turns)))
 
 -- or from where the first dest is at a multiple of 16, and where it is nowhere by the turn `wide`
-abbrev pub AreFromBoundary : FunctionValue → List ℕ → List Ins → List Ins → List Ins → Type 0
-AreFromBoundary f at wide turns list = (single : List Ins) × IsSingle f at single
+abbrev pub AreFromBoundary : FunctionValue → CodeTarget → List ℕ → List Ins → List Ins → List Ins → Type 0
+AreFromBoundary f target at wide turns list = (single : List Ins) × IsSingle f target at single
     × (list ≡ flat (from_boundary (has_whole_turns f) (shift_of (size_of_slot f.vars 0)) (lanes f) single wide (Plain turns)))
 
 -- the tree does the elements of a row, by these places of values
-abbrev pub IsElements : FunctionValue → List ℕ → Tree → Type 0
-IsElements f at tree =
-    (single : List Ins) × (wide : List Ins) × (aligned : List Ins) × (large : List Ins) × Turns f at single wide aligned large × (flat_of tree ≡ flat (elements_of f single wide aligned large))
+abbrev pub IsElements : FunctionValue → CodeTarget → List ℕ → Tree → Type 0
+IsElements f target at tree =
+    (single : List Ins) × (wide : List Ins) × (aligned : List Ins) × (large : List Ins) × Turns f target at single wide aligned large × (flat_of tree ≡ flat (elements_of f single wide aligned large))
 
 -- ---- steps whose code can be given for so many elements
 

@@ -3,12 +3,13 @@ use Rattle.std.specs.Prelude.{◌≡◌, ◌≢◌, ℕ, ◌+◌, ◌*◌, ◌%�
 use Rattle.orc_bits.specs.Numbers.{cut}
 use Rattle.orc_bits.specs.Lanes.{AreBytes}
 use Rattle.orc_bits.specs.Memory.{Memory, IsMapped}
+use Rattle.orc_ops.specs.declared.target.Target.{Target}
 use Rattle.orc_program.specs.declared.program.VarKind.TheVariants as kind
 use Rattle.orc_program.specs.declared.call.Call.{Call as Meant}
 use Rattle.orc_program.specs.Program.{FunctionValue, count_of, places_of}
 use Rattle.orc_program.specs.Kept.{is_function}
 use Rattle.orc_program.specs.Meaning.{State, row_of, rows_of, start}
-use Rattle.orc_program.specs.Need.{lanes, cost, has_whole_turns, turns}
+use Rattle.orc_program.specs.Need.{lanes, cost_for, has_whole_turns, turns}
 use Rattle.orc_program.specs.Slots.{call_of, size_of_slot}
 use Rattle.orc_plan.specs.Lowered.{steps_of, sizes_of}
 use Rattle.orc_plan.specs.Places.{PlacedValue}
@@ -122,14 +123,14 @@ pub record Done (f : FunctionValue) (at : List ℕ) (code : Placed) (s : Core) (
   pub holds : Holds f at s args e d
   pub words : (a : ℕ) → InWords (lowered s) a → d.memory a ≡ c.memory a
 
--- wherever this list stands in code that has values at these places, in each good call it does `count` elements from element i of a row on, where as many are left, and leaves all general registers but RAX; where `aligned` is true, from an element at which the first dest's cell is at a multiple of 16, and then a whole register of the first dest is stored by no movdqu, unless another dest is the very same array
-abbrev pub DoesElements : FunctionValue → List ℕ → ℕ → Bool → List Ins → Type 0
-DoesElements f at count aligned list =
+-- wherever this list stands in code that has values at these places, in each good call it does, in at most as many steps as a turn costs for the target, `count` elements from element i of a row on, where as many are left, and leaves all general registers but RAX; where `aligned` is true, from an element at which the first dest's cell is at a multiple of 16, and then a whole register of the first dest is stored by no movdqu, unless another dest is the very same array
+abbrev pub DoesElements : FunctionValue → Target → List ℕ → ℕ → Bool → List Ins → Type 0
+DoesElements f target at count aligned list =
     (code : Placed) (s : Point) (args : Call) (back : ℕ) → GoodCall (subject_of f) code s args back → (from : ℕ) → Stands code from list
     → (r : ℕ) → r < rows (subject_of f) args → (i : ℕ) → i + count ≤ args.n
     → (aligned ≡ true → IsDest f 0 → cell (subject_of f) args 0 r i 0 % 16 ≡ 0)
     → (e : State) → HasCome f args s.core.memory r i e → (c : Core) → Holds f at s.core args e c → PointsAt f args r i c
-    → (done : Done f at code s.core args r i count (cost f) (subject_of f).operands from list c)
+    → (done : Done f at code s.core args r i count (cost_for f target) (subject_of f).operands from list c)
     × ((x : ℕ) → x ≢ 0 → done.d.gpr x ≡ c.gpr x)
     × (aligned ≡ true → count * size_of_slot f.vars 0 ≡ 16 → IsAlone f args → Each (λ m. StoresFirst (subject_of f) args m → ⊥) done.way)
 
@@ -138,10 +139,10 @@ abbrev pub arrays_of : FunctionValue → ℕ
 arrays_of f = count_of kind.Dest f.vars + count_of kind.Source f.vars
 
 -- wherever this list stands in code that has values at these places, in each good call it does all elements of a row whose number RCX has, in so many steps a turn and few besides; where some element from which on a register is filled has the first dest's cell at a multiple of 16, which is the first one if the row is whole turns by the facts, a whole register of the first dest is stored by no movdqu, unless another dest is the very same array
-abbrev pub DoesRow : FunctionValue → List ℕ → List Ins → Type 0
-DoesRow f at list =
+abbrev pub DoesRow : FunctionValue → Target → List ℕ → List Ins → Type 0
+DoesRow f target at list =
     (code : Placed) (s : Point) (args : Call) (back : ℕ) → GoodCall (subject_of f) code s args back → (from : ℕ) → Stands code from list
     → (r : ℕ) → r < rows (subject_of f) args
     → (e : State) → HasCome f args s.core.memory r 0 e → (c : Core) → Holds f at s.core args e c → PointsAt f args r 0 c → c.gpr 1 ≡ args.n
-    → (done : Done f at code s.core args r 0 args.n (17 + 3 * arrays_of f + turns f args.n * (cost f + arrays_of f + 6)) (turns f args.n * (subject_of f).operands) from list c)
+    → (done : Done f at code s.core args r 0 args.n (17 + 3 * arrays_of f + turns f args.n * (cost_for f target + arrays_of f + 6)) (turns f args.n * (subject_of f).operands) from list c)
     × (lanes f * size_of_slot f.vars 0 ≡ 16 → ((h : ℕ) × (h + lanes f ≤ args.n) × (cell (subject_of f) args 0 r h 0 % 16 ≡ 0) × (has_whole_turns f ≡ true → h ≡ 0)) → IsAlone f args → Each (λ m. StoresFirst (subject_of f) args m → ⊥) done.way)

@@ -14,7 +14,7 @@ ghost use Rattle.orc_program.specs.Need.{places, registers};
 ghost use Rattle.orc_region.specs.Code.{HasRule, pointer, place_register, aligned_first, far_by, source_of, target_of, source_far_code, sources_far_code, sum_code, result_far_code, results_far_code, advance_code, first_register, second_register, third_register, AddsRule, AddsAction, AddsActions, IsMoved, IsLoaded, IsStored, IsReady};
 
 use crate::homes::{Homes, REGISTERS, SUM, homes_of, names_of, place_register};
-use crate::rules::rule;
+use crate::rules::rule_for;
 use crate::span::Span;
 use crate::sums::is_resident;
 use orc_frame::{Layout, STACK, pattern_at, spill_slot_at, sum_at};
@@ -289,22 +289,22 @@ fn push_renamed(list: &mut InsList, more: &[Ins], names: &[u8; 16]) -> Result<()
     Ok(())
 }
 
-/// Adds what computes an opcode in the registers of its results, or adds its numbers of `count` elements to a running sum.
+/// Adds what computes an opcode in the registers of its results, or adds its numbers of elements to a running sum.
 fn push_rule(
     list: &mut InsList,
     at: &[u8],
     op: Op,
     results: &[Item],
     homes: &Homes,
-    count: usize,
+    span: Span,
 ) -> Result<(), AllocError>
-    requires rule { HasRule count op }
+    requires rule { HasRule span.count op }
     requires first { homes.now.first ≡ first_register (map (target_of at.now) results.now) }
     requires second { homes.now.second ≡ second_register (map (target_of at.now) results.now) }
     requires sum { homes.now.sum ≡ third_register (map (target_of at.now) results.now) }
-    ensures { OnOk result (AddsRule count op (map (target_of at.now) results.now) list.old list.new) }
+    ensures { OnOk result (AddsRule span.target span.count op (map (target_of at.now) results.now) list.old list.new) }
 {
-    let rule = rule(op, count);
+    let rule = rule_for(op, span.target, span.count);
     push_renamed(list, rule.as_slice(), &names_of(homes))
 }
 
@@ -334,7 +334,7 @@ fn push_action(
         span,
     )?;
     push_sum(list, at, sizes, layout, results, span.count)?;
-    push_rule(list, at, step.op, results, &homes, span.count)?;
+    push_rule(list, at, step.op, results, &homes, span)?;
     push_results(list, at, sizes, layout, results, span)
 }
 

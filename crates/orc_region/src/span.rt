@@ -1,6 +1,8 @@
-//! Which elements a block does.
+//! Which elements a block does, and how.
 
-/// Which elements of a turn a block does: `count` of them from number `first` on, counted from the one that the pointers are at.
+use orc_ops::Target;
+
+/// Which elements of a turn a block does, and how: `count` of them from number `first` on, counted from the one that the pointers are at.
 #[derive(Clone, Copy, Debug, PartialEq, Eq)]
 pub struct Span {
     /// The number of the first element.
@@ -9,4 +11,6 @@ pub struct Span {
     pub count: usize,
     /// Whether the first dest's cells are stored at a multiple of 16.
     pub aligned: bool,
+    /// The target whose rules compute the opcodes.
+    pub target: Target,
 }

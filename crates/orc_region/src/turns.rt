@@ -13,6 +13,7 @@ use crate::lists::{COUNTER, push_actions, push_advances};
 use crate::loops::{aligned_loops, plain_loops, tested_loops, whole_loops, wide_loops};
 use crate::span::Span;
 use orc_frame::Layout;
+use orc_ops::Target;
 use orc_plan::{Core, Placed};
 use orc_program::CountFacts;
 use std::alloc::{AllocError, Global};
@@ -77,7 +78,7 @@ fn blocks_list(
     requires ready { All (IsReady layout.now places.now (slice_index core.now.sizes) span.count) core.now.steps }
     requires count { span.count ≤ 16 }
     requires blocks { blocks ≤ 4 }
-    ensures { IfOk result (AreBlocks (AreActions places.now span.count core.now.steps) span.count (slice_index core.now.sizes) (aligned_first span.aligned) blocks) }
+    ensures { IfOk result (AreBlocks (AreActions span.target places.now span.count core.now.steps) span.count (slice_index core.now.sizes) (aligned_first span.aligned) blocks) }
 {
     let mut list = InsList::new(alloc);
     for k in 0..blocks {
@@ -134,17 +135,19 @@ fn turn(
     count: usize,
     aligned: bool,
     blocks: usize,
+    target: Target,
 ) -> Result<Block, AllocError>
     requires of { (f : FunctionValue) × AreOf f (record { core = core.now; places = places.now }) layout.now }
     requires places { GoodPlaces core.now.steps places.now }
     requires count { (count ≡ 1) ⊎ (count ≡ core.now.lanes) }
     requires blocks { blocks ≤ 4 }
-    ensures { IfOk result (λ block. (f : FunctionValue) → AreOf f (record { core = core.now; places = places.now }) layout.now → IsTurnOf f places.now count aligned blocks block.list) }
+    ensures { IfOk result (λ block. (f : FunctionValue) → AreOf f (record { core = core.now; places = places.now }) layout.now → IsTurnOf f target places.now count aligned blocks block.list) }
 {
     let span = Span {
         first: 0,
         count,
         aligned,
+        target,
     };
     let list = turn_list(alloc, core, places, layout, span, blocks)?;
     Ok(Block { list })
@@ -158,16 +161,18 @@ fn block(
     layout: &Layout,
     count: usize,
     aligned: bool,
+    target: Target,
 ) -> Result<Block, AllocError>
     requires of { (f : FunctionValue) × AreOf f (record { core = core.now; places = places.now }) layout.now }
     requires places { GoodPlaces core.now.steps places.now }
     requires count { (count ≡ 1) ⊎ (count ≡ core.now.lanes) }
-    ensures { IfOk result (λ block. (f : FunctionValue) → AreOf f (record { core = core.now; places = places.now }) layout.now → IsBlock f places.now count aligned block.list) }
+    ensures { IfOk result (λ block. (f : FunctionValue) → AreOf f (record { core = core.now; places = places.now }) layout.now → IsBlock f target places.now count aligned block.list) }
 {
     let span = Span {
         first: 0,
         count,
         aligned,
+        target,
     };
     let list = block_list(alloc, core, places, layout, span)?;
     Ok(Block { list })
@@ -182,17 +187,19 @@ fn fills(core: &Core, count: u8) -> bool
 
 /// Does `count` elements of a row from the one that the pointers of arrays are at, by the layout of the same function. `count` is 1, or as
 /// many as are done at once. Where `aligned` is true, the cell of the first dest has to be at a multiple of 16, and is stored to by aligned
-/// stores where so many of its elements fill a register. The pointers stay.
+/// stores where so many of its elements fill a register. The pointers stay. The instructions are the target's, and at most as many as a turn
+/// costs for it.
 pub fn region(
     alloc: Global,
     p: &Placed,
     l: &Layout,
     count: u8,
     aligned: bool,
+    target: Target,
 ) -> Result<Block, AllocError>
     requires of { (f : FunctionValue) × AreOf f p.now l.now }
     requires count { (count ≡ 1) ⊎ (count ≡ p.now.core.lanes) }
-    ensures { IfOk result (λ block. (f : FunctionValue) → AreOf f p.now l.now → DoesElements f p.now.places count aligned block.list) }
+    ensures { IfOk result (λ block. (f : FunctionValue) → AreOf f p.now l.now → DoesElements f target p.now.places count aligned block.list) }
 {
     let aligned = aligned & fills(&p.core, count);
     block(
@@ -202,6 +209,7 @@ pub fn region(
         l,
         count as usize,
         aligned,
+        target,
     )
 }
 
@@ -221,12 +229,13 @@ fn shift_of(size: usize) -> u8
 /// The loops over the elements of a row, by the layout of the same function. The pointers of arrays are at the first element, and the counter
 /// has the number of elements. Where elements of the first dest fill a register, several elements at once are stored to it at multiples of 16.
 /// No loop does the single elements before the first such one, or those behind the last whole turn, where by the facts there are none.
-pub fn row_flow(alloc: Global, p: &Placed, l: &Layout) -> Result<Flow, AllocError>
+/// The instructions are the target's.
+pub fn row_flow(alloc: Global, p: &Placed, l: &Layout, target: Target) -> Result<Flow, AllocError>
     requires of { (f : FunctionValue) × AreOf f p.now l.now }
-    ensures is { IfOk result (λ flow. (f : FunctionValue) → AreOf f p.now l.now → IsElements f p.now.places flow) }
-    ensures does { IfOk result (λ flow. (f : FunctionValue) → AreOf f p.now l.now → DoesRow f p.now.places (flat_of flow)) }
+    ensures is { IfOk result (λ flow. (f : FunctionValue) → AreOf f p.now l.now → IsElements f target p.now.places flow) }
+    ensures does { IfOk result (λ flow. (f : FunctionValue) → AreOf f p.now l.now → DoesRow f target p.now.places (flat_of flow)) }
 {
-    elements(alloc, &p.core, p.places.as_slice(), l)
+    elements(alloc, &p.core, p.places.as_slice(), l, target)
 }
 
 /// How many blocks a large turn has, where a turn of one block has so many instructions.
@@ -253,18 +262,19 @@ fn whole_turns(
     aligned: bool,
     blocks: usize,
     turn_of_one: Block,
+    target: Target,
 ) -> Result<Flow, AllocError>
     requires of { (f : FunctionValue) × AreOf f (record { core = core.now; places = places.now }) layout.now }
     requires places { GoodPlaces core.now.steps places.now }
     requires some { 1 ≤ blocks }
     requires few { blocks ≤ 4 }
-    ensures { IfOk result (λ flow. (f : FunctionValue) → AreOf f (record { core = core.now; places = places.now }) layout.now → AreWholeTurns f places.now aligned blocks turn_of_one.list (flat_of flow)) }
+    ensures { IfOk result (λ flow. (f : FunctionValue) → AreOf f (record { core = core.now; places = places.now }) layout.now → AreWholeTurns f target places.now aligned blocks turn_of_one.list (flat_of flow)) }
 {
     let lanes = core.lanes as usize;
     if blocks == 1 {
         return repeat(alloc, Cond::Ns, plain(turn_of_one));
     }
-    let large = turn(alloc, core, places, layout, lanes, aligned, blocks)?;
+    let large = turn(alloc, core, places, layout, lanes, aligned, blocks, target)?;
     wide_loops(
         alloc,
         lanes,
@@ -299,16 +309,17 @@ fn from_first(
     places: &[u8],
     layout: &Layout,
     turns: Flow,
+    target: Target,
 ) -> Result<Flow, AllocError>
     requires of { (f : FunctionValue) × AreOf f (record { core = core.now; places = places.now }) layout.now }
     requires places { GoodPlaces core.now.steps places.now }
-    ensures { IfOk result (λ flow. (f : FunctionValue) → AreOf f (record { core = core.now; places = places.now }) layout.now → AreFromFirst f places.now (flat_of turns) (flat_of flow)) }
+    ensures { IfOk result (λ flow. (f : FunctionValue) → AreOf f (record { core = core.now; places = places.now }) layout.now → AreFromFirst f target places.now (flat_of turns) (flat_of flow)) }
 {
     let lanes = core.lanes as usize;
     if divides_each(lanes, layout.facts.n) {
         return whole_loops(alloc, lanes, turns);
     }
-    let single = turn(alloc, core, places, layout, 1, false, 1)?;
+    let single = turn(alloc, core, places, layout, 1, false, 1, target)?;
     plain_loops(alloc, lanes, turns, single)
 }
 
@@ -321,18 +332,19 @@ fn from_boundary(
     layout: &Layout,
     wide: Block,
     turns: Flow,
+    target: Target,
 ) -> Result<Flow, AllocError>
     requires of { (f : FunctionValue) × AreOf f (record { core = core.now; places = places.now }) layout.now }
     requires places { GoodPlaces core.now.steps places.now }
     requires filled { core.now.lanes * slice_index core.now.sizes 0 ≡ 16 }
-    ensures { IfOk result (λ flow. (f : FunctionValue) → AreOf f (record { core = core.now; places = places.now }) layout.now → AreFromBoundary f places.now wide.list (flat_of turns) (flat_of flow)) }
+    ensures { IfOk result (λ flow. (f : FunctionValue) → AreOf f (record { core = core.now; places = places.now }) layout.now → AreFromBoundary f target places.now wide.list (flat_of turns) (flat_of flow)) }
 {
     let lanes = core.lanes as usize;
     let wide = repeat(alloc, Cond::Ns, plain(wide))?;
     if divides_each(lanes, layout.facts.n) {
         return tested_loops(alloc, lanes, wide, turns);
     }
-    let tail = turn(alloc, core, places, layout, 1, false, 1)?;
+    let tail = turn(alloc, core, places, layout, 1, false, 1, target)?;
     let head = Block {
         list: InsList::from_slice(alloc, tail.list.as_slice())?,
     };
@@ -341,23 +353,29 @@ fn from_boundary(
 }
 
 /// The loops over the elements of a row.
-fn elements(alloc: Global, core: &Core, places: &[u8], layout: &Layout) -> Result<Flow, AllocError>
+fn elements(
+    alloc: Global,
+    core: &Core,
+    places: &[u8],
+    layout: &Layout,
+    target: Target,
+) -> Result<Flow, AllocError>
     requires of { (f : FunctionValue) × AreOf f (record { core = core.now; places = places.now }) layout.now }
     requires places { GoodPlaces core.now.steps places.now }
-    ensures { IfOk result (λ flow. (f : FunctionValue) → AreOf f (record { core = core.now; places = places.now }) layout.now → IsElements f places.now flow) }
+    ensures { IfOk result (λ flow. (f : FunctionValue) → AreOf f (record { core = core.now; places = places.now }) layout.now → IsElements f target places.now flow) }
 {
     let lanes = core.lanes as usize;
     let size = core.sizes[0] as usize;
-    let wide = turn(alloc, core, places, layout, lanes, false, 1)?;
+    let wide = turn(alloc, core, places, layout, lanes, false, 1, target)?;
     let blocks = blocks_of(wide.list.len());
     if lanes * size != REGISTER {
-        let turns = whole_turns(alloc, core, places, layout, false, blocks, wide)?;
-        return from_first(alloc, core, places, layout, turns);
+        let turns = whole_turns(alloc, core, places, layout, false, blocks, wide, target)?;
+        return from_first(alloc, core, places, layout, turns, target);
     }
-    let stored = turn(alloc, core, places, layout, lanes, true, 1)?;
-    let turns = whole_turns(alloc, core, places, layout, true, blocks, stored)?;
+    let stored = turn(alloc, core, places, layout, lanes, true, 1, target)?;
+    let turns = whole_turns(alloc, core, places, layout, true, blocks, stored, target)?;
     if begins_aligned(layout) {
-        return from_first(alloc, core, places, layout, turns);
+        return from_first(alloc, core, places, layout, turns, target);
     }
-    from_boundary(alloc, core, places, layout, wide, turns)
+    from_boundary(alloc, core, places, layout, wide, turns, target)
 }

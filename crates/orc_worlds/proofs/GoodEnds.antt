@@ -7,6 +7,7 @@ use Rattle.orc_bits.specs.declared.parts.Part.{Part}
 use Rattle.orc_bits.specs.Parts.{Span, span, span_at, layout, memory_of}
 use Rattle.std.specs.List.{AllByRecursion}
 use Rattle.orc_bits.proofs.Memories.{some_one}
+use Rattle.orc_ops.specs.declared.target.Target.{Target}
 use Rattle.orc_program.specs.declared.program.VarKind.TheVariants as kind
 use Rattle.orc_program.specs.declared.call.Call.{Call}
 use Rattle.orc_program.specs.declared.rect.Rect.{Rect}
@@ -110,7 +111,7 @@ module _ (f : FunctionValue) (call : Call) (low : (p : ℕ) → (place_at f call
 
 -- ---- the run
 
-module _ (f : FunctionValue) (entry : image.FunctionValue) (job : Job) (c : IsCodeOf f entry) (g : IsGoodJob f entry job) where
+module _ {target : Target} (f : FunctionValue) (entry : image.FunctionValue) (job : Job) (c : IsCodeOf f target entry) (g : IsGoodJob f entry job) where
   abbrev words : Arguments
   words = words_of entry.dests job.call
 
@@ -123,7 +124,7 @@ module _ (f : FunctionValue) (entry : image.FunctionValue) (job : Job) (c : IsCo
   abbrev segments : Memory
   segments = memory_of job.memory
 
-  run : Returns (subject_of f) (λ way t. Unit {0}) (placed_code entry) begin big words return_to
+  run : Returns (subject_of f) (steps f target) (λ way t. Unit {0}) (placed_code entry) begin big words return_to
   run = c.runs code_at begin words return_to (good f entry job c g)
 
   cell_mapped : (a : ℕ) → IsCell f job.call a → IsMapped segments a
@@ -135,7 +136,7 @@ module _ (f : FunctionValue) (entry : image.FunctionValue) (job : Job) (c : IsCo
   end_is : run.end ≡ record { memory = both.one.0; sums = slice_index both.one.1 }
   end_is = some_one run.end _ (sym run.means ∙ ap (λ x. end_of (emulate f x big)) (call_same f entry job c g) ∙ ap end_of both.first)
 
-  module _ (e : End) (at : Point) (enough : steps f job.call.n (rows f job.call) ≤ job.budget) (ends : EndsAt (placed_code entry) stop job.budget begin e at) where
+  module _ (e : End) (at : Point) (enough : steps f target job.call.n (rows f job.call) ≤ job.budget) (ends : EndsAt (placed_code entry) stop job.budget begin e at) where
     abbrev taken : ℕ
     taken = length run.way
 
@@ -145,7 +146,7 @@ module _ (f : FunctionValue) (entry : image.FunctionValue) (job : Job) (c : IsCo
     same : (e ≡ end.Returned taken) × (at ≡ run.t)
     same = one_end (placed_code entry) stop job.budget begin e (end.Returned taken) at run.t ends here
 
-    done : IsDone f entry job e at
+    done : IsDone f target entry job e at
     done = record {
       taken = taken;
       returned = same.0;
@@ -166,7 +167,7 @@ module _ (f : FunctionValue) (entry : image.FunctionValue) (job : Job) (c : IsCo
     }
 
 pub good_jobs_return : GoodJobsReturn
-good_jobs_return f entry job e at c g enough ends = done f entry job c g e at enough ends
+good_jobs_return f target entry job e at c g enough ends = done f entry job c g e at enough ends
 
 -- ---- segments as a run leaves them
 

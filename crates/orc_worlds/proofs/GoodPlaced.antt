@@ -14,6 +14,7 @@ use Rattle.orc_bits.specs.Parts.{span, covers, memory_of}
 use Rattle.orc_bits.specs.Lanes.{AreBytes}
 use Rattle.orc_bits.proofs.Memories.{none_some, some_one}
 use Rattle.orc_bits.proofs.PartLaws.{covers_is, is_covers}
+use Rattle.orc_ops.specs.declared.target.Target.{Target}
 use Rattle.orc_program.specs.declared.program.VarKind.TheVariants as kind
 use Rattle.orc_program.specs.declared.call.Place.{Place}
 use Rattle.orc_program.specs.Program.{FunctionValue, count_of}
@@ -141,7 +142,7 @@ unsigned_small : (z : ℤ) → FitsSigned w64 z → cast_unsigned w64 z < 2 ^ 64
 unsigned_small (pos n) h = omega (arith, ints, h)
 unsigned_small (negsuc n) h = omega (arith, ints, h)
 
-module _ (f : FunctionValue) (entry : image.FunctionValue) (job : Job) (c : IsCodeOf f entry) (g : IsGoodJob f entry job) where
+module _ {target : Target} (f : FunctionValue) (entry : image.FunctionValue) (job : Job) (c : IsCodeOf f target entry) (g : IsGoodJob f entry job) where
   abbrev items : List Place
   items = job.call.arrays.items
 
@@ -498,4 +499,4 @@ module _ (f : FunctionValue) (entry : image.FunctionValue) (job : Job) (c : IsCo
   }
 
 pub makes_good_call : MakesGoodCall
-makes_good_call f entry job c g = good f entry job c g
+makes_good_call f target entry job c g = good f entry job c g

@@ -11,6 +11,7 @@ use Rattle.std.proofs.lemmas.List.FromFn.{get_or-map-range_with_len, length-map-
 use Rattle.orc_bits.specs.declared.parts.Part.{Part}
 use Rattle.orc_bits.specs.Memory.{Memory, word}
 use Rattle.orc_bits.specs.Parts.{Span, span, layout}
+use Rattle.orc_ops.specs.declared.target.Target.{Target}
 use Rattle.orc_program.specs.declared.program.Var.{Var}
 use Rattle.orc_program.specs.declared.program.VarKind.{VarKind}
 use Rattle.orc_program.specs.declared.program.VarKind.TheVariants as kind
@@ -20,6 +21,7 @@ use Rattle.orc_program.specs.Program.{FunctionValue, var_at, is_of, same_kind, i
 use Rattle.orc_program.specs.Meaning.{no_place, place_at, param_at, rows, rows_of, start, sums_of}
 use Rattle.orc_program.specs.Meaning.{ended as ended_call}
 use Rattle.orc_program.specs.Good.{IsArray}
+use Rattle.orc_program.specs.Need.{steps as most_steps}
 use Rattle.orc_program.specs.Slots.{slot_of, slots, place_with}
 use Rattle.orc_program.specs.Cut.{Has, Fits, Cuts, IsPart, rect_at, no_rect, total, sum_size}
 use Rattle.orc_program.proofs.Apart.{IsSize}
@@ -78,7 +80,7 @@ total_same (suc n) g h e = ap₂ (λ x y. x + y) (total_same n g h (λ k l. e k 
 
 -- ---- the parts
 
-module _ (f : FunctionValue) (entry : image.FunctionValue) (job : Job) (sizes : List ℕ) (workers : ℕ) (c : IsCompiled f entry sizes)
+module _ {target : Target} (f : FunctionValue) (entry : image.FunctionValue) (job : Job) (sizes : List ℕ) (workers : ℕ) (c : IsCompiled f target entry sizes)
     (signed : AreSigned job.call.arrays.items) (arrays : length job.call.arrays.items ≡ entry.dests + entry.sources) (sized : length sizes ≡ length job.call.arrays.items) where
   few : Limits f
   few = limits f c.kept
@@ -217,16 +219,16 @@ module _ (f : FunctionValue) (entry : image.FunctionValue) (job : Job) (sizes : 
     stand : (k : ℕ) → k < workers → stand_at w k ≡ part_stand entry k
     stand k l = placed_stand entry job sizes workers k l
 
-    begins : (k : ℕ) → k < workers → Begins f w k (words k) (s.own k) return_to
+    begins : (k : ℕ) → k < workers → Begins f target w k (words k) (s.own k) return_to
     begins k l = record {
       within = s.within k l;
       good = subst (λ (t : Stand). GoodCall (subject_of f) t.code (on (s.own k) t.point) (words k) return_to) (sym (stand k l)) (s.good k l);
       over = subst (λ (t : Stand). t.stop ≡ stop (on (s.own k) t.point) return_to) (sym (stand k l)) refl;
       fresh = ap (λ (t : Stand). t.steps) (stand k l);
-      code = subst (λ (t : Stand). RunsQuietly f t.code.bytes) (sym (stand k l)) c.runs;
+      code = subst (λ (t : Stand). RunsQuietly f target t.code.bytes) (sym (stand k l)) c.runs;
     }
 
-    split : Split f job.call rects w
+    split : Split f target job.call rects w
     split = record {
       words = words;
       own = s.own;
@@ -241,23 +243,23 @@ module _ (f : FunctionValue) (entry : image.FunctionValue) (job : Job) (sizes : 
 
     -- ---- what is left
 
-    module _ (kept : IsJob job) (seed : ℕ) (o : Played) (enough : total workers (steps_of_part f job workers) ≤ job.budget) (p : PlayedOut entry job sizes workers seed o) where
+    module _ (kept : IsJob job) (seed : ℕ) (o : Played) (enough : total workers (steps_of_part f target job workers) ≤ job.budget) (p : PlayedOut entry job sizes workers seed o) where
       abbrev v : Shared
       v = p.world
 
-      steps_same : (k : ℕ) → k < workers → part_steps f rects k ≡ steps_of_part f job workers k
-      steps_same k l = ap (λ (q : Rect). (subject_of f).steps q.elements q.rows) (rect_is k l)
+      steps_same : (k : ℕ) → k < workers → part_steps f target rects k ≡ steps_of_part f target job workers k
+      steps_same k l = ap (λ (q : Rect). most_steps f target q.elements q.rows) (rect_is k l)
 
-      one : EndsAsOne f job.call rects o.why w v
+      one : EndsAsOne f target job.call rects o.why w v
       one =
-          let sum : total (length rects) (part_steps f rects) ≡ total workers (steps_of_part f job workers)
-          = ap (λ n. total n (part_steps f rects)) rects_count ∙ total_same workers (part_steps f rects) (steps_of_part f job workers) steps_same in
+          let sum : total (length rects) (part_steps f target rects) ≡ total workers (steps_of_part f target job workers)
+          = ap (λ n. total n (part_steps f target rects)) rects_count ∙ total_same workers (part_steps f target rects) (steps_of_part f target job workers) steps_same in
           drawn_as_one f c.kept job.call rects w split v seed job.budget o.turns o.why (omega (arith, sum, enough)) p.plays
 
       stands_left : length v.stands ≡ workers
       stands_left = (plays_drawn w seed job.budget o.why o.turns v p.plays).2 ∙ stands_count entry workers
 
-      steps : (k : ℕ) → k < workers → slice_index o.steps.items k ≤ steps_of_part f job workers k
+      steps : (k : ℕ) → k < workers → slice_index o.steps.items k ≤ steps_of_part f target job workers k
       steps k l =
           let bound = one.steps k (outside k l) in
           let e = steps_same k l in
@@ -320,7 +322,7 @@ module _ (f : FunctionValue) (entry : image.FunctionValue) (job : Job) (sizes : 
           ∙ sym (cut_twice (total workers (part_sum v.memory g)) (sum_size f g) (size_any (slice_index (places_of kind.Accumulator f.vars) g)))
           ∙ ap (λ n. n % 2 ^ (8 * sum_size f g)) (sym is)
 
-      whole : IsWhole f entry job sizes workers o
+      whole : IsWhole f target entry job sizes workers o
       whole = record {
         played = one.all_ended;
         steps = steps;
@@ -332,4 +334,4 @@ module _ (f : FunctionValue) (entry : image.FunctionValue) (job : Job) (sizes : 
 
 pub does_whole : (entry : image.FunctionValue) (job : Job) (sizes : List ℕ) (workers seed : ℕ) (o : Played) → IsJob job → length job.call.arrays.items ≡ entry.dests + entry.sources → length sizes ≡ length job.call.arrays.items → 0 < workers
     → PlayedOut entry job sizes workers seed o → DoesWhole entry job sizes workers o
-does_whole entry job sizes workers seed o kept arrays sized some p f c s enough = whole f entry job sizes workers c p.signed arrays sized some s kept seed o enough p
+does_whole entry job sizes workers seed o kept arrays sized some p f target c s enough = whole f entry job sizes workers c p.signed arrays sized some s kept seed o enough p

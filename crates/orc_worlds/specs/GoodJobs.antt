@@ -2,6 +2,7 @@
 use Rattle.std.specs.Prelude.{◌≡◌, ℕ, ◌+◌, ◌^◌, ◌<◌, ◌≤◌, true, List, length, Some, Ok, slice_index, slice_index_or}
 use Rattle.orc_bits.specs.Memory.{Memory, IsMapped, word}
 use Rattle.orc_bits.specs.Parts.{memory_of}
+use Rattle.orc_ops.specs.declared.target.Target.{Target}
 use Rattle.orc_program.specs.declared.program.VarKind.TheVariants as kind
 use Rattle.orc_program.specs.Program.{FunctionValue, count_of}
 use Rattle.orc_program.specs.Kept.{is_function}
@@ -27,14 +28,14 @@ use Rattle.orc_worlds.specs.Whole.{words_of}
 
 -- ---- the function and the job
 
--- an image's function has the counts of a function of the language, and code of which each good call runs as that function means
-pub record IsCodeOf (f : FunctionValue) (entry : image.FunctionValue) : Type 0 where
+-- an image's function has the counts of a function of the language, and code of which each good call runs as that function means, within the steps that are stated for the target
+pub record IsCodeOf (f : FunctionValue) (target : Target) (entry : image.FunctionValue) : Type 0 where
   pub kept : is_function f ≡ true
   pub dests : entry.dests ≡ count_of kind.Dest f.vars
   pub sources : entry.sources ≡ count_of kind.Source f.vars
   pub params : entry.params ≡ count_of kind.Param f.vars
   pub accs : entry.accs ≡ count_of kind.Accumulator f.vars
-  pub runs : RunsAs f entry.code
+  pub runs : RunsAs f target entry.code
   pub short : length entry.code ≤ 1048576
 
 -- the numbers of a job have their widths: bases and parameters are words, strides are words with a sign, and segments have bytes
@@ -56,16 +57,16 @@ pub record IsGoodJob (f : FunctionValue) (entry : image.FunctionValue) (job : Jo
 
 -- where it is placed to be run it makes a good call
 abbrev pub MakesGoodCall : Type 0
-MakesGoodCall = (f : FunctionValue) (entry : image.FunctionValue) (job : Job) → IsCodeOf f entry → IsGoodJob f entry job
+MakesGoodCall = (f : FunctionValue) (target : Target) (entry : image.FunctionValue) (job : Job) → IsCodeOf f target entry → IsGoodJob f entry job
     → GoodCall (subject_of f) (placed_code entry) (start entry.dests job) (words_of entry.dests job.call) return_to
 
 -- ---- the end
 
 -- the run has returned within the function's steps, with the segments' bytes and the sums that emulation of the job has
-pub record IsDone (f : FunctionValue) (entry : image.FunctionValue) (job : Job) (e : End) (at : Point) : Type 0 where
+pub record IsDone (f : FunctionValue) (target : Target) (entry : image.FunctionValue) (job : Job) (e : End) (at : Point) : Type 0 where
   pub taken : ℕ
   pub returned : e ≡ end.Returned taken
-  pub few : taken ≤ steps f job.call.n (rows f job.call)
+  pub few : taken ≤ steps f target job.call.n (rows f job.call)
   pub left : Memory × List ℕ
   pub means : emulate f job.call (memory_of job.memory) ≡ Ok left
   pub memory : (a : ℕ) → IsMapped (memory_of job.memory) a → at.core.memory a ≡ left.0 a
@@ -73,5 +74,5 @@ pub record IsDone (f : FunctionValue) (entry : image.FunctionValue) (job : Job) 
 
 -- a good job whose budget is at least the function's steps is done, and does what emulation of it does
 abbrev pub GoodJobsReturn : Type 0
-GoodJobsReturn = (f : FunctionValue) (entry : image.FunctionValue) (job : Job) (e : End) (at : Point) → IsCodeOf f entry → IsGoodJob f entry job → steps f job.call.n (rows f job.call) ≤ job.budget
-    → EndsAt (placed_code entry) stop job.budget (start entry.dests job) e at → IsDone f entry job e at
+GoodJobsReturn = (f : FunctionValue) (target : Target) (entry : image.FunctionValue) (job : Job) (e : End) (at : Point) → IsCodeOf f target entry → IsGoodJob f entry job → steps f target job.call.n (rows f job.call) ≤ job.budget
+    → EndsAt (placed_code entry) stop job.budget (start entry.dests job) e at → IsDone f target entry job e at

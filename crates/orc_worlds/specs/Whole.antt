@@ -2,6 +2,7 @@
 use Rattle.std.specs.Prelude.{◌≡◌, ◌≢◌, ℕ, ◌+◌, ◌-◌, ◌*◌, ◌%◌, ◌^◌, ◌<◌, ◌≤◌, true, nat_lt, if◌then◌else◌, List, length, Ok, slice_index, slice_index_or}
 use Rattle.std.specs.Int.{w64, cast_unsigned}
 use Rattle.orc_bits.specs.Memory.{Memory, IsMapped}
+use Rattle.orc_ops.specs.declared.target.Target.{Target}
 use Rattle.orc_program.specs.declared.program.VarKind.TheVariants as kind
 use Rattle.orc_program.specs.declared.call.Call.{Call}
 use Rattle.orc_program.specs.declared.call.Place.{Place}
@@ -10,6 +11,7 @@ use Rattle.orc_program.specs.Facts.{facts_of}
 use Rattle.orc_program.specs.Kept.{is_function}
 use Rattle.orc_program.specs.Meaning.{emulate, no_place}
 use Rattle.orc_program.specs.Good.{IsArray}
+use Rattle.orc_program.specs.Need.{steps}
 use Rattle.orc_program.specs.Cut.{total, sum_size}
 use Rattle.orc_frame.specs.Subject.{Call as Arguments}
 use Rattle.orc_frame.specs.GoodCall.{GoodCall}
@@ -29,8 +31,8 @@ use Rattle.orc_worlds.specs.Worlds.{call_of_part, part_stand, placed_world}
 
 -- ---- the function
 
--- an image's function has the form, the counts and the facts of a function of the language, whose arrays have elements of these sizes, and its code runs as that function means and changes nothing on the way but dests' cells, accumulators' words and the frame
-pub record IsCompiled (f : FunctionValue) (entry : image.FunctionValue) (sizes : List ℕ) : Type 0 where
+-- an image's function has the form, the counts and the facts of a function of the language, whose arrays have elements of these sizes, and its code runs as that function means, within the steps that are stated for the target, and changes nothing on the way but dests' cells, accumulators' words and the frame
+pub record IsCompiled (f : FunctionValue) (target : Target) (entry : image.FunctionValue) (sizes : List ℕ) : Type 0 where
   pub kept : is_function f ≡ true
   pub two_d : entry.two_d ≡ f.two_d
   pub dests : entry.dests ≡ count_of kind.Dest f.vars
@@ -39,7 +41,7 @@ pub record IsCompiled (f : FunctionValue) (entry : image.FunctionValue) (sizes :
   pub accs : entry.accs ≡ count_of kind.Accumulator f.vars
   pub facts : entry.facts ≡ facts_of f
   pub sized : (p : ℕ) → IsArray f p → slice_index sizes (array_number f.vars p) ≡ (var_at f.vars p).size
-  pub runs : RunsQuietly f entry.code
+  pub runs : RunsQuietly f target entry.code
 
 -- ---- separate parts
 
@@ -70,13 +72,13 @@ pub record AreSeparate (f : FunctionValue) (entry : image.FunctionValue) (job : 
 -- ---- the whole call
 
 -- the bound on the steps of part k
-abbrev pub steps_of_part : FunctionValue → Job → ℕ → ℕ → ℕ
-steps_of_part f job workers k = (subject_of f).steps (even_part f.two_d job.call workers k).elements (even_part f.two_d job.call workers k).rows
+abbrev pub steps_of_part : FunctionValue → Target → Job → ℕ → ℕ → ℕ
+steps_of_part f target job workers k = steps f target (even_part f.two_d job.call workers k).elements (even_part f.two_d job.call workers k).rows
 
 -- all parts have ended, each within its steps; the segments are as emulation of the whole call leaves them, and each sum, taken modulo the size of its accumulator, is emulation's
-pub record IsWhole (f : FunctionValue) (entry : image.FunctionValue) (job : Job) (sizes : List ℕ) (workers : ℕ) (o : Played) : Type 0 where
+pub record IsWhole (f : FunctionValue) (target : Target) (entry : image.FunctionValue) (job : Job) (sizes : List ℕ) (workers : ℕ) (o : Played) : Type 0 where
   pub played : o.why ≡ stopped.Played
-  pub steps : (k : ℕ) → k < workers → slice_index o.steps.items k ≤ steps_of_part f job workers k
+  pub steps : (k : ℕ) → k < workers → slice_index o.steps.items k ≤ steps_of_part f target job workers k
   pub end : Memory × List ℕ
   pub means : emulate f job.call (placed_world entry job sizes workers).memory ≡ Ok end
   pub memory : AreNow end.0 job.memory o.memory
@@ -84,5 +86,5 @@ pub record IsWhole (f : FunctionValue) (entry : image.FunctionValue) (job : Job)
 
 -- parts that are separate, of a function that an image's code runs as, do the whole call, where the job's budget is at least their steps together
 abbrev pub DoesWhole : image.FunctionValue → Job → List ℕ → ℕ → Played → Type 0
-DoesWhole entry job sizes workers o = (f : FunctionValue) → IsCompiled f entry sizes → AreSeparate f entry job sizes workers → total workers (steps_of_part f job workers) ≤ job.budget
-    → IsWhole f entry job sizes workers o
+DoesWhole entry job sizes workers o = (f : FunctionValue) (target : Target) → IsCompiled f target entry sizes → AreSeparate f entry job sizes workers → total workers (steps_of_part f target job workers) ≤ job.budget
+    → IsWhole f target entry job sizes workers o

@@ -2,6 +2,8 @@
 use Rattle.std.proofs.Common.{◌≡◌, ℕ, ◌+◌, ◌==◌, ltb, true, List, [], ◌∷◌, ◌++◌, length, Option, Some, None, if◌then◌else◌, inl, inr, ⊎_elim, refl, sym, ap, ◌∙◌, arith, length-append, IfSome}
 use Rattle.std.specs.List.{slice_index, slice_index_or}
 use Rattle.std.proofs.lemmas.Bool.{lt-ltb, cases_eq}
+use Rattle.orc_ops.specs.declared.target.Target.{Target}
+use Rattle.orc_ops.specs.declared.target.Target.TheVariants as target
 use Rattle.orcc_top.specs.declared.command.Command.{Command}
 use Rattle.orcc_top.specs.declared.command.Command.TheVariants.{Asm, C, Check, Fmt, Run, Dis, Emulate, Obj, Jobs}
 use Rattle.orcc_top.specs.declared.refusal.Refusal.{Refusal}
@@ -12,17 +14,26 @@ use Rattle.orcc_top.specs.Answer.{limit_of, refusal_of, Refuses}
 use Rattle.orcc_top.specs.Runs.{Takes, IsAccepted, IsRefused}
 use Rattle.orcc_top.proofs.Numbered.{same_workers}
 
--- the first two bytes tell the command, but for the numbers of workers
+-- four bytes of the first word tell the command, but for the numbers of workers
 abbrev byte_at : ℕ → List Word → ℕ
 byte_at i words = slice_index (slice_index_or words 0 []) i
 
-abbrev command_at : Command → ℕ → ℕ → Command
-command_at shared b next = if b == 97 then Asm else (if b == 99 then (if next == 104 then Check else C) else (if b == 102 then Fmt else (if b == 100 then Dis else (if b == 114 then Run else (if b == 111 then Obj else (if b == 101 then Emulate else shared))))))
+-- the byte of a digit behind a command's name tells the target
+abbrev target_at : ℕ → Target
+target_at b = if b == 52 then target.Sse41 else target.Sse2
 
-told_by : (c : Command) → command_at c (byte_at 0 (words_of c)) (byte_at 1 (words_of c)) ≡ c
-told_by Asm = refl
+abbrev command_at : Command → ℕ → ℕ → ℕ → ℕ → Command
+command_at shared b next fourth sixth = if b == 97 then Asm (target_at fourth) else (if b == 99 then (if next == 104 then Check (target_at sixth) else C) else (if b == 102 then Fmt else (if b == 100 then Dis else (if b == 114 then Run else (if b == 111 then Obj else (if b == 101 then Emulate else shared))))))
+
+abbrev command_by : Command → List Word → Command
+command_by shared words = command_at shared (byte_at 0 words) (byte_at 1 words) (byte_at 3 words) (byte_at 5 words)
+
+told_by : (c : Command) → command_by c (words_of c) ≡ c
+told_by (Asm target.Sse2) = refl
+told_by (Asm target.Sse41) = refl
 told_by C = refl
-told_by Check = refl
+told_by (Check target.Sse2) = refl
+told_by (Check target.Sse41) = refl
 told_by Fmt = refl
 told_by Run = refl
 told_by Dis = refl
@@ -32,9 +43,11 @@ told_by (Jobs w) = refl
 
 -- the words of `jobs` begin with a byte of its own
 workers_in : (c : Command) → byte_at 0 (words_of c) ≡ 106 → (w : Workers) × (c ≡ Jobs w)
-workers_in Asm e = absurd (omega (arith, e))
+workers_in (Asm target.Sse2) e = absurd (omega (arith, e))
+workers_in (Asm target.Sse41) e = absurd (omega (arith, e))
 workers_in C e = absurd (omega (arith, e))
-workers_in Check e = absurd (omega (arith, e))
+workers_in (Check target.Sse2) e = absurd (omega (arith, e))
+workers_in (Check target.Sse41) e = absurd (omega (arith, e))
 workers_in Fmt e = absurd (omega (arith, e))
 workers_in Run e = absurd (omega (arith, e))
 workers_in Dis e = absurd (omega (arith, e))
@@ -46,10 +59,12 @@ same_jobs : (v w : Workers) → words_of (Jobs v) ≡ words_of (Jobs w) → Jobs
 same_jobs v w e = ap Jobs (same_workers v w (ap (λ words. slice_index_or words 1 []) e) (ap (λ words. slice_index_or words 2 []) e))
 
 -- a command whose words begin with another byte is told whatever is taken for `jobs`
-others_told : (c d : Command) → (byte_at 0 (words_of c) ≡ 106 → ⊥) → command_at d (byte_at 0 (words_of c)) (byte_at 1 (words_of c)) ≡ c
-others_told Asm d n = refl
+others_told : (c d : Command) → (byte_at 0 (words_of c) ≡ 106 → ⊥) → command_by d (words_of c) ≡ c
+others_told (Asm target.Sse2) d n = refl
+others_told (Asm target.Sse41) d n = refl
 others_told C d n = refl
-others_told Check d n = refl
+others_told (Check target.Sse2) d n = refl
+others_told (Check target.Sse41) d n = refl
 others_told Fmt d n = refl
 others_told Run d n = refl
 others_told Dis d n = refl
@@ -63,7 +78,7 @@ one_command a b e = ⊎_elim
     let v = workers_in a jobs in
     let w = workers_in b (sym (ap (byte_at 0) e) ∙ jobs) in
     v.1 ∙ same_jobs v.0 w.0 (sym (ap words_of v.1) ∙ e ∙ ap words_of w.1) ∙ sym w.1)
-    (λ other. sym (told_by a) ∙ ap (λ words. command_at a (byte_at 0 words) (byte_at 1 words)) e ∙ others_told b a (λ jobs. other (ap (byte_at 0) e ∙ jobs)))
+    (λ other. sym (told_by a) ∙ ap (command_by a) e ∙ others_told b a (λ jobs. other (ap (byte_at 0) e ∙ jobs)))
     (cases_eq (byte_at 0 (words_of a)) 106)
 
 long_refused : (c : Command) (taken rest : List ℕ) → length taken ≡ limit_of c + 1 → refusal_of c (taken ++ rest) ≡ Some TooLong

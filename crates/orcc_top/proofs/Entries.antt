@@ -3,6 +3,7 @@ use Rattle.std.proofs.Common.{◌≡◌, ℕ, zero, suc, inl, inr, ◌+◌, ◌<
 use Rattle.std.specs.List.{list_all}
 use Rattle.std.specs.Option.{option_or}
 use Rattle.std.proofs.lemmas.Bool.{cases_Bool, leb-true}
+use Rattle.orc_ops.specs.declared.target.Target.{Target}
 use Rattle.orc_program.specs.declared.program.VarKind.{VarKind}
 use Rattle.orc_program.specs.declared.program.VarKind.TheVariants as kind
 use Rattle.orc_program.specs.Program.{FunctionValue, ProgramValue, count_of}
@@ -55,8 +56,8 @@ program_kept p h =
 
 -- ---- entries
 
-pub entry_named : AreNamed EntryOf (λ f. f.name) (λ e. e.name)
-entry_named f e one = one.name
+pub entry_named : (target : Target) → AreNamed (EntryOf target) (λ f. f.name) (λ e. e.name)
+entry_named target f e one = one.name
 
 pub compiled_named : AreNamed CompiledOf (λ f. f.name) (λ e. e.name)
 compiled_named f e one = one.name

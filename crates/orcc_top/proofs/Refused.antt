@@ -15,11 +15,11 @@ use Rattle.orcc_top.specs.Texts.{fault_refusal}
 use Rattle.orcc_top.proofs.Limits.{within_limit}
 
 within_form : (form : Form) (text : List ℕ) → refusal_within (command_for form) text ≡ option_or (fault_refusal text) (pressure_refusal text)
-within_form Image text = refl
+within_form (Image target) text = refl
 within_form Object text = refl
 
 form_limit : (form : Form) → limit_of (command_for form) ≡ 1048576
-form_limit Image = refl
+form_limit (Image target) = refl
 form_limit Object = refl
 
 form_short : (form : Form) (text : List ℕ) → length text ≤ 1048576 → length text ≤ limit_of (command_for form)

@@ -20,9 +20,9 @@ use Rattle.orcc_top.specs.Refusals.{line_of}
 
 -- the most bytes that a command's input has
 abbrev pub limit_of : Command → ℕ
-limit_of Asm = 1048576
+limit_of (Asm target) = 1048576
 limit_of C = 1048576
-limit_of Check = 1048576
+limit_of (Check target) = 1048576
 limit_of Fmt = 1048576
 limit_of Run = 67108864
 limit_of Dis = 67108864
@@ -36,9 +36,9 @@ dis_refusal input = if begins_elf input then option_map (λ e. Object e) (first_
 
 -- why a command refuses an input within its limit, if it does
 abbrev pub refusal_within : Command → List ℕ → Option Refusal
-refusal_within Asm input = option_or (fault_refusal input) (pressure_refusal input)
+refusal_within (Asm target) input = option_or (fault_refusal input) (pressure_refusal input)
 refusal_within C input = fault_refusal input
-refusal_within Check input = fault_refusal input
+refusal_within (Check target) input = fault_refusal input
 refusal_within Fmt input = fault_refusal input
 refusal_within Run input = run_refusal input
 refusal_within Dis input = dis_refusal input
@@ -52,9 +52,9 @@ refusal_of command input = if nat_lt (limit_of command) (length input) then Some
 
 -- the bytes are a command's output for an input that it accepts
 abbrev pub IsOutput : Command → List ℕ → List ℕ → Type 0
-IsOutput Asm input bytes = IsAssembled input bytes
+IsOutput (Asm target) input bytes = IsAssembled target input bytes
 IsOutput C input bytes = IsTranslated input bytes
-IsOutput Check input bytes = IsChecked input bytes
+IsOutput (Check target) input bytes = IsChecked target input bytes
 IsOutput Fmt input bytes = IsFormatted input bytes
 IsOutput Run input bytes = IsRun input bytes
 IsOutput Dis input bytes = ListsImage input bytes ⊎ ListsObject input bytes

@@ -2,6 +2,7 @@
 use Rattle.std.specs.Prelude.{◌≡◌, ℕ, List, [], ◌∷◌, Option, Some, None, option_map, if◌then◌else◌}
 use Rattle.std.specs.List.{list_all}
 use Rattle.std.specs.Option.{option_or}
+use Rattle.orc_ops.specs.declared.target.Target.{Target}
 use Rattle.orc_program.specs.declared.program.VarKind.TheVariants as kind
 use Rattle.orc_program.specs.Program.{FunctionValue, ProgramValue, count_of}
 use Rattle.orc_program.specs.Facts.{facts_of, is_free}
@@ -17,8 +18,8 @@ use Rattle.orcc_top.specs.declared.refusal.Refusal.TheVariants as refusal
 
 -- ---- the image
 
--- an image's function with the name, the counts and the facts of a function of the text, and with code whose good calls do what that function means, inside larger memories too, change nothing on the way but dests' cells, accumulators' words and the frame, touch cells at most once a turn for each operand that is an array, and store the first dest aligned wherever that can be done in every row
-pub record EntryOf (f : FunctionValue) (entry : spelling.FunctionValue) : Type 0 where
+-- an image's function with the name, the counts and the facts of a function of the text, and with code for a target whose good calls do what that function means, in at most as many steps as are stated for the target, inside larger memories too, change nothing on the way but dests' cells, accumulators' words and the frame, touch cells at most once a turn for each operand that is an array, and store the first dest aligned wherever that can be done in every row
+pub record EntryOf (target : Target) (f : FunctionValue) (entry : spelling.FunctionValue) : Type 0 where
   pub name : entry.name ≡ f.name
   pub two_d : entry.two_d ≡ f.two_d
   pub dests : entry.dests ≡ count_of kind.Dest f.vars
@@ -26,24 +27,24 @@ pub record EntryOf (f : FunctionValue) (entry : spelling.FunctionValue) : Type 0
   pub params : entry.params ≡ count_of kind.Param f.vars
   pub accs : entry.accs ≡ count_of kind.Accumulator f.vars
   pub facts : entry.facts ≡ facts_of f
-  pub runs : RunsAs f entry.code
-  pub inside : RunsFully f entry.code
+  pub runs : RunsAs f target entry.code
+  pub inside : RunsFully f target entry.code
 
 -- one for each function, in order
-abbrev pub EntriesOf : List FunctionValue → List spelling.FunctionValue → Type 0
-EntriesOf fs entries = OneForEach EntryOf fs entries
+abbrev pub EntriesOf : Target → List FunctionValue → List spelling.FunctionValue → Type 0
+EntriesOf target fs entries = OneForEach (EntryOf target) fs entries
 
 -- the version of an image of these functions: 2 where something is stated of calls of some function, and else 1
 abbrev pub version_of : List FunctionValue → ℕ
 version_of fs = if list_all (λ f. is_free (facts_of f)) fs then 1 else 2
 
--- the bytes are an image of the program that the text reads as
-pub record IsAssembled (text bytes : List ℕ) : Type 0 where
+-- the bytes are an image, with code for the target, of the program that the text reads as
+pub record IsAssembled (target : Target) (text bytes : List ℕ) : Type 0 where
   pub program : ProgramValue
   pub reads : Reads text program
   pub image : spelling.ImageValue
   pub spelled : spelling.ImageOf bytes image
-  pub entries : EntriesOf program.functions image.functions
+  pub entries : EntriesOf target program.functions image.functions
   pub version : image.version ≡ version_of program.functions
 
 -- ---- refusals

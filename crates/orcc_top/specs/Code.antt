@@ -14,10 +14,10 @@ use Rattle.orcc_top.specs.Objects.{CompiledOf}
 
 -- the command that writes it
 abbrev pub command_for : Form → Command
-command_for Image = Asm
+command_for (Image target) = Asm target
 command_for Object = Obj
 
 -- the bytes are an image, or an object, with one entry for each function, in order
 abbrev pub HoldsCode : Form → List FunctionValue → List ℕ → Type 0
-HoldsCode Image fs bytes = (image : ImageValue) × ImageOf bytes image × EntriesOf fs image.functions × (image.version ≡ version_of fs)
+HoldsCode (Image target) fs bytes = (image : ImageValue) × ImageOf bytes image × EntriesOf target fs image.functions × (image.version ≡ version_of fs)
 HoldsCode Object fs bytes = (entries : List EntryValue) × ElfGives bytes entries × OneForEach CompiledOf fs entries

@@ -1,6 +1,8 @@
 -- The words after the program's name, and what they ask for.
 use Rattle.std.specs.Prelude.{◌≡◌, ◌≢◌, ℕ, ◌<◌, ◌^◌, List, [], ◌∷◌, ◌++◌, map, codes, decimal, String, string_bytes}
 use Rattle.std.specs.declared.alloc.Global.{Global}
+use Rattle.orc_ops.specs.declared.target.Target.{Target}
+use Rattle.orc_ops.specs.declared.target.Target.TheVariants as target
 use Rattle.orcc_top.specs.declared.command.Command.{Command}
 use Rattle.orcc_top.specs.declared.command.Command.TheVariants.{Asm, C, Check, Fmt, Run, Dis, Emulate, Obj, Jobs}
 use Rattle.orcc_top.specs.declared.workers.Workers.{Workers}
@@ -16,11 +18,20 @@ spelled words = map (λ word. string_bytes word) words
 abbrev pub AreSaid : Workers → Word → Word → Type 0
 AreSaid w count seed = (count ≡ decimal w.count) × (seed ≡ decimal w.seed)
 
+-- the word for code of a target, and that for figures of a target
+abbrev pub asm_word : Target → Word
+asm_word target.Sse2 = codes "asm"
+asm_word target.Sse41 = codes "asm41"
+
+abbrev pub check_word : Target → Word
+check_word target.Sse2 = codes "check"
+check_word target.Sse41 = codes "check41"
+
 -- the words that ask for a command that reads an input
 abbrev pub words_of : Command → List Word
-words_of Asm = codes "asm" ∷ []
+words_of (Asm target) = asm_word target ∷ []
 words_of C = codes "c" ∷ []
-words_of Check = codes "check" ∷ []
+words_of (Check target) = check_word target ∷ []
 words_of Fmt = codes "fmt" ∷ []
 words_of Run = codes "run" ∷ []
 words_of Dis = codes "dis" ∷ []
@@ -39,4 +50,4 @@ pub record IsWrongUsage (words : List Word) : Type 0 where
 
 -- the line that names the listed forms
 abbrev pub usage_line : List ℕ
-usage_line = codes "usage: orcc asm | c | check | fmt | run | emulate | dis | gen S | jobs W S | obj" ++ 10 ∷ []
+usage_line = codes "usage: orcc asm | c | check | fmt | run | emulate | dis | gen S | jobs W S | obj | asm41 | check41" ++ 10 ∷ []

@@ -2,6 +2,7 @@
 use Rattle.std.specs.Prelude.{◌≡◌, ℕ, ◌≤◌, true, List, Ok, slice_index}
 use Rattle.orc_bits.specs.Memory.{Memory}
 use Rattle.orc_bits.specs.Parts.{memory_of}
+use Rattle.orc_ops.specs.declared.target.Target.{Target}
 use Rattle.orc_program.specs.Program.{FunctionValue, array_number, var_at}
 use Rattle.orc_program.specs.Kept.{is_function}
 use Rattle.orc_program.specs.Meaning.{emulate, rows}
@@ -25,16 +26,16 @@ AreSizes f sizes = (p : ℕ) → IsArray f p → slice_index sizes (array_number
 
 -- an image's function that is the entry of a function of a text is code of it, and is compiled from it
 abbrev pub EntriesAreCompiled : Type 0
-EntriesAreCompiled = (f : FunctionValue) (entry : image.FunctionValue) → is_function f ≡ true → image.IsFunction entry → EntryOf f entry
-    → IsCodeOf f entry × ((sizes : List ℕ) → AreSizes f sizes → IsCompiled f entry sizes)
+EntriesAreCompiled = (f : FunctionValue) (target : Target) (entry : image.FunctionValue) → is_function f ≡ true → image.IsFunction entry → EntryOf target f entry
+    → IsCodeOf f target entry × ((sizes : List ℕ) → AreSizes f sizes → IsCompiled f target entry sizes)
 
 -- ---- runs of good jobs
 
 -- the outcome is that the run has returned, within the function's steps, and its sums and segments are those of emulation
-pub record IsReturned (f : FunctionValue) (job : Job) (o : Outcome) : Type 0 where
+pub record IsReturned (f : FunctionValue) (target : Target) (job : Job) (o : Outcome) : Type 0 where
   pub taken : ℕ
   pub returned : o.end ≡ line.Returned taken
-  pub few : taken ≤ steps f job.call.n (rows f job.call)
+  pub few : taken ≤ steps f target job.call.n (rows f job.call)
   pub left : Memory × List ℕ
   pub means : emulate f job.call (memory_of job.memory) ≡ Ok left
   pub sums : o.accs.items ≡ left.1
@@ -42,5 +43,5 @@ pub record IsReturned (f : FunctionValue) (job : Job) (o : Outcome) : Type 0 whe
 
 -- what `run` leaves of a good job whose budget is at least the function's steps
 abbrev pub GoodJobsReturn : Type 0
-GoodJobsReturn = (f : FunctionValue) (entry : image.FunctionValue) (job : Job) (o : Outcome) → IsCodeOf f entry → IsGoodJob f entry job → steps f job.call.n (rows f job.call) ≤ job.budget → Ran entry job o
-    → IsReturned f job o
+GoodJobsReturn = (f : FunctionValue) (target : Target) (entry : image.FunctionValue) (job : Job) (o : Outcome) → IsCodeOf f target entry → IsGoodJob f entry job → steps f target job.call.n (rows f job.call) ≤ job.budget → Ran entry job o
+    → IsReturned f target job o

@@ -1,6 +1,7 @@
 -- The object of a text, and what `dis` says of an object.
 use Rattle.std.specs.Prelude.{◌≡◌, ℕ, Bool, false, List, ◌∷◌, codes, map, nat_eq}
 use Rattle.std.specs.List.{starts_with}
+use Rattle.orc_ops.specs.declared.target.Target.TheVariants as target
 use Rattle.orc_program.specs.Program.{FunctionValue, ProgramValue}
 use Rattle.orc_program.specs.Facts.{free_facts}
 use Rattle.orc_text.specs.Reads.{Reads}
@@ -14,8 +15,8 @@ use Rattle.orc_text.specs.Each.{OneForEach}
 -- an object's function with the name of a function of the text, and with code as in an image of that text
 pub record CompiledOf (f : FunctionValue) (entry : EntryValue) : Type 0 where
   pub name : entry.name ≡ f.name
-  pub runs : RunsAs f entry.code
-  pub inside : RunsFully f entry.code
+  pub runs : RunsAs f target.Sse2 entry.code
+  pub inside : RunsFully f target.Sse2 entry.code
 
 -- the bytes are an object with a function for each function of the program that the text reads as, in order
 pub record IsObject (text bytes : List ℕ) : Type 0 where

@@ -2,6 +2,7 @@
 use Rattle.std.specs.Prelude.{◌≡◌, ℕ, ◌+◌, ◌%◌, ◌^◌, ◌<◌, List, [], ◌∷◌, ◌++◌, codes, decimal, Option, Ok}
 use Rattle.std.specs.Int.{w32, from_le_bytes}
 use Rattle.orc_bits.specs.declared.parts.Part.{Part}
+use Rattle.orc_ops.specs.declared.target.Target.TheVariants as target
 use Rattle.orc_program.specs.Program.{ProgramValue}
 use Rattle.orc_text.specs.Reads.{Reads}
 use Rattle.orc_image.specs.Spelling.{FunctionValue}
@@ -56,7 +57,7 @@ AreLines functions (job ∷ jobs) bytes = HasMore (IsLine functions job) (AreLin
 pub record AreCodes (text : List ℕ) (functions : List FunctionValue) : Type 0 where
   pub program : ProgramValue
   pub reads : Reads text program
-  pub entries : EntriesOf program.functions functions
+  pub entries : EntriesOf target.Sse2 program.functions functions
 
 -- the bytes are the summary of a number: one line for each of the generator's jobs, on codes of the generator's text
 pub record IsSummary (seed : ℕ) (bytes : List ℕ) : Type 0 where

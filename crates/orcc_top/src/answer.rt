@@ -45,9 +45,9 @@ fn reply_within(alloc: Global, command: Command, input: &[u8]) -> Result<Reply, 
     ensures { IfOk result (λ reply. Replies command input.now reply) }
 {
     match command {
-        Command::Asm => assemble_text(alloc, Form::Image, input),
+        Command::Asm(target) => assemble_text(alloc, Form::Image(target), input),
         Command::C => translate_text(alloc, input),
-        Command::Check => check_text(alloc, input),
+        Command::Check(target) => check_text(alloc, input, target),
         Command::Fmt => format_text(alloc, input),
         Command::Run => run_job(alloc, input),
         Command::Dis => disassemble(alloc, input),

@@ -14,16 +14,17 @@ use crate::objects::object_bytes;
 use crate::parsing::read_text;
 use crate::refusal::{Refusal, line_of};
 use crate::reply::Reply;
-use orc_asm::{AsmError, assemble};
+use orc_asm::{AsmError, assemble_for};
 use orc_image::{Image, ImageFunction, write_image};
+use orc_ops::Target;
 use orc_program::{Function, Name, VarKind, count_of, facts, is_free};
 use std::alloc::{AllocError, Global};
 
 /// What a text's code is written as.
 #[derive(Clone, Copy, Debug, PartialEq, Eq)]
 pub enum Form {
-    /// An image.
-    Image,
+    /// An image, with code for the target.
+    Image(Target),
     /// An ELF64 object.
     Object,
 }
@@ -39,12 +40,12 @@ pub fn count(f: &Function, kind: VarKind) -> u8
 }
 
 /// A function's entry in an image.
-fn entry_of(alloc: Global, f: &Function) -> Result<ImageFunction, AsmError>
-    ensures entry { IfOk result (λ entry. EntryOf f.now entry) }
+fn entry_of(alloc: Global, f: &Function, target: Target) -> Result<ImageFunction, AsmError>
+    ensures entry { IfOk result (λ entry. EntryOf target f.now entry) }
     ensures placed { OnOk result (first_pressure f.now ≡ None) }
     ensures refusal { IfErr result (λ e. IsRefusal f.now e) }
 {
-    let code = assemble(alloc, f)?;
+    let code = assemble_for(alloc, f, target)?;
     let Some(name) = Name::new(f.name.as_slice()) else {
         unreachable!();
     };
@@ -81,18 +82,18 @@ fn version_of(functions: &[Function]) -> u8
     if have_no_facts(functions) { 1 } else { 2 }
 }
 
-/// The image of a program's functions.
-pub fn image_of(alloc: Global, functions: &[Function]) -> Result<Image, AsmError>
+/// The image of a program's functions, with code for a target.
+pub fn image_of(alloc: Global, functions: &[Function], target: Target) -> Result<Image, AsmError>
     requires few { length functions.now ≤ 64 }
     requires distinct { all_distinct (map (λ f. f.name) functions.now) ≡ true }
-    ensures entries { IfOk result (λ image. EntriesOf functions.now image.functions) }
+    ensures entries { IfOk result (λ image. EntriesOf target functions.now image.functions) }
     ensures version { IfOk result (λ image. image.version ≡ version_of functions.now) }
     ensures placed { OnOk result (first_pressure_in functions.now ≡ None) }
     ensures pressure { IfErr result (λ e. TellsPressure (first_pressure_in functions.now) e) }
 {
     let mut image = Image::new(alloc, version_of(functions));
     for f in functions {
-        let entry = entry_of(alloc, f)?;
+        let entry = entry_of(alloc, f, target)?;
         if image.push(entry).is_err() {
             return Err(AsmError::Memory);
         }
@@ -101,14 +102,14 @@ pub fn image_of(alloc: Global, functions: &[Function]) -> Result<Image, AsmError
 }
 
 /// The bytes of the image of a program's functions.
-fn image_bytes(alloc: Global, functions: &[Function]) -> Result<Vec<u8>, AsmError>
+fn image_bytes(alloc: Global, functions: &[Function], target: Target) -> Result<Vec<u8>, AsmError>
     requires few { length functions.now ≤ 64 }
     requires distinct { all_distinct (map (λ f. f.name) functions.now) ≡ true }
-    ensures holds { IfOk result (λ bytes. HoldsCode Form.Image functions.now bytes.items) }
+    ensures holds { IfOk result (λ bytes. HoldsCode (Form.Image target) functions.now bytes.items) }
     ensures placed { OnOk result (first_pressure_in functions.now ≡ None) }
     ensures pressure { IfErr result (λ e. TellsPressure (first_pressure_in functions.now) e) }
 {
-    let image = image_of(alloc, functions)?;
+    let image = image_of(alloc, functions, target)?;
     match write_image(alloc, &image) {
         Ok(bytes) => Ok(bytes),
         Err(AllocError) => Err(AsmError::Memory),
@@ -124,12 +125,12 @@ fn bytes_of(alloc: Global, form: Form, functions: &[Function]) -> Result<Vec<u8>
     ensures pressure { IfErr result (λ e. TellsPressure (first_pressure_in functions.now) e) }
 {
     match form {
-        Form::Image => image_bytes(alloc, functions),
+        Form::Image(target) => image_bytes(alloc, functions, target),
         Form::Object => object_bytes(alloc, functions),
     }
 }
 
-/// What `asm` and `obj` answer to a text, as the form asks.
+/// What `asm`, `asm41` and `obj` answer to a text, as the form asks.
 pub fn assemble_text(alloc: Global, form: Form, text: &[u8]) -> Result<Reply, AllocError>
     requires { length text.now ≤ 1048576 }
     ensures { IfOk result (λ reply. Replies (command_for form) text.now reply) }

@@ -1,20 +1,23 @@
 //! The words after the program's name.
 ghost use Rattle.std.specs.Prelude.{◌≡◌, ◌≢◌, ◌≤◌, ◌<◌, ◌^◌, ◌↔◌, ℕ, IsTrue, IfSome, IfNone, codes};
 ghost use Rattle.orcc_top.specs.declared.command.Command as declared;
-ghost use Rattle.orcc_top.specs.Commands.{AreSaid, spelled, words_of, gen_words};
+ghost use Rattle.std.specs.Prelude.{◌∷◌, []};
+ghost use Rattle.orc_ops.specs.declared.target.Target as targets;
+ghost use Rattle.orcc_top.specs.Commands.{AreSaid, spelled, asm_word, check_word, words_of, gen_words};
 
 use crate::number::number_of;
 use crate::workers::Workers;
+use orc_ops::Target;
 
 /// What the words ask for.
 #[derive(Clone, Copy, Debug, PartialEq, Eq)]
 pub enum Command {
-    /// `asm`: reads a text and writes an image.
-    Asm,
+    /// `asm` and `asm41`: reads a text and writes an image, with code for the target.
+    Asm(Target),
     /// `c`: reads a text and writes C of the same meaning.
     C,
-    /// `check`: reads a text and writes the figures of its functions.
-    Check,
+    /// `check` and `check41`: reads a text and writes the figures of its functions for the target.
+    Check(Target),
     /// `fmt`: reads a text and writes its canonical text.
     Fmt,
     /// `run`: reads an image and a job, and writes the result of running the code on the job.
@@ -35,6 +38,12 @@ fn is_asm(word: &str) -> bool
     word == "asm"
 }
 
+fn is_asm41(word: &str) -> bool
+    ensures { IsTrue result ↔ (word.now ≡ codes "asm41") }
+{
+    word == "asm41"
+}
+
 fn is_c(word: &str) -> bool
     ensures { IsTrue result ↔ (word.now ≡ codes "c") }
 {
@@ -45,6 +54,12 @@ fn is_check(word: &str) -> bool
     ensures { IsTrue result ↔ (word.now ≡ codes "check") }
 {
     word == "check"
+}
+
+fn is_check41(word: &str) -> bool
+    ensures { IsTrue result ↔ (word.now ≡ codes "check41") }
+{
+    word == "check41"
 }
 
 fn is_fmt(word: &str) -> bool
@@ -83,6 +98,36 @@ fn is_jobs(word: &str) -> bool
     word == "jobs"
 }
 
+/// The target whose code a word asks for, if it asks for code.
+#[tactic(auto, using(crate::proofs::Asked::no_asm))]
+fn asm_target(word: &str) -> Option<Target>
+    ensures said { IfSome result (λ target. word.now ≡ asm_word target) }
+    ensures none { IfNone result ((target : targets.Target) → word.now ≡ asm_word target → ⊥) }
+{
+    if is_asm(word) {
+        Some(Target::Sse2)
+    } else if is_asm41(word) {
+        Some(Target::Sse41)
+    } else {
+        None
+    }
+}
+
+/// The target whose figures a word asks for, if it asks for figures.
+#[tactic(auto, using(crate::proofs::Asked::no_check))]
+fn check_target(word: &str) -> Option<Target>
+    ensures said { IfSome result (λ target. word.now ≡ check_word target) }
+    ensures none { IfNone result ((target : targets.Target) → word.now ≡ check_word target → ⊥) }
+{
+    if is_check(word) {
+        Some(Target::Sse2)
+    } else if is_check41(word) {
+        Some(Target::Sse41)
+    } else {
+        None
+    }
+}
+
 /// The workers that the words say, if they say some.
 #[tactic(auto, using(crate::proofs::Numbered::some_workers, crate::proofs::Numbered::few_workers))]
 fn workers_of(count: &str, seed: &str) -> Option<Workers>
@@ -118,20 +163,35 @@ pub fn seed_of(words: &[String]) -> Option<u64>
     }
 }
 
+/// The command that one word asks for, if it asks for one.
+fn command_of_word(word: &str) -> Option<Command>
+    ensures asked { IfSome result (λ command. word.now ∷ [] ≡ words_of command) }
+    ensures wrong { IfNone result ((command : declared.Command) → word.now ∷ [] ≢ words_of command) }
+{
+    if let Some(target) = asm_target(word) {
+        return Some(Command::Asm(target));
+    }
+    if let Some(target) = check_target(word) {
+        return Some(Command::Check(target));
+    }
+    match word {
+        word if is_c(word) => Some(Command::C),
+        word if is_fmt(word) => Some(Command::Fmt),
+        word if is_run(word) => Some(Command::Run),
+        word if is_dis(word) => Some(Command::Dis),
+        word if is_emulate(word) => Some(Command::Emulate),
+        word if is_obj(word) => Some(Command::Obj),
+        _ => None,
+    }
+}
+
 /// The command that reads an input and that the words ask for, if they ask for one.
 pub fn command_of(words: &[String]) -> Option<Command>
     ensures asked { IfSome result (λ command. spelled words.now ≡ words_of command) }
     ensures wrong { IfNone result ((command : declared.Command) → spelled words.now ≢ words_of command) }
 {
     match words {
-        [word] if is_asm(word.as_str()) => Some(Command::Asm),
-        [word] if is_c(word.as_str()) => Some(Command::C),
-        [word] if is_check(word.as_str()) => Some(Command::Check),
-        [word] if is_fmt(word.as_str()) => Some(Command::Fmt),
-        [word] if is_run(word.as_str()) => Some(Command::Run),
-        [word] if is_dis(word.as_str()) => Some(Command::Dis),
-        [word] if is_emulate(word.as_str()) => Some(Command::Emulate),
-        [word] if is_obj(word.as_str()) => Some(Command::Obj),
+        [word] => command_of_word(word.as_str()),
         [word, count, seed] if is_jobs(word.as_str()) => {
             Some(Command::Jobs(workers_of(count.as_str(), seed.as_str())?))
         }
@@ -148,7 +208,8 @@ impl Command {
         ensures readable { result ≤ 67108864 }
     {
         match self {
-            Command::Asm | Command::C | Command::Check | Command::Fmt | Command::Obj => 1_048_576,
+            Command::Asm(_) | Command::C | Command::Check(_) | Command::Fmt | Command::Obj =>
+                1_048_576,
             Command::Run | Command::Dis | Command::Emulate | Command::Jobs(_) => 67_108_864,
         }
     }

@@ -10,6 +10,7 @@ use orc_bits::Part;
 use orc_gen::generate;
 use orc_image::{Image, ImageFunction};
 use orc_job::{EndLine, Job};
+use orc_ops::Target;
 use orc_text::read;
 use std::alloc::{AllocError, Global};
 
@@ -95,7 +96,7 @@ fn codes_of(alloc: Global, text: &[u8]) -> Result<Image, AllocError>
         Ok(program) => program,
         Err(_) => return Err(AllocError),
     };
-    match image_of(alloc, program.functions.as_slice()) {
+    match image_of(alloc, program.functions.as_slice(), Target::Sse2) {
         Ok(image) => Ok(image),
         Err(_) => Err(AllocError),
     }

@@ -113,7 +113,7 @@ fn run(alloc: Global, words: &[&str], bytes: &[u8]) -> Result<Outcome, AllocErro
 #[test]
 fn each_command_answers(rt: HostRuntime) -> Result<(), AllocError> {
     // The words, the input, and the status with what is written.
-    let rows: [(&[&str], &[u8], Status, &[u8]); 10] = [
+    let rows: [(&[&str], &[u8], Status, &[u8]); 11] = [
         (&["asm"], b"# nothing", Status::Done, b"ORCI\x01\x00"),
         (&["c"], b"# nothing", Status::Done, b"#include <stdint.h>\n"),
         (
@@ -121,6 +121,12 @@ fn each_command_answers(rt: HostRuntime) -> Result<(), AllocError> {
             VOLUME.as_bytes(),
             Status::Done,
             b"volume need 2 lanes 4 cost 30\n",
+        ),
+        (
+            &["check41"],
+            VOLUME.as_bytes(),
+            Status::Done,
+            b"volume need 2 lanes 4 cost 17\n",
         ),
         (
             &["fmt"],
@@ -152,7 +158,7 @@ fn each_command_answers(rt: HostRuntime) -> Result<(), AllocError> {
             &[],
             b"",
             Status::Usage,
-            b"usage: orcc asm | c | check | fmt | run | emulate | dis | gen S | jobs W S | obj\n",
+            b"usage: orcc asm | c | check | fmt | run | emulate | dis | gen S | jobs W S | obj | asm41 | check41\n",
         ),
     ];
     for (words, input, status, said) in rows {
@@ -397,16 +403,18 @@ fn code_does_what_its_text_means(rt: HostRuntime) -> Result<(), AllocError> {
     for (declared, job, after) in RUNS {
         let mut text = Vec::from_slice(alloc, b".function f\n")?;
         text.extend_from_slice(declared.as_bytes())?;
-        let image = run(alloc, &["asm"], text.as_slice())?;
-        let mut input = image.output;
-        input.extend_from_slice(b"{\"function\":\"f\",")?;
-        input.extend_from_slice(job.as_bytes())?;
-        input.extend_from_slice(b",\"budget\":100000}")?;
-        let ran = run(alloc, &["run"], input.as_slice())?;
-        assert_eq!(rt; ran.status, Status::Done, "{declared}");
-        let result = ran.output.as_slice();
-        assert!(rt; result.starts_with(b"end returned "), "{declared}");
-        assert!(rt; result.ends_with(after.as_bytes()), "{declared}");
+        for word in ["asm", "asm41"] {
+            let image = run(alloc, &[word], text.as_slice())?;
+            let mut input = image.output;
+            input.extend_from_slice(b"{\"function\":\"f\",")?;
+            input.extend_from_slice(job.as_bytes())?;
+            input.extend_from_slice(b",\"budget\":100000}")?;
+            let ran = run(alloc, &["run"], input.as_slice())?;
+            assert_eq!(rt; ran.status, Status::Done, "{word} {declared}");
+            let result = ran.output.as_slice();
+            assert!(rt; result.starts_with(b"end returned "), "{word} {declared}");
+            assert!(rt; result.ends_with(after.as_bytes()), "{word} {declared}");
+        }
     }
     Ok(())
 }
@@ -597,7 +605,7 @@ fn parts_are_played(rt: HostRuntime) -> Result<(), AllocError> {
             &["jobs", "65", "0"],
             RETURNS,
             Status::Usage,
-            b"usage: orcc asm | c | check | fmt | run | emulate | dis | gen S | jobs W S | obj\n",
+            b"usage: orcc asm | c | check | fmt | run | emulate | dis | gen S | jobs W S | obj | asm41 | check41\n",
         ),
     ];
     for (words, input, status, said) in rows {

@@ -15,7 +15,7 @@ use orc_io::{Sink, Source};
 use std::alloc::{AllocError, Global};
 
 const USAGE: &str =
-    "usage: orcc asm | c | check | fmt | run | emulate | dis | gen S | jobs W S | obj\n";
+    "usage: orcc asm | c | check | fmt | run | emulate | dis | gen S | jobs W S | obj | asm41 | check41\n";
 
 /// Does what the words after the program's name ask for, and says how it ended.
 ///
@@ -23,12 +23,14 @@ const USAGE: &str =
 /// function of the text, in order, with the function's name and counts and with code of its own: in
 /// every good call that code returns within the stated steps, and leaves memory and sums as the
 /// function means. There are 74 places for values of temps: a text without a fault is refused
-/// exactly where one of its instructions needs more values at once. `obj` is as `asm`, and writes
-/// an ELF64 object, which has each function's name and code. `c` reads such a text and writes C:
+/// exactly where one of its instructions needs more values at once. `asm41` is as `asm`, with code
+/// for the target that has instructions of SSSE3 and SSE4.1 too, and with the steps that are stated
+/// for it. `obj` is as `asm`, and writes an ELF64 object, which has each function's name and code. `c` reads such a text and writes C:
 /// for each function, in order, a function with its name and counts and with its meaning, however
 /// many values it needs. `check` reads such a text and writes for each function, in order, a line
 /// `NAME need N lanes L cost E`, with the largest number of values of temps that an instruction
-/// needs at once. `fmt` reads such a text and writes its canonical text. `dis` reads an image or an
+/// needs at once and with the cost of a turn; `check41` is as `check`, with the cost for the target of
+/// `asm41`. `fmt` reads such a text and writes its canonical text. `dis` reads an image or an
 /// object of at most 67,108,864 bytes and writes its listing; an input that begins as an ELF file
 /// is an object. `run` reads at most as many bytes, which are an image and a job behind it, places
 /// the code of the job's function and the job at fixed addresses, and writes the result of the run,
@@ -47,7 +49,7 @@ const USAGE: &str =
 ///
 /// [`Status`] has each way to end. Refused comes with one line on the notes: `TooLong` where one
 /// byte more than the limit was taken; for a text `line N: ` and its first fault, or else, with
-/// `asm` or `obj`, `line N: Pressure K` for the first instruction that needs more values of temps
+/// `asm`, `asm41` or `obj`, `line N: Pressure K` for the first instruction that needs more values of temps
 /// at once than there are places, in the first function that has one, where K is how many it needs;
 /// for an image `image: ` and its first field that is not all there or not allowed, which bytes
 /// behind the image are too; for an object `elf: ` and its first such field; for a job `job: ` and
@@ -112,7 +114,7 @@ pub fn orcc<S: Source, K: Sink, N: Sink>(
 
     // Where the words ask for a command and no count rose, the run ends as its input asks, or for
     // want of memory: Refused never comes for an input that is accepted, nor Done for another.
-    // `asm` and `obj` accept each text within the limit that has no fault and whose instructions
+    // `asm`, `asm41` and `obj` accept each text within the limit that has no fault and whose instructions
     // need no more values at once than there are places; `c` accepts each that has no fault.
     ensures complete { IsAsked (spelled words.now)
         → (¬ Rose (S.faults input.old) (S.faults input.new))

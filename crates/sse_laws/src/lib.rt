@@ -1,4 +1,4 @@
-//! Lists of instructions on vector registers, and what they compute on each lane.
+//! Lists of instructions on vector registers, and what they compute on each lane. The crates of rules stand on it: those of SSE2, and `sse41`.
 #![tactic(auto)]
 
 mod laws;

@@ -24,8 +24,8 @@ over_forth small large p q end h o = (ap (λ (x : Point). x.rip) h.same ∙ o.0,
 over_back : (small large : Memory) (p q : Point) (end : Stop) → Beside small large p q → IsOver end q → IsOver end p
 over_back small large p q end h o = (ap (λ (x : Point). x.rip) (sym h.same) ∙ o.0, sym (same_register small large p q h 4) ∙ o.1)
 
-pub lift : (f : Subject) (P : Promise) → Lifts P → (bytes : List ℕ) → RunsWith f P bytes → RunsInsideWith f P bytes
-lift f P lifts bytes runs start s small call back within good =
+pub lift : (f : Subject) (bound : ℕ → ℕ → ℕ) (P : Promise) → Lifts P → (bytes : List ℕ) → RunsWith f bound P bytes → RunsInsideWith f bound P bytes
+lift f bound P lifts bytes runs start s small call back within good =
     let code : Placed = record { bytes = bytes; start = start } in
     let large = s.core.memory in
     let x = runs start (big s small) call back good in
@@ -38,7 +38,7 @@ lift f P lifts bytes runs start s small call back within good =
       way = b.more;
       t = b.end;
       runs = b.runs;
-      short = subst (λ k. k ≤ f.steps call.n (rows f call)) (sym (alike_length small large x.way b.more b.alike)) x.short;
+      short = subst (λ k. k ≤ bound call.n (rows f call)) (sym (alike_length small large x.way b.more b.alike)) x.short;
       over = over_forth small large x.t b.end (stop s back) h x.over;
       not_before = alike_each small large (λ m. IsOver (stop s back) m.point → ⊥) (λ m. IsOver (stop s back) m.point → ⊥) (λ m n near e out o. out (over_back small large m.point n.point (stop s back) near o)) x.way b.more b.alike x.not_before;
       same = λ a m nf ns. let v = mapped_value small a m in h.agree a (within a v.0 v.1 ∙ sym v.1) ∙ x.same a m nf ns;

@@ -3,6 +3,7 @@ use Rattle.std.proofs.Common.{◌≡◌, ℕ, ◌+◌, ◌*◌, ◌/◌, ◌%◌
 use Rattle.std.proofs.Math.Nat.{zero-mod, zero-div}
 use Rattle.orc_bits.specs.Memory.{Memory, word, IsMapped}
 use Rattle.orc_bits.specs.Numbers.{cut}
+use Rattle.orc_ops.specs.declared.target.Target.{Target}
 use Rattle.orc_program.specs.declared.program.VarKind.TheVariants as kind
 use Rattle.orc_program.specs.declared.call.Call.{Call}
 use Rattle.orc_program.specs.Kept.{is_function}
@@ -73,7 +74,7 @@ ok_same x y r a b = ap (ok_value x) (sym a ∙ b)
 is_mapped : (m e : Memory) (a : ℕ) → m a ≡ e a → IsMapped m a → IsMapped e a
 is_mapped m e a q h = subst (λ o. is_some o ≡ true) q h
 
-module _ (f : FunctionValue) (is : is_function f ≡ true) (at : List ℕ) (single wide aligned large : List Ins) (turns_are : Turns f at single wide aligned large) (code : Placed) (s : Point) (args : Arguments) (back : ℕ) (good : GoodCall (subject_of f) code s args back) where
+module _ {target : Target} (f : FunctionValue) (is : is_function f ≡ true) (at : List ℕ) (single wide aligned large : List Ins) (turns_are : Turns f target at single wide aligned large) (code : Placed) (s : Point) (args : Arguments) (back : ℕ) (good : GoodCall (subject_of f) code s args back) where
   abbrev known : Arrays f
   known = arrays_known f is
 
@@ -299,7 +300,7 @@ module _ (f : FunctionValue) (is : is_function f ≡ true) (at : List ℕ) (sing
           slots = λ x w. words x (omega (arith, w.0), omega (arith, w.1));
         }
 
-    does : (t : State) × (list : List Ins) × (d : Core) × Does Q (elements_of f single wide aligned large) c list d × Ended f known code s args back good Kept r e t c d × (length list ≤ regions_of (most_besides f) (turns f args.n) (most_turn f)) × (weigh cell_weight list ≤ turns f args.n * (subject_of f).operands)
+    does : (t : State) × (list : List Ins) × (d : Core) × Does Q (elements_of f single wide aligned large) c list d × Ended f known code s args back good Kept r e t c d × (length list ≤ regions_of (most_besides f) (turns f args.n) (most_turn f target)) × (weigh cell_weight list ≤ turns f args.n * (subject_of f).operands)
     does =
         let x = row_does f is at single wide aligned large turns_are code s args back good r row e (e, h.emulated, refl) c holds points h.counter in
         let y = x.3 in
@@ -392,7 +393,7 @@ module _ (f : FunctionValue) (is : is_function f ≡ true) (at : List ℕ) (sing
         )
 
   pub parts : (first last : List Ins) → Prepares (layout_of f) first → Finishes (layout_of f) last
-      → Parts f known code s args back good Fair (first ++ sum_loads_code at count) (elements_of f single wide aligned large) (sum_stores_code at count ++ last) (regions_of (most_besides f) (turns f args.n) (most_turn f)) (turns f args.n * (subject_of f).operands)
+      → Parts f known code s args back good Fair (first ++ sum_loads_code at count) (elements_of f single wide aligned large) (sum_stores_code at count ++ last) (regions_of (most_besides f) (turns f args.n) (most_turn f target)) (turns f args.n * (subject_of f).operands)
   parts first last prepares finishes = record {
     Kept = Kept;
     kept_on = kept_on;

@@ -1,5 +1,6 @@
 -- The code of a function: it is allowed, its bytes are few, and it runs as the function means.
 use Rattle.std.proofs.Common.{◌≡◌, Bool, ℕ, ◌+◌, ◌*◌, ◌≤◌, true, List, [], ◌∷◌, ◌++◌, length, refl, sym, ap, ap₂, ◌∙◌, subst, arith, length-append, All, IsTrue, zero, suc}
+use Rattle.orc_ops.specs.declared.target.Target.{Target}
 use Rattle.orc_program.specs.declared.program.VarKind.TheVariants as kind
 use Rattle.orc_program.specs.Program.{FunctionValue, count_of}
 use Rattle.orc_program.specs.Checks.{patterns_of}
@@ -32,7 +33,7 @@ use Rattle.orc_region.proofs.Checked.Layouts.{patterns_are, sizes_are}
 use Rattle.orc_region.proofs.Checked.Slots.{Limits, limits}
 use Rattle.orc_region.proofs.Sizes.Loops.{Fits}
 use Rattle.orc_region.proofs.Built.Turns.{fits_elements}
-use Rattle.orc_program.specs.Need.{lanes}
+use Rattle.orc_program.specs.Need.{lanes, steps}
 use Rattle.orc_region.proofs.Calls.Sums.{fine_loads, fine_stores, loads_few, stores_few, loads_own, stores_own}
 use Rattle.orc_region.proofs.Sizes.Steps.{regions_of}
 use Rattle.orc_asm.proofs.Row.Counts.{rows_bytes, rows_allowed}
@@ -72,7 +73,7 @@ ret_bytes = refl
 
 -- ---- the code of rows in turns
 
-module _ (f : FunctionValue) (h : is_function f ≡ true) (l : Layout) (first last : List Ins) (x : Lists f l first last) (at : List ℕ) (single wide aligned large : List Ins) (turns : Turns f at single wide aligned large) where
+module _ {target : Target} (f : FunctionValue) (h : is_function f ≡ true) (l : Layout) (first last : List Ins) (x : Lists f l first last) (at : List ℕ) (single wide aligned large : List Ins) (turns : Turns f target at single wide aligned large) where
   abbrev dests : ℕ
   dests = count_of kind.Dest f.vars
 
@@ -147,7 +148,7 @@ module _ (f : FunctionValue) (h : is_function f ≡ true) (l : Layout) (first la
       let b = fits.bytes in
       (omega (arith, all, ret_bytes), omega (arith, all, ret_bytes, begins, back, loads, stores, few_loads, few_stores, loads_few at sums, stores_few at sums, middle, b, x.first_bytes, x.first_short, x.last_bytes, x.last_short, fact.few_patterns, fact.few_sums))
 
-  short : AreShort f front behind (most_turn f) (most_besides f)
+  short : AreShort f target front behind (most_turn f target) (most_besides f)
   short =
       let patterns : length l.patterns.items ≡ length (patterns_of f.vars f.insns) = ap (λ (y : Layout). length y.patterns.items) x.layout ∙ ap length (patterns_are f) in
       let accumulators : length l.acc_sizes.items ≡ count_of kind.Accumulator f.vars = ap (λ (y : Layout). length y.acc_sizes.items) x.layout ∙ ap length (sizes_are f) ∙ length-acc_sizes_of f in
@@ -164,12 +165,12 @@ module _ (f : FunctionValue) (h : is_function f ≡ true) (l : Layout) (first la
   pub last_free : weigh cell_weight behind ≡ 0
   last_free = own_free behind behind_own
 
-  code_runs : RunsFully f (spell_all (with_return flow))
+  code_runs : RunsFully f target (spell_all (with_return flow))
   code_runs =
       let subject = subject_of f in
-      lift subject (fully subject) (both_lift (quiet subject) (wide_promise subject) (quiet_lifts subject) (wide_lifts subject)) (spell_all (with_return flow))
-      (runs_with f known front elements behind (most_turn f) (most_besides f) some short (λ s args. WideAt subject args) (λ code s args back good. own_wide f known code s args back good)
-      (λ code s args back good. subst (λ y. Parts f known code s args back good (WideAt (subject_of f) args) (first ++ sum_loads_code at (length y.acc_sizes.items)) elements (sum_stores_code at (length y.acc_sizes.items) ++ last) (regions_of (most_besides f) (turns f args.n) (most_turn f)) ((subject_of f).turns args.n * some)) (sym x.layout)
+      lift subject (steps f target) (fully subject) (both_lift (quiet subject) (wide_promise subject) (quiet_lifts subject) (wide_lifts subject)) (spell_all (with_return flow))
+      (runs_with f known front elements behind (most_turn f target) (most_besides f) some short (λ s args. WideAt subject args) (λ code s args back good. own_wide f known code s args back good)
+      (λ code s args back good. subst (λ y. Parts f known code s args back good (WideAt (subject_of f) args) (first ++ sum_loads_code at (length y.acc_sizes.items)) elements (sum_stores_code at (length y.acc_sizes.items) ++ last) (regions_of (most_besides f) (turns f args.n) (most_turn f target)) ((subject_of f).turns args.n * some)) (sym x.layout)
       (parts f h at single wide aligned large turns code s args back good first last (subst (λ y. Prepares y first) x.layout x.prepares) (subst (λ y. Finishes y last) x.layout x.finishes)))
       (fully subject)
       (λ s args way t q each counted. (q, wide_way subject s args way t each (λ R sees. subst (λ k. AtMost k R way) (bound args) (counted R sees))))
@@ -179,16 +180,16 @@ module _ (f : FunctionValue) (h : is_function f ≡ true) (l : Layout) (first la
       bound args = ap₂ (λ a b. a + rows_of (subject_of f) args * ((subject_of f).turns args.n * some) + b) first_free last_free
 
 -- as the bytes are built from the lists around the rows and the tree that does their elements
-pub whole_runs : (f : FunctionValue) → is_function f ≡ true → (l : Layout) (first last : List Ins) → Lists f l first last → (at : List ℕ) (tree : Tree) → IsElements f at tree → (begins ends : List Ins) → begins ≡ first ++ sum_loads_code at (length l.acc_sizes.items) → ends ≡ sum_stores_code at (length l.acc_sizes.items) ++ last → (bytes : List ℕ) (two_d : Bool) (d s : ℕ) → two_d ≡ f.two_d → d ≡ count_of kind.Dest f.vars → s ≡ count_of kind.Source f.vars
-    → bytes ≡ spell_all (with_return (whole_flow begins (Plain (flat_of tree)) ends two_d d s)) → RunsFully f bytes × HasCodeLength bytes
-whole_runs f h l first last x at tree (single, wide, aligned, large, turns, t) begins ends p q bytes two_d d s a b c e =
+pub whole_runs : {target : Target} (f : FunctionValue) → is_function f ≡ true → (l : Layout) (first last : List Ins) → Lists f l first last → (at : List ℕ) (tree : Tree) → IsElements f target at tree → (begins ends : List Ins) → begins ≡ first ++ sum_loads_code at (length l.acc_sizes.items) → ends ≡ sum_stores_code at (length l.acc_sizes.items) ++ last → (bytes : List ℕ) (two_d : Bool) (d s : ℕ) → two_d ≡ f.two_d → d ≡ count_of kind.Dest f.vars → s ≡ count_of kind.Source f.vars
+    → bytes ≡ spell_all (with_return (whole_flow begins (Plain (flat_of tree)) ends two_d d s)) → RunsFully f target bytes × HasCodeLength bytes
+whole_runs {target} f h l first last x at tree (single, wide, aligned, large, turns, t) begins ends p q bytes two_d d s a b c e =
     let loads = first ++ sum_loads_code at (length l.acc_sizes.items) in
     let stores = sum_stores_code at (length l.acc_sizes.items) ++ last in
     let is : bytes ≡ spell_all (with_return (flow f h l first last x at single wide aligned large turns)) =
     e ∙ ap₂ (λ y z. spell_all (with_return (whole_flow y (Plain (flat_of tree)) z two_d d s))) p q
     ∙ ap (λ r. spell_all (with_return (whole_flow loads (Plain (flat_of tree)) stores r d s))) a ∙ ap₂ (λ d s. spell_all (with_return (whole_flow loads (Plain (flat_of tree)) stores f.two_d d s))) b c
     ∙ ap (λ t. spell_all (with_return (whole_flow loads (Plain t) stores f.two_d (count_of kind.Dest f.vars) (count_of kind.Source f.vars)))) t in
-    (subst (RunsFully f) (sym is) (code_runs f h l first last x at single wide aligned large turns), subst HasCodeLength (sym is) (code_length f h l first last x at single wide aligned large turns))
+    (subst (RunsFully f target) (sym is) (code_runs f h l first last x at single wide aligned large turns), subst HasCodeLength (sym is) (code_length f h l first last x at single wide aligned large turns))
 
 -- ---- the lists around the rows are spelled
 

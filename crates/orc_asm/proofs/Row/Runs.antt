@@ -2,10 +2,11 @@
 use Rattle.std.proofs.Common.{◌≡◌, ◌≢◌, ℕ, zero, suc, ◌+◌, ◌*◌, ◌^◌, ◌<◌, ◌≤◌, ◌⊎◌, pos, Bool, true, false, true≢false, if◌then◌else◌, List, length, is_some, Some, None, refl, sym, ap, ◌∙◌, subst, arith, inl, inr, ⊎_elim}
 use Rattle.orc_bits.specs.Memory.{Memory, word, IsMapped}
 use Rattle.orc_bits.proofs.LaneLaws.{change_other}
+use Rattle.orc_ops.specs.declared.target.Target.{Target}
 use Rattle.orc_program.specs.declared.program.VarKind.TheVariants as kind
 use Rattle.orc_program.specs.Program.{FunctionValue, count_of}
 use Rattle.orc_program.specs.Checks.{patterns_of}
-use Rattle.orc_program.specs.Need.{turns, steps, steps_with, cost}
+use Rattle.orc_program.specs.Need.{turns, steps, steps_with, cost_for}
 use Rattle.orc_region.proofs.Sizes.Steps.{regions_of, regions_steps}
 use Rattle.x86_ins.specs.declared.ins.Ins.{Ins}
 use Rattle.x86_ins.specs.declared.ins.Ins.TheVariants.{Ret}
@@ -59,27 +60,27 @@ one_or true m = refl
 one_or false m = refl
 
 -- what the lists, and a turn, may have
-pub record AreShort (f : FunctionValue) (first last : List Ins) (turn besides : ℕ) : Type 0 where
+pub record AreShort (f : FunctionValue) (target : Target) (first last : List Ins) (turn besides : ℕ) : Type 0 where
   pub lists : length first + length last ≤ 23 + 8 * length (patterns_of f.vars f.insns) + 16 * count_of kind.Accumulator f.vars
-  pub turn_few : turn ≤ cost f + (count_of kind.Dest f.vars + count_of kind.Source f.vars) + 4
+  pub turn_few : turn ≤ cost_for f target + (count_of kind.Dest f.vars + count_of kind.Source f.vars) + 4
   -- what a row's elements take besides their turns
   pub besides_few : besides ≤ 17 + 3 * (count_of kind.Dest f.vars + count_of kind.Source f.vars)
 
-pub steps_rows : (f : FunctionValue) (known : Arrays f) (first last : List Ins) (turn besides n m : ℕ) → AreShort f first last turn besides
+pub steps_rows : {target : Target} (f : FunctionValue) (known : Arrays f) (first last : List Ins) (turn besides n m : ℕ) → AreShort f target first last turn besides
     → length first + length last + (2 * (count_of kind.Dest f.vars + count_of kind.Source f.vars) + 3) + (1 + (if f.two_d then m else 1) * (2 + (regions_of besides (turns f n) turn + 5 * (count_of kind.Dest f.vars + count_of kind.Source f.vars) + 5))) + 1
-    ≤ steps f n (if f.two_d then m else 1)
-steps_rows f known first last turn besides n m short =
+    ≤ steps f target n (if f.two_d then m else 1)
+steps_rows {target} f known first last turn besides n m short =
     let arrays = count_of kind.Dest f.vars + count_of kind.Source f.vars in
     let g = count_of kind.Accumulator f.vars in
     let c = length (patterns_of f.vars f.insns) in
     let rows = if f.two_d then m else 1 in
     let few : arrays ≤ 12 = omega (arith, known.few.dests, known.few.sources) in
-    subst (λ k. length first + length last + (2 * arrays + 3) + (1 + rows * (2 + (regions_of besides (turns f n) turn + 5 * arrays + 5))) + 1 ≤ steps_with (turns f n) (cost f) c g arrays k) (sym (one_or f.two_d m))
-    (regions_steps (turns f n) (cost f) c g arrays (length first + length last) besides turn rows short.lists short.turn_few short.besides_few few)
+    subst (λ k. length first + length last + (2 * arrays + 3) + (1 + rows * (2 + (regions_of besides (turns f n) turn + 5 * arrays + 5))) + 1 ≤ steps_with (turns f n) (cost_for f target) c g arrays k) (sym (one_or f.two_d m))
+    (regions_steps (turns f n) (cost_for f target) c g arrays (length first + length last) besides turn rows short.lists short.turn_few short.besides_few few)
 
 -- ---- the whole
 
-module _ (f : FunctionValue) (known : Arrays f) (first : List Ins) (elements : Flow) (last : List Ins) (turn besides touches : ℕ) (short : AreShort f first last turn besides)
+module _ {target : Target} (f : FunctionValue) (known : Arrays f) (first : List Ins) (elements : Flow) (last : List Ins) (turn besides touches : ℕ) (short : AreShort f target first last turn besides)
     (Tame : Point → Arguments → Core → Ins → Type 0)
     (own : (code : Placed) (s : Point) (args : Arguments) (back : ℕ) (good : GoodCall (subject_of f) code s args back) → Own f known code s args back good (Tame s args))
     (parts : (code : Placed) (s : Point) (args : Arguments) (back : ℕ) (good : GoodCall (subject_of f) code s args back) → Parts f known code s args back good (Tame s args) first elements last (regions_of besides (turns f args.n) turn) (turns f args.n * touches)) where
@@ -91,7 +92,7 @@ module _ (f : FunctionValue) (known : Arrays f) (first : List Ins) (elements : F
   Counted s args way = (R : Moment → Type 0) → ((m : Moment) → Tame s args m.point.core m.ins → cell_weight m.ins ≡ 0 → R m → ⊥) → AtMost (weigh cell_weight first + rows (subject_of f) args * (turns f args.n * touches) + weigh cell_weight last) R way
 
   -- each good call of the code returns, with what follows from its being quiet, from Tame at each step and from the count
-  pub runs_with : (P : Promise) → ((s : Point) (args : Arguments) (way : List Moment) (t : Point) → quiet (subject_of f) s s.core.memory args way t → Each (λ m. Tame s args m.point.core m.ins) way → Counted s args way → P s s.core.memory args way t) → Each IsAllowed (with_return flow) → RunsWith (subject_of f) P (spell_all (with_return flow))
+  pub runs_with : (P : Promise) → ((s : Point) (args : Arguments) (way : List Moment) (t : Point) → quiet (subject_of f) s s.core.memory args way t → Each (λ m. Tame s args m.point.core m.ins) way → Counted s args way → P s s.core.memory args way t) → Each IsAllowed (with_return flow) → RunsWith (subject_of f) (steps f target) P (spell_all (with_return flow))
   runs_with P promised allowed start s args back good =
       let code : Placed = record { bytes = spell_all (with_return flow); start = start } in
       let x = path f known code s args back good (Tame s args) (own code s args back good) first elements last (regions_of besides (turns f args.n) turn) (turns f args.n * touches) (parts code s args back good) in

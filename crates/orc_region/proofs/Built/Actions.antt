@@ -9,7 +9,9 @@ use Rattle.x86_ins.specs.Spelling.{IsIns}
 use Rattle.x86_ins.specs.Way.{Each}
 use Rattle.x86_ins.proofs.Renamed.{renamed_alike}
 use Rattle.orc_ops.specs.declared.opcode.Op.{Op}
+use Rattle.orc_ops.specs.declared.target.Target.{Target as CodeTarget}
 use Rattle.orc_ops.specs.Table.{row}
+use Rattle.orc_ops.specs.Targets.{class_for}
 use Rattle.sse_laws.specs.Meets.{Meets, is_sum}
 use Rattle.sse_acc.specs.Sums.{AddsUp}
 use Rattle.orc_plan.specs.declared.steps.Item.{Item}
@@ -64,7 +66,7 @@ module _ (size : ℕ → ℕ) (span : Span) where
   actions_append [] b = refl
   actions_append (x ∷ a) b = ap (λ l. one_code x ++ l) (actions_append a b) ∙ sym (append_assoc (one_code x) (all_code a) (all_code b))
 
-  are_both : (at : List ℕ) (xs ys : List Step) (ps qs : List Action) → AreActions at span.count xs ps → AreActions at span.count ys qs → AreActions at span.count (xs ++ ys) (ps ++ qs)
+  are_both : (at : List ℕ) (xs ys : List Step) (ps qs : List Action) → AreActions span.target at span.count xs ps → AreActions span.target at span.count ys qs → AreActions span.target at span.count (xs ++ ys) (ps ++ qs)
   are_both at [] ys [] qs h g = g
   are_both at [] ys (a ∷ ps) qs h g = absurd h
   are_both at (x ∷ xs) ys [] qs h g = absurd h
@@ -75,7 +77,7 @@ module _ (size : ℕ → ℕ) (span : Span) where
       let one = one_code y.0 in
       let before = all_code x.0 in (
         x.0 ++ y.0 ∷ [],
-        subst (λ xs. AreActions at span.count xs (x.0 ++ y.0 ∷ [])) (ap (λ i. take k steps ++ i ∷ []) is ∙ sym (take_more steps k step l)) (are_both at (take k steps) (step ∷ []) x.0 (y.0 ∷ []) x.1 (y.1, tt)),
+        subst (λ xs. AreActions span.target at span.count xs (x.0 ++ y.0 ∷ [])) (ap (λ i. take k steps ++ i ∷ []) is ∙ sym (take_more steps k step l)) (are_both at (take k steps) (step ∷ []) x.0 (y.0 ∷ []) x.1 (y.1, tt)),
         y.2 ∙ ap (λ b. b ++ one) x.2 ∙ append_assoc base before one
             ∙ ap (λ b. base ++ b) (ap (λ b. before ++ b) (sym (append-nil one)) ∙ sym (actions_append x.0 (y.0 ∷ []))),
       )
@@ -87,24 +89,24 @@ module _ (size : ℕ → ℕ) (span : Span) where
 
   -- sources, a sum, a rule and results make an action
   pub action_added : (at : List ℕ) (step : Step) (x y : ℕ) (base c1 c2 c3 c4 : List Ins) → x ≡ first_register (map (target_of at) step.results.items) → y ≡ second_register (map (target_of at) step.results.items)
-      → c1 ≡ base ++ sources_far_code span.count size (far_by span.first size) x y (map (source_of at) step.sources.items) → c2 ≡ c1 ++ sum_code (map (target_of at) step.results.items) → AddsRule span.count step.op (map (target_of at) step.results.items) c2 c3
+      → c1 ≡ base ++ sources_far_code span.count size (far_by span.first size) x y (map (source_of at) step.sources.items) → c2 ≡ c1 ++ sum_code (map (target_of at) step.results.items) → AddsRule span.target span.count step.op (map (target_of at) step.results.items) c2 c3
       → c4 ≡ c3 ++ results_far_code span.count size (far_by span.first size) (aligned_first span.aligned) (map (target_of at) step.results.items) → AddsAction at size span step base c4
   action_added at step x y base c1 c2 c3 c4 ex ey p q r t =
       let a : Action = record { op = step.op; prefix = step.prefix; to = map (target_of at) step.results.items; sources = map (source_of at) step.sources.items; rule = r.0 } in
       let loads : c1 ≡ base ++ sources_far_code span.count size (far_by span.first size) (first_register a.to) (second_register a.to) a.sources = p ∙ ap₂ (λ x y. base ++ sources_far_code span.count size (far_by span.first size) x y a.sources) ex ey in (
         a,
-        record { op = refl; prefix = refl; to = refl; sources = refl; rule = r.1 },
-        four base (sources_far_code span.count size (far_by span.first size) (first_register a.to) (second_register a.to) a.sources) (sum_code a.to) (rule_code a) (results_far_code span.count size (far_by span.first size) (aligned_first span.aligned) a.to) c1 c2 c3 c4 loads q r.2 t,
+        record { op = refl; prefix = refl; to = refl; sources = refl; rule = r.1; few = r.2 },
+        four base (sources_far_code span.count size (far_by span.first size) (first_register a.to) (second_register a.to) a.sources) (sum_code a.to) (rule_code a) (results_far_code span.count size (far_by span.first size) (aligned_first span.aligned) a.to) c1 c2 c3 c4 loads q r.3 t,
       )
 
   -- the same where operands are read as slices
   pub action_of_slices : (at : List ℕ) (step : Step) (rs ss : List Item) → rs ≡ step.results.items → ss ≡ step.sources.items → (x y : ℕ) (base c1 c2 c3 c4 : List Ins) → x ≡ first_register (map (target_of at) rs) → y ≡ second_register (map (target_of at) rs)
-      → c1 ≡ base ++ sources_far_code span.count size (far_by span.first size) x y (map (source_of at) ss) → c2 ≡ c1 ++ sum_code (map (target_of at) rs) → AddsRule span.count step.op (map (target_of at) rs) c2 c3
+      → c1 ≡ base ++ sources_far_code span.count size (far_by span.first size) x y (map (source_of at) ss) → c2 ≡ c1 ++ sum_code (map (target_of at) rs) → AddsRule span.target span.count step.op (map (target_of at) rs) c2 c3
       → c4 ≡ c3 ++ results_far_code span.count size (far_by span.first size) (aligned_first span.aligned) (map (target_of at) rs) → AddsAction at size span step base c4
   action_of_slices at step rs ss er es x y base c1 c2 c3 c4 ex ey p q r t =
       let to : map (target_of at) rs ≡ map (target_of at) step.results.items = ap (map (target_of at)) er in
       action_added at step x y base c1 c2 c3 c4 (ex ∙ ap first_register to) (ey ∙ ap second_register to) (p ∙ ap (λ xs. base ++ sources_far_code span.count size (far_by span.first size) x y (map (source_of at) xs)) es)
-      (q ∙ ap (λ ts. c1 ++ sum_code ts) to) (subst (λ ts. AddsRule span.count step.op ts c2 c3) to r) (t ∙ ap (λ ts. c3 ++ results_far_code span.count size (far_by span.first size) (aligned_first span.aligned) ts) to)
+      (q ∙ ap (λ ts. c1 ++ sum_code ts) to) (subst (λ ts. AddsRule span.target span.count step.op ts c2 c3) to r) (t ∙ ap (λ ts. c3 ++ results_far_code span.count size (far_by span.first size) (aligned_first span.aligned) ts) to)
 
 -- ---- a rule under other names
 
@@ -113,16 +115,17 @@ names_alike : (f g : ℕ → ℕ) → ((r : ℕ) → r < 16 → f r ≡ g r) →
 names_alike f g same [] h = refl
 names_alike f g same (i ∷ is) h = ap₂ (λ (x : Ins) (y : List Ins). x ∷ y) (renamed_alike f g same i h.0) (names_alike f g same is h.1)
 
-pub rule_added : (count : ℕ) (op : Op) (ts : List Target) (x y z : ℕ) (map_is : List ℕ) (list old new : List Ins) → x ≡ first_register ts → y ≡ second_register ts → z ≡ third_register ts → ((r : ℕ) → r < 16 → renaming map_is r ≡ exchange 0 x (exchange 1 y (exchange 2 z r)))
-    → (is_sum (row op).kind ≡ false → Meets op list) → (is_sum (row op).kind ≡ true → AddsUp op count list) → length list ≤ (row op).class → length list ≤ 100 → Each IsIns list → new ≡ old ++ map (renamed (renaming map_is)) list → AddsRule count op ts old new
-rule_added count op ts x y z map_is list old new ex ey ez is meets adds few short known e = (
+pub rule_added : (target : CodeTarget) (count : ℕ) (op : Op) (ts : List Target) (x y z : ℕ) (map_is : List ℕ) (list old new : List Ins) → x ≡ first_register ts → y ≡ second_register ts → z ≡ third_register ts → ((r : ℕ) → r < 16 → renaming map_is r ≡ exchange 0 x (exchange 1 y (exchange 2 z r)))
+    → (is_sum (row op).kind ≡ false → Meets op list) → (is_sum (row op).kind ≡ true → AddsUp op count list) → length list ≤ class_for op target → length list ≤ 100 → Each IsIns list → new ≡ old ++ map (renamed (renaming map_is)) list → AddsRule target count op ts old new
+rule_added target count op ts x y z map_is list old new ex ey ez is meets adds few short known e = (
   list,
-  record { meets = meets; adds = adds; few = few; short = short; known = known },
+  record { meets = meets; adds = adds; short = short; known = known },
+  few,
   e ∙ ap (λ l. old ++ l) (names_alike (renaming map_is) (rule_register ts) (λ r l. is r l ∙ ap₂ (λ a b. exchange 0 a (exchange 1 b (exchange 2 z r))) ex ey ∙ ap (λ c. exchange 0 (first_register ts) (exchange 1 (second_register ts) (exchange 2 c r))) ez) list known),
 )
 
 -- the same where the list is read as a slice
-pub rule_of_slice : (count : ℕ) (op : Op) (ts : List Target) (x y z : ℕ) (map_is : List ℕ) (list slice old new : List Ins) → slice ≡ list → x ≡ first_register ts → y ≡ second_register ts → z ≡ third_register ts → ((r : ℕ) → r < 16 → renaming map_is r ≡ exchange 0 x (exchange 1 y (exchange 2 z r)))
-    → (is_sum (row op).kind ≡ false → Meets op list) → (is_sum (row op).kind ≡ true → AddsUp op count list) → length list ≤ (row op).class → length list ≤ 100 → Each IsIns slice → new ≡ old ++ map (renamed (renaming map_is)) slice → AddsRule count op ts old new
-rule_of_slice count op ts x y z map_is list slice old new same ex ey ez is meets adds few short known e =
-    rule_added count op ts x y z map_is list old new ex ey ez is meets adds few short (subst (Each IsIns) same known) (e ∙ ap (λ l. old ++ map (renamed (renaming map_is)) l) same)
+pub rule_of_slice : (target : CodeTarget) (count : ℕ) (op : Op) (ts : List Target) (x y z : ℕ) (map_is : List ℕ) (list slice old new : List Ins) → slice ≡ list → x ≡ first_register ts → y ≡ second_register ts → z ≡ third_register ts → ((r : ℕ) → r < 16 → renaming map_is r ≡ exchange 0 x (exchange 1 y (exchange 2 z r)))
+    → (is_sum (row op).kind ≡ false → Meets op list) → (is_sum (row op).kind ≡ true → AddsUp op count list) → length list ≤ class_for op target → length list ≤ 100 → Each IsIns slice → new ≡ old ++ map (renamed (renaming map_is)) slice → AddsRule target count op ts old new
+rule_of_slice target count op ts x y z map_is list slice old new same ex ey ez is meets adds few short known e =
+    rule_added target count op ts x y z map_is list old new ex ey ez is meets adds few short (subst (Each IsIns) same known) (e ∙ ap (λ l. old ++ map (renamed (renaming map_is)) l) same)

@@ -10,6 +10,7 @@ use Rattle.x86_flow.specs.Flow.{Flow, Plain, flat, size, loop_code}
 use Rattle.x86_flow.specs.Tree.{flat_of}
 use Rattle.x86_flow.proofs.Shapes.{loop_size, loop_fine}
 use Rattle.x86_flow.proofs.Spelled.{all_allowed}
+use Rattle.orc_ops.specs.declared.target.Target.{Target as CodeTarget}
 use Rattle.orc_program.specs.declared.program.VarKind.TheVariants as kind
 use Rattle.orc_program.specs.Program.{FunctionValue, count_of}
 use Rattle.orc_program.specs.Kept.{is_function}
@@ -88,27 +89,27 @@ module _ (f : FunctionValue) (at sizes : List ℕ) (steps : List Step) (x : Lowe
         subst (λ y. All (IsReady y at (slice_index sizes) count) steps) (sym e)
         (ready_slices (layout_of f) count at (sizes_of f) sizes (steps_of f) steps x.sizes_are x.steps_are (ready_is f x.kept at good count several))
 
-    pub turn_of : (aligned : Bool) (b : ℕ) (list : List Ins) → IsTurnBy at sizes steps (used_from (slice_index sizes) 0 4) (used_from (slice_index sizes) 4 8) (span_of count aligned) b list → IsTurnOf f at count aligned b list
-    turn_of aligned b list t =
+    pub turn_of : {target : CodeTarget} (aligned : Bool) (b : ℕ) (list : List Ins) → IsTurnBy at sizes steps (used_from (slice_index sizes) 0 4) (used_from (slice_index sizes) 4 8) (span_of target count aligned) b list → IsTurnOf f target at count aligned b list
+    turn_of {target} aligned b list t =
         let dests = used_from (slice_index sizes) 0 4 in
         let sources = used_from (slice_index sizes) 4 8 in
         turn_is f x.kept at good count several aligned b list
-        (subst (λ n. IsTurnBy at (sizes_of f) (steps_of f) (count_of kind.Dest f.vars) n (span_of count aligned) b list) (used_sources f x.kept sizes x.sizes_are)
-        (subst (λ n. IsTurnBy at (sizes_of f) (steps_of f) n sources (span_of count aligned) b list) (used_dests f x.kept sizes x.sizes_are)
-        (subst (λ xs. IsTurnBy at (sizes_of f) xs dests sources (span_of count aligned) b list) x.steps_are
-        (subst (λ xs. IsTurnBy at xs steps dests sources (span_of count aligned) b list) x.sizes_are t))))
+        (subst (λ n. IsTurnBy at (sizes_of f) (steps_of f) (count_of kind.Dest f.vars) n (span_of target count aligned) b list) (used_sources f x.kept sizes x.sizes_are)
+        (subst (λ n. IsTurnBy at (sizes_of f) (steps_of f) n sources (span_of target count aligned) b list) (used_dests f x.kept sizes x.sizes_are)
+        (subst (λ xs. IsTurnBy at (sizes_of f) xs dests sources (span_of target count aligned) b list) x.steps_are
+        (subst (λ xs. IsTurnBy at xs steps dests sources (span_of target count aligned) b list) x.sizes_are t))))
 
-    pub block_of : (aligned : Bool) (list : List Ins) → IsBlockBy at sizes steps (span_of count aligned) list → IsBlock f at count aligned list
-    block_of aligned list t =
+    pub block_of : {target : CodeTarget} (aligned : Bool) (list : List Ins) → IsBlockBy at sizes steps (span_of target count aligned) list → IsBlock f target at count aligned list
+    block_of {target} aligned list t =
         block_is f x.kept at good count several aligned list
-        (subst (λ xs. IsBlockBy at (sizes_of f) xs (span_of count aligned) list) x.steps_are
-        (subst (λ xs. IsBlockBy at xs steps (span_of count aligned) list) x.sizes_are t))
+        (subst (λ xs. IsBlockBy at (sizes_of f) xs (span_of target count aligned) list) x.steps_are
+        (subst (λ xs. IsBlockBy at xs steps (span_of target count aligned) list) x.sizes_are t))
 
-    pub block_spelled_of : (aligned : Bool) (list : List Ins) → IsBlock f at count aligned list → All (λ i. IsTrue (has_spelling i)) list
+    pub block_spelled_of : {target : CodeTarget} (aligned : Bool) (list : List Ins) → IsBlock f target at count aligned list → All (λ i. IsTrue (has_spelling i)) list
     block_spelled_of aligned list t = block_spelled f x.kept at good count several aligned list t
 
     -- with aligned stores where they were asked for and elements of the first dest fill a register
-    pub does_block : (aligned stored : Bool) → stored ≡ aligned && (count * slice_index sizes 0 == 16) → (list : List Ins) → IsBlock f at count stored list → DoesElements f at count aligned list
+    pub does_block : {target : CodeTarget} (aligned stored : Bool) → stored ≡ aligned && (count * slice_index sizes 0 == 16) → (list : List Ins) → IsBlock f target at count stored list → DoesElements f target at count aligned list
     does_block aligned stored e list t = does_elements f x.kept at good count several aligned stored asked given list t
       where
         asked : stored ≡ true → (0 < count_of kind.Dest f.vars) × (count * size_of_slot f.vars 0 ≡ 16) × (aligned ≡ true)
@@ -123,7 +124,7 @@ module _ (f : FunctionValue) (at sizes : List ℕ) (steps : List Step) (x : Lowe
             let first : slice_index sizes 0 ≡ size_of_slot f.vars 0 = ap (λ xs. slice_index xs 0) x.sizes_are ∙ slot_sized f x.kept 0 (inl some) in
             e ∙ ap₂ (λ a k. a && k == 16) t (ap (λ s. count * s) first ∙ whole)
 
-    pub spelled_of : (aligned : Bool) (b : ℕ) → b ≤ 4 → (list : List Ins) → IsTurnOf f at count aligned b list → All (λ i. IsTrue (has_spelling i)) list
+    pub spelled_of : {target : CodeTarget} (aligned : Bool) (b : ℕ) → b ≤ 4 → (list : List Ins) → IsTurnOf f target at count aligned b list → All (λ i. IsTrue (has_spelling i)) list
     spelled_of aligned b few list t = turn_spelled f x.kept at good count several aligned b (blocks_near count b several.most few) list t
 
 -- ---- whole turns
@@ -132,12 +133,12 @@ one_or_more : (lanes b : ℕ) (large turn : List Ins) (t : Bool) → nat_lt 1 b 
 one_or_more lanes b large turn t e = ap (λ t. if t then wide_loops lanes (b * lanes) (Plain large) (Plain turn) else wide_loop (Plain turn)) e
 
 -- large ones, and then those of one block
-pub whole_of_many : (f : FunctionValue) (at : List ℕ) (aligned : Bool) (b : ℕ) → 1 ≤ b → b ≢ 1 → (n : ℕ) → n ≡ lanes f → (large turn : List Ins) → IsTurnOf f at n aligned b large → (larges turns loop : Tree) → flat_of larges ≡ large → flat_of turns ≡ turn
-    → flat_of loop ≡ flat (wide_loops n (b * n) (Plain (flat_of larges)) (Plain (flat_of turns))) → AreWholeTurns f at aligned b turn (flat_of loop)
-whole_of_many f at aligned b some more n n_is large turn is larges turns loop l t e =
+pub whole_of_many : {target : CodeTarget} (f : FunctionValue) (at : List ℕ) (aligned : Bool) (b : ℕ) → 1 ≤ b → b ≢ 1 → (n : ℕ) → n ≡ lanes f → (large turn : List Ins) → IsTurnOf f target at n aligned b large → (larges turns loop : Tree) → flat_of larges ≡ large → flat_of turns ≡ turn
+    → flat_of loop ≡ flat (wide_loops n (b * n) (Plain (flat_of larges)) (Plain (flat_of turns))) → AreWholeTurns f target at aligned b turn (flat_of loop)
+whole_of_many {target} f at aligned b some more n n_is large turn is larges turns loop l t e =
     let several : nat_lt 1 b ≡ true = lt-ltb 1 b (omega (arith, some, more)) in (
       large,
-      λ z. subst (λ k. IsTurnOf f at k aligned b large) n_is is,
+      λ z. subst (λ k. IsTurnOf f target at k aligned b large) n_is is,
       e ∙ ap₂ (λ x y. flat (wide_loops n (b * n) (Plain x) (Plain y))) l t ∙ ap (λ k. flat (wide_loops k (b * k) (Plain large) (Plain turn))) n_is ∙ sym (ap flat (one_or_more (lanes f) b large turn true several)),
     )
 
@@ -173,15 +174,15 @@ flat_boundary : (w : Bool) (k l : ℕ) (single wide : List Ins) (turns : Flow) �
 flat_boundary true k l single wide turns = refl
 flat_boundary false k l single wide turns = refl
 
-module _ (f : FunctionValue) (at : List ℕ) (n : ℕ) (n_is : n ≡ lanes f) where
-  pub whole_first : has_whole_turns f ≡ true → (turns t : Tree) → flat_of t ≡ flat (whole_row n (Plain (flat_of turns))) → AreFromFirst f at (flat_of turns) (flat_of t)
+module _ {target : CodeTarget} (f : FunctionValue) (at : List ℕ) (n : ℕ) (n_is : n ≡ lanes f) where
+  pub whole_first : has_whole_turns f ≡ true → (turns t : Tree) → flat_of t ≡ flat (whole_row n (Plain (flat_of turns))) → AreFromFirst f target at (flat_of turns) (flat_of t)
   whole_first whole turns t e = (
     [],
     λ w. absurd (true≢false (sym whole ∙ w)),
     e ∙ ap (λ k. flat (whole_row k (Plain (flat_of turns)))) n_is ∙ sym (ap (λ w. flat (from_first w (lanes f) [] (Plain (flat_of turns)))) whole),
   )
 
-  pub plain_first : has_whole_turns f ≡ false → (single : List Ins) → IsTurnOf f at 1 false 1 single → (turns t : Tree) → flat_of t ≡ flat (plain_row n (Plain single) (Plain (flat_of turns))) → AreFromFirst f at (flat_of turns) (flat_of t)
+  pub plain_first : has_whole_turns f ≡ false → (single : List Ins) → IsTurnOf f target at 1 false 1 single → (turns t : Tree) → flat_of t ≡ flat (plain_row n (Plain single) (Plain (flat_of turns))) → AreFromFirst f target at (flat_of turns) (flat_of t)
   plain_first some_left single one turns t e = (
     single,
     λ w. one,
@@ -195,7 +196,7 @@ module _ (f : FunctionValue) (at : List ℕ) (n : ℕ) (n_is : n ≡ lanes f) wh
     abbrev shift : ℕ
     shift = shift_of (size_of_slot f.vars 0)
 
-    pub whole_boundary : has_whole_turns f ≡ true → (turns t : Tree) → flat_of t ≡ flat (tested_row n (Plain (flat_of wide)) (Plain (flat_of turns))) → AreFromBoundary f at turn (flat_of turns) (flat_of t)
+    pub whole_boundary : has_whole_turns f ≡ true → (turns t : Tree) → flat_of t ≡ flat (tested_row n (Plain (flat_of wide)) (Plain (flat_of turns))) → AreFromBoundary f target at turn (flat_of turns) (flat_of t)
     whole_boundary whole turns t e = (
       [],
       λ w. absurd (true≢false (sym whole ∙ w)),
@@ -204,8 +205,8 @@ module _ (f : FunctionValue) (at : List ℕ) (n : ℕ) (n_is : n ≡ lanes f) wh
           ∙ sym (ap (λ w. flat (from_boundary w shift (lanes f) [] turn (Plain (flat_of turns)))) whole),
     )
 
-    pub searched_boundary : has_whole_turns f ≡ false → (single head : List Ins) → IsTurnOf f at 1 false 1 single → head ≡ single → (k : ℕ) → k ≡ shift → (turns t : Tree) → flat_of t ≡ flat (aligned_row k n (Plain head) (Plain (flat_of wide)) (Plain (flat_of turns)))
-        → AreFromBoundary f at turn (flat_of turns) (flat_of t)
+    pub searched_boundary : has_whole_turns f ≡ false → (single head : List Ins) → IsTurnOf f target at 1 false 1 single → head ≡ single → (k : ℕ) → k ≡ shift → (turns t : Tree) → flat_of t ≡ flat (aligned_row k n (Plain head) (Plain (flat_of wide)) (Plain (flat_of turns)))
+        → AreFromBoundary f target at turn (flat_of turns) (flat_of t)
     searched_boundary some_left single head one same k k_is turns t e = (
       single,
       λ w. one,
@@ -217,7 +218,7 @@ module _ (f : FunctionValue) (at : List ℕ) (n : ℕ) (n_is : n ≡ lanes f) wh
 
 -- ---- the loops of a row
 
-module _ (f : FunctionValue) (at sizes : List ℕ) (steps : List Step) (x : Lowered f at sizes steps) (n : ℕ) (n_is : n ≡ lanes f) (first : ℕ) (first_is : first ≡ slice_index sizes 0) where
+module _ {target : CodeTarget} (f : FunctionValue) (at sizes : List ℕ) (steps : List Step) (x : Lowered f at sizes steps) (n : ℕ) (n_is : n ≡ lanes f) (first : ℕ) (first_is : first ≡ slice_index sizes 0) where
   abbrev size_first : ℕ
   size_first = size_of_slot f.vars 0
 
@@ -235,21 +236,21 @@ module _ (f : FunctionValue) (at sizes : List ℕ) (steps : List Step) (x : Lowe
   abbrev whole : Bool
   whole = has_whole_turns f
 
-  module _ (turn : List Ins) (more : IsTurnOf f at n false 1 turn) (b : ℕ) (b_is : b ≡ blocks_of (length turn)) where
-    more_is : IsTurnOf f at (lanes f) false 1 turn
-    more_is = subst (λ k. IsTurnOf f at k false 1 turn) n_is more
+  module _ (turn : List Ins) (more : IsTurnOf f target at n false 1 turn) (b : ℕ) (b_is : b ≡ blocks_of (length turn)) where
+    more_is : IsTurnOf f target at (lanes f) false 1 turn
+    more_is = subst (λ k. IsTurnOf f target at k false 1 turn) n_is more
 
-    by_blocks : (aligned : Bool) (list : List Ins) (turns : Tree) → AreWholeTurns f at aligned b list (flat_of turns) → AreWholeTurns f at aligned (blocks_of (length turn)) list (flat_of turns)
-    by_blocks aligned list turns w = subst (λ k. AreWholeTurns f at aligned k list (flat_of turns)) b_is w
+    by_blocks : (aligned : Bool) (list : List Ins) (turns : Tree) → AreWholeTurns f target at aligned b list (flat_of turns) → AreWholeTurns f target at aligned (blocks_of (length turn)) list (flat_of turns)
+    by_blocks aligned list turns w = subst (λ k. AreWholeTurns f target at aligned k list (flat_of turns)) b_is w
 
-    pub plain_elements : n * first ≢ 16 → (turns : Tree) → AreWholeTurns f at false b turn (flat_of turns) → (t : Tree) → AreFromFirst f at (flat_of turns) (flat_of t) → IsElements f at t
+    pub plain_elements : n * first ≢ 16 → (turns : Tree) → AreWholeTurns f target at false b turn (flat_of turns) → (t : Tree) → AreFromFirst f target at (flat_of turns) (flat_of t) → IsElements f target at t
     plain_elements test turns are t a =
         let w = by_blocks false turn turns are in (
           a.0,
           turn,
           [],
           w.0,
-          record { good = good f at sizes steps x; one = a.1; more = more_is; stored = λ y. absurd (true≢false (sym y ∙ empty)); many = λ l. subst (λ k. IsTurnOf f at (lanes f) k (blocks_of (length turn)) w.0) (sym empty) (w.1 l) },
+          record { good = good f at sizes steps x; one = a.1; more = more_is; stored = λ y. absurd (true≢false (sym y ∙ empty)); many = λ l. subst (λ k. IsTurnOf f target at (lanes f) k (blocks_of (length turn)) w.0) (sym empty) (w.1 l) },
           a.2
               ∙ ap (λ z. flat (from_first whole (lanes f) a.0 (Plain z))) w.2
               ∙ flat_first whole (lanes f) a.0 (turns_flow (lanes f) (blocks_of (length turn)) w.0 turn)
@@ -259,26 +260,26 @@ module _ (f : FunctionValue) (at sizes : List ℕ) (steps : List Step) (x : Lowe
         empty : is_filled (count_of kind.Dest f.vars) (lanes f) size_first ≡ false
         empty = filled_no (count_of kind.Dest f.vars) (lanes f) size_first (λ some e. test (ap₂ (λ a b. a * b) n_is (first_size some) ∙ e))
 
-    module _ (fills : n * first ≡ 16) (list : List Ins) (stored : IsTurnOf f at n true 1 list) (turns : Tree) (are : AreWholeTurns f at true b list (flat_of turns)) (l : Layout) (l_is : l ≡ layout_of f) where
+    module _ (fills : n * first ≡ 16) (list : List Ins) (stored : IsTurnOf f target at n true 1 list) (turns : Tree) (are : AreWholeTurns f target at true b list (flat_of turns)) (l : Layout) (l_is : l ≡ layout_of f) where
       yes_filled : is_filled (count_of kind.Dest f.vars) (lanes f) size_first ≡ true
       yes_filled = filled_yes (count_of kind.Dest f.vars) (lanes f) size_first (some_dest fills) (sym (ap₂ (λ a b. a * b) n_is (first_size (some_dest fills))) ∙ fills)
 
-      w : AreWholeTurns f at true (blocks_of (length turn)) list (flat_of turns)
+      w : AreWholeTurns f target at true (blocks_of (length turn)) list (flat_of turns)
       w = by_blocks true list turns are
 
-      these : (single : List Ins) → (whole ≡ false → IsTurnOf f at 1 false 1 single) → Turns f at single turn list w.0
+      these : (single : List Ins) → (whole ≡ false → IsTurnOf f target at 1 false 1 single) → Turns f target at single turn list w.0
       these single one = record {
         good = good f at sizes steps x;
         one = one;
         more = more_is;
-        stored = λ y. subst (λ k. IsTurnOf f at k true 1 list) n_is stored;
-        many = λ l. subst (λ k. IsTurnOf f at (lanes f) k (blocks_of (length turn)) w.0) (sym yes_filled) (w.1 l);
+        stored = λ y. subst (λ k. IsTurnOf f target at k true 1 list) n_is stored;
+        many = λ l. subst (λ k. IsTurnOf f target at (lanes f) k (blocks_of (length turn)) w.0) (sym yes_filled) (w.1 l);
       }
 
       abbrev Elements : Bool → Bool → List Ins → List Ins
       Elements filled begins single = flat (elements_flow filled begins whole (shift_of size_first) (lanes f) (blocks_of (length turn)) single turn list w.0)
 
-      pub begun_elements : nat_le 16 (slice_index l.facts.aligns.items 0) ≡ true → (t : Tree) → AreFromFirst f at (flat_of turns) (flat_of t) → IsElements f at t
+      pub begun_elements : nat_le 16 (slice_index l.facts.aligns.items 0) ≡ true → (t : Tree) → AreFromFirst f target at (flat_of turns) (flat_of t) → IsElements f target at t
       begun_elements begins t a = (
         a.0,
         turn,
@@ -291,7 +292,7 @@ module _ (f : FunctionValue) (at sizes : List ℕ) (steps : List Step) (x : Lowe
             ∙ sym (ap₂ (λ k q. Elements k q a.0) yes_filled (sym (begins_is f l l_is (some_dest fills)) ∙ begins)),
       )
 
-      pub searched_elements : nat_le 16 (slice_index l.facts.aligns.items 0) ≡ false → (t : Tree) → AreFromBoundary f at turn (flat_of turns) (flat_of t) → IsElements f at t
+      pub searched_elements : nat_le 16 (slice_index l.facts.aligns.items 0) ≡ false → (t : Tree) → AreFromBoundary f target at turn (flat_of turns) (flat_of t) → IsElements f target at t
       searched_elements begins t a = (
         a.0,
         turn,
@@ -326,8 +327,8 @@ fits_turns lanes b most few large turn h g = go (nat_lt 1 b) refl
     go true e = (let near = blocks_near lanes b most few in let x = fits_larges lanes (b * lanes) 475343 118943 near (omega arith) (omega arith) large turn (g (ltb-true 1 b e)) h in record { allowed = x.allowed; bytes = (let b = x.bytes in omega (arith, b)) })
 
 -- they are allowed, and are few
-pub fits_elements : (f : FunctionValue) → is_function f ≡ true → (at : List ℕ) (single wide aligned large : List Ins) → Turns f at single wide aligned large → Fits 960000 (flat (elements_of f single wide aligned large))
-fits_elements f h at single wide aligned large t = go (fills f) (begins_aligned f) refl
+pub fits_elements : {target : CodeTarget} (f : FunctionValue) → is_function f ≡ true → (at : List ℕ) (single wide aligned large : List Ins) → Turns f target at single wide aligned large → Fits 960000 (flat (elements_of f single wide aligned large))
+fits_elements {target} f h at single wide aligned large t = go (fills f) (begins_aligned f) refl
   where
     count : IsCount f (lanes f)
     count = lanes_count f h
@@ -335,7 +336,7 @@ fits_elements f h at single wide aligned large t = go (fills f) (begins_aligned 
     most : lanes f ≤ 64
     most = lanes_few f h (lanes f) refl
 
-    fits_turn : (count : ℕ) → IsCount f count → (aligned : Bool) (b n : ℕ) → b ≤ 4 → 143 + b * 118800 ≤ n → (list : List Ins) → IsTurnOf f at count aligned b list → Fits n list
+    fits_turn : (count : ℕ) → IsCount f count → (aligned : Bool) (b n : ℕ) → b ≤ 4 → 143 + b * 118800 ≤ n → (list : List Ins) → IsTurnOf f target at count aligned b list → Fits n list
     fits_turn count is_count aligned b n few room list x =
         let near = blocks_near count b is_count.most few in
         let bytes = turn_size f h at t.good count is_count aligned b near list x in
@@ -379,5 +380,5 @@ fits_elements f h at single wide aligned large t = go (fills f) (begins_aligned 
     go true false e = fits_boundary (has_whole_turns f) refl (turns_flow (lanes f) b large aligned) (fits_body aligned (fits_stored e))
     go false q e = fits_first (has_whole_turns f) refl (turns_flow (lanes f) b large wide) (fits_body wide fits_more)
 
-pub elements_few : (f : FunctionValue) → is_function f ≡ true → (at : List ℕ) (t : Tree) → IsElements f at t → size (flat_of t) ≤ 960000
+pub elements_few : {target : CodeTarget} (f : FunctionValue) → is_function f ≡ true → (at : List ℕ) (t : Tree) → IsElements f target at t → size (flat_of t) ≤ 960000
 elements_few f h at t (single, wide, aligned, large, turns, e) = (let b = (fits_elements f h at single wide aligned large turns).bytes in omega (arith, ap size e, b))

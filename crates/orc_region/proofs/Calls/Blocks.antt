@@ -3,11 +3,12 @@ use Rattle.std.proofs.Common.{◌≡◌, ◌≢◌, ℕ, ◌+◌, ◌*◌, ◌%�
 use Rattle.std.proofs.lemmas.Bool.{eqb-true}
 use Rattle.std.proofs.Math.Nat.{add-mul}
 use Rattle.orc_bits.specs.Memory.{Memory}
+use Rattle.orc_ops.specs.declared.target.Target.{Target as CodeTarget}
 use Rattle.orc_program.specs.declared.program.VarKind.TheVariants as kind
 use Rattle.orc_program.specs.Program.{FunctionValue, count_of}
 use Rattle.orc_program.specs.Kept.{is_function}
 use Rattle.orc_program.specs.Meaning.{State, row_of}
-use Rattle.orc_program.specs.Need.{cost}
+use Rattle.orc_program.specs.Need.{cost_for}
 use Rattle.orc_program.specs.Slots.{size_of_slot}
 use Rattle.orc_plan.specs.Lowered.{steps_of}
 use Rattle.orc_plan.specs.Places.{GoodPlaces}
@@ -62,8 +63,8 @@ words_kept rsp sums a few w h = ⊎_elim (λ i. omega (arith, w.0, i.1, few)) (�
 pub words_frame : (rsp a : ℕ) → InWords rsp a → InFrame rsp a
 words_frame rsp a w = (omega (arith, w.0), omega (arith, w.1))
 
-module _ (f : FunctionValue) (is : is_function f ≡ true) (at : List ℕ) (places : GoodPlaces (steps_of f) at) (count : ℕ) (is_count : IsCount f count) (aligned stored : Bool)
-    (asked : stored ≡ true → IsDest f 0 × (count * size_of_slot f.vars 0 ≡ 16) × (aligned ≡ true)) (given : aligned ≡ true → count * size_of_slot f.vars 0 ≡ 16 → IsDest f 0 → stored ≡ true) (list : List Ins) (x : IsBlock f at count stored list) where
+module _ {target : CodeTarget} (f : FunctionValue) (is : is_function f ≡ true) (at : List ℕ) (places : GoodPlaces (steps_of f) at) (count : ℕ) (is_count : IsCount f count) (aligned stored : Bool)
+    (asked : stored ≡ true → IsDest f 0 × (count * size_of_slot f.vars 0 ≡ 16) × (aligned ≡ true)) (given : aligned ≡ true → count * size_of_slot f.vars 0 ≡ 16 → IsDest f 0 → stored ≡ true) (list : List Ins) (x : IsBlock f target at count stored list) where
   abbrev known : Arrays f
   known = arrays_known f is
 
@@ -182,7 +183,7 @@ module _ (f : FunctionValue) (is : is_function f ≡ true) (at : List ℕ) (plac
     }
 
     abbrev Made : (from : ℕ) → Type 0
-    Made from = (y : Done f at code s.core args r i count (cost f) (subject_of f).operands from list c) × ((z : ℕ) → z ≢ 0 → y.d.gpr z ≡ c.gpr z) × (Wanted → Each (λ m. StoresFirst (subject_of f) args m → ⊥) y.way)
+    Made from = (y : Done f at code s.core args r i count (cost_for f target) (subject_of f).operands from list c) × ((z : ℕ) → z ≢ 0 → y.d.gpr z ≡ c.gpr z) × (Wanted → Each (λ m. StoresFirst (subject_of f) args m → ⊥) y.way)
 
     made : (from : ℕ) → Stands code from list → Made from
     made from stands =
@@ -195,7 +196,7 @@ module _ (f : FunctionValue) (is : is_function f ≡ true) (at : List ℕ) (plac
         let emulated = y.3 in
         let t : State = state memory emulated.temps emulated.sums in
         let does : Does Way (Plain list) c list d = (line_map Here Way on_way list c d line, refl) in
-        let z = doing f code s args back good r i count Wanted c at (Plain list) (all_allowed list (block_fine f is at places count is_count stored list x)) from stands (cost f) (subject_of f).operands list d does (record {
+        let z = doing f code s args back good r i count Wanted c at (Plain list) (all_allowed list (block_fine f is at places count is_count stored list x)) from stands (cost_for f target) (subject_of f).operands list d does (record {
           e = t;
           come = (come.0, come.1, subst (λ n. row_of f (meant_call f args) r n come.0 ≡ Ok t) (more_elements i count) emulated.is);
           short = block_few f is at places count is_count stored list x;
@@ -206,7 +207,7 @@ module _ (f : FunctionValue) (is : is_function f ≡ true) (at : List ℕ) (plac
         }) in
         (z.0, λ n ne. ap (λ (v : Core). v.gpr n) z.1 ∙ y.6 n ne, z.2)
 
-  pub does_elements : DoesElements f at count aligned list
+  pub does_elements : DoesElements f target at count aligned list
   does_elements code s args back good from stands r row i within at_16 e come c h points =
       let y = made code s args back good r row i within at_16 e come c h points from stands in
       (y.0, y.1, λ a b alone. y.2 (a, b, alone))

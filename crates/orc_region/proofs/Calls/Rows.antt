@@ -6,12 +6,13 @@ use Rattle.std.proofs.lemmas.Int.{of_z-to_z}
 use Rattle.std.proofs.lemmas.Nat.{mul-mod_second}
 use Rattle.std.proofs.lemmas.Bool.{ltb-true}
 use Rattle.orc_bits.specs.Memory.{Memory}
+use Rattle.orc_ops.specs.declared.target.Target.{Target as CodeTarget}
 use Rattle.orc_program.specs.declared.program.VarKind.TheVariants as kind
 use Rattle.orc_program.specs.Program.{FunctionValue, count_of}
 use Rattle.orc_program.specs.Facts.{facts_of}
 use Rattle.orc_program.specs.Kept.{is_function}
 use Rattle.orc_program.specs.Meaning.{State, row_of}
-use Rattle.orc_program.specs.Need.{cost, lanes, most_turns, has_whole_turns, begins_aligned, turns}
+use Rattle.orc_program.specs.Need.{cost_for, lanes, most_turns, has_whole_turns, begins_aligned, turns}
 use Rattle.orc_program.specs.Slots.{size_of_slot}
 use Rattle.orc_program.proofs.Sizes.{both}
 use Rattle.orc_program.proofs.Meeting as met
@@ -60,12 +61,12 @@ abbrev pub most_besides : FunctionValue → ℕ
 most_besides f = 17 + 3 * arrays_of f
 
 -- a turn's instructions
-abbrev own_turn : FunctionValue → ℕ
-own_turn f = cost f + arrays_of f + 1
+abbrev own_turn : FunctionValue → CodeTarget → ℕ
+own_turn f target = cost_for f target + arrays_of f + 1
 
 -- with room for what large turns take besides
-abbrev pub most_turn : FunctionValue → ℕ
-most_turn f = 3 + own_turn f
+abbrev pub most_turn : FunctionValue → CodeTarget → ℕ
+most_turn f target = 3 + own_turn f target
 
 besides_fit : (dests lanes size sources : ℕ) → is_filled dests lanes size ≡ true → 19 ≤ 17 + 3 * (dests + sources)
 besides_fit dests lanes size sources e = (let some = ltb-true 0 dests (both (nat_lt 0 dests) (lanes * size == 16) e).0 in omega (arith, some))
@@ -92,7 +93,7 @@ row_multiple r s h = sym (mul-mod_second r s 16) ∙ ap (λ z. (r * z) % 16) h �
 only_row : (r s : ℕ) → r < 1 → (r * s) % 16 ≡ 0
 only_row r s l = (let z : r ≡ 0 = omega (arith, l) in subst (λ x. (x * s) % 16 ≡ 0) (sym z) (omega arith))
 
-module _ (f : FunctionValue) (is : is_function f ≡ true) (at : List ℕ) (single wide aligned large : List Ins) (x : Turns f at single wide aligned large) where
+module _ {target : CodeTarget} (f : FunctionValue) (is : is_function f ≡ true) (at : List ℕ) (single wide aligned large : List Ins) (x : Turns f target at single wide aligned large) where
   abbrev known : Arrays f
   known = arrays_known f is
 
@@ -100,7 +101,7 @@ module _ (f : FunctionValue) (is : is_function f ≡ true) (at : List ℕ) (sing
   size = size_of_slot f.vars
 
   abbrev each : ℕ
-  each = own_turn f
+  each = own_turn f target
 
   abbrev b : ℕ
   b = blocks_of (length wide)
@@ -126,7 +127,7 @@ module _ (f : FunctionValue) (is : is_function f ≡ true) (at : List ℕ) (sing
       abbrev Emulates : ℕ → Memory → (ℕ → ℕ) → Type 0
       Emulates = Emul f is known code s args back good r row come.0
 
-      set : (count : ℕ) (actions : List Action) → AreActions at count (steps_of f) actions → Setting args.n Base Slots (numbers f is known code s args back good at) low (plan_with f actions) Emulates (InFrame low)
+      set : (count : ℕ) (actions : List Action) → AreActions target at count (steps_of f) actions → Setting args.n Base Slots (numbers f is known code s args back good at) low (plan_with f actions) Emulates (InFrame low)
       set count actions are = setting f is known code s args back good r row at x.good come.0 count actions are
 
       abbrev several : List Action
@@ -228,20 +229,20 @@ module _ (f : FunctionValue) (is : is_function f ≡ true) (at : List ℕ) (sing
       }
 
       abbrev Goes : Flow → ℕ → Type 0
-      Goes flow besides = (list : List Ins) × (d : Core) × Does Q flow c list d × Place args.n d × (length list ≤ besides + turns f args.n * (2 + most_turn f)) × (weigh cell_weight list ≤ turns f args.n * some)
+      Goes flow besides = (list : List Ins) × (d : Core) × Does Q flow c list d × Place args.n d × (length list ≤ besides + turns f args.n * (2 + most_turn f target)) × (weigh cell_weight list ≤ turns f args.n * some)
 
       -- ---- turns
 
       abbrev Turned : ℕ → Bool → ℕ → List Ins → Type 0
       Turned count aligned = Round args.n Base Slots (numbers f is known code s args back good at) low plan Emulates (InFrame low) first (s.core.gpr 7) c.memory Q (stack_room f known code s args back good) in_frame Free calmly by_pointer refl each some count (aligned_first aligned)
 
-      turned : (count : ℕ) → IsCount f count → (aligned : Bool) (blocks : ℕ) → 0 < blocks → blocks ≤ 4 → (list : List Ins) → IsTurnOf f at count aligned blocks list → Turned count aligned blocks list
+      turned : (count : ℕ) → IsCount f count → (aligned : Bool) (blocks : ℕ) → 0 < blocks → blocks ≤ 4 → (list : List Ins) → IsTurnOf f target at count aligned blocks list → Turned count aligned blocks list
       turned count is_count aligned blocks some_blocks few list t =
           let near = blocks_near count blocks is_count.most few in
           let short = turn_few f is at x.good count is_count aligned blocks near list t in
-          let spread = many_short blocks (cost f) (arrays_of f) some_blocks in
+          let spread = many_short blocks (cost_for f target) (arrays_of f) some_blocks in
           record {
-            turn = turns_map (AreActions at count (steps_of f)) (Able args.n Base Slots (numbers f is known code s args back good at) low plan Emulates (InFrame low) count (aligned_first aligned)) count size (aligned_first aligned)
+            turn = turns_map (AreActions target at count (steps_of f)) (Able args.n Base Slots (numbers f is known code s args back good at) low plan Emulates (InFrame low) count (aligned_first aligned)) count size (aligned_first aligned)
                 (λ actions are. record { set = set count actions are; fit = fit_actions f is at x.good count is_count actions are; known = ins_blocks f is at x.good count is_count actions are aligned })
                 (count_of kind.Dest f.vars) (count_of kind.Source f.vars) blocks list t;
             known = turn_ins f is at x.good count is_count aligned blocks near list t;
@@ -256,7 +257,7 @@ module _ (f : FunctionValue) (is : is_function f ≡ true) (at : List ℕ) (sing
       more_is = turned (lanes f) (lanes_count f is) false 1 (omega arith) (omega arith) wide x.more
 
       many_is : (filled : Bool) → fills f ≡ filled → 1 < b → Turned (lanes f) filled b large
-      many_is filled e several = turned (lanes f) (lanes_count f is) filled b (omega (arith, several)) (few_blocks (length wide)) large (subst (λ t. IsTurnOf f at (lanes f) t b large) e (x.many several))
+      many_is filled e several = turned (lanes f) (lanes_count f is) filled b (omega (arith, several)) (few_blocks (length wide)) large (subst (λ t. IsTurnOf f target at (lanes f) t b large) e (x.many several))
 
       -- where no register of the first dest is filled nothing is asked of stores
       none_filled : fills f ≡ false → Free
@@ -298,7 +299,7 @@ module _ (f : FunctionValue) (is : is_function f ≡ true) (at : List ℕ) (sing
           let free = none_filled empty in
           let y = first_done args.n Base Slots (numbers f is known code s args back good at) low plan Emulates (InFrame low) first (s.core.gpr 7) c.memory Q (stack_room f known code s args back good) in_frame Free calmly by_pointer refl each some (lanes f) (lanes_count f is).some (lanes_count f is).most b (few_blocks (length wide)) single (has_whole_turns f) one_is none_left (turns f args.n) few_behind (turns_flow (lanes f) b large wide) (λ i. Unit {0})
           (wide_turns args.n Base Slots (numbers f is known code s args back good at) low plan Emulates (InFrame low) first (s.core.gpr 7) c.memory Q (stack_room f known code s args back good) in_frame Free calmly by_pointer refl each some (lanes f) (lanes_count f is).some (lanes_count f is).most b (few_blocks (length wide)) wide more_is free large (many_is false empty)) tt (λ e. free) c place_first counter in
-          (y.0, y.1, y.2, y.3, roomy y.0 7 7 (turns f args.n) (2 + each) (2 + most_turn f) (omega arith) (omega arith) y.4, y.5)
+          (y.0, y.1, y.2, y.3, roomy y.0 7 7 (turns f args.n) (2 + each) (2 + most_turn f target) (omega arith) (omega arith) y.4, y.5)
 
       stored_is : fills f ≡ true → Turned (lanes f) true 1 aligned
       stored_is full = turned (lanes f) (lanes_count f is) true 1 (omega arith) (omega arith) aligned (x.stored full)
@@ -311,7 +312,7 @@ module _ (f : FunctionValue) (is : is_function f ≡ true) (at : List ℕ) (sing
           let y = first_done args.n Base Slots (numbers f is known code s args back good at) low plan Emulates (InFrame low) first (s.core.gpr 7) c.memory Q (stack_room f known code s args back good) in_frame Free calmly by_pointer refl each some (lanes f) (lanes_count f is).some (lanes_count f is).most b (few_blocks (length wide)) single (has_whole_turns f) one_is none_left (turns f args.n) few_behind (turns_flow (lanes f) b large aligned) (AtSixteen k (Base 0))
           (aligned_turns args.n Base Slots (numbers f is known code s args back good at) low plan Emulates (InFrame low) first (s.core.gpr 7) c.memory Q (stack_room f known code s args back good) in_frame Free calmly by_pointer refl each some (lanes f) (lanes_count f is).some (lanes_count f is).most b (few_blocks (length wide)) aligned stored k z.shift z.full z.size_is large (many_is true full)) (at_first k begins)
           (λ e. absurd (narrow args.n Base Slots (numbers f is known code s args back good at) low plan Emulates (InFrame low) first (s.core.gpr 7) c.memory Q (stack_room f known code s args back good) in_frame Free calmly by_pointer refl each some (lanes f) (lanes_count f is).some (lanes_count f is).most b (few_blocks (length wide)) aligned stored k z.shift z.full z.size_is e)) c place_first counter in
-          (y.0, y.1, y.2, y.3, roomy y.0 7 19 (turns f args.n) (2 + each) (2 + most_turn f) (omega arith) (omega arith) y.4, y.5)
+          (y.0, y.1, y.2, y.3, roomy y.0 7 19 (turns f args.n) (2 + each) (2 + most_turn f target) (omega arith) (omega arith) y.4, y.5)
 
       -- where some element of the first dest begins at a multiple of 16, it does so by the row's base
       reached_at : (k : ℕ) → size 0 ≡ 2 ^ k → (h : ℕ) → cell (subject_of f) args 0 r h 0 % 16 ≡ 0 → AtSixteen k (Base 0) h
@@ -325,7 +326,7 @@ module _ (f : FunctionValue) (is : is_function f ≡ true) (at : List ℕ) (sing
           (λ e none w. none w.1.0 w.1.1 (reached_at k y.size_is w.1.0 w.1.2))
           (λ e none w. none (subst (AtSixteen k (Base 0)) (w.1.3 e) (reached_at k y.size_is w.1.0 w.1.2)))
           c place_first counter in
-          (z.0, z.1, z.2, z.3, roomy z.0 19 19 (turns f args.n) (3 + (2 + each)) (2 + most_turn f) (omega arith) (omega arith) z.4, z.5)
+          (z.0, z.1, z.2, z.3, roomy z.0 19 19 (turns f args.n) (3 + (2 + each)) (2 + most_turn f target) (omega arith) (omega arith) z.4, z.5)
 
       by_facts : (full begins : Bool) → fills f ≡ full → begins_aligned f ≡ begins → Goes (elements_flow full begins (has_whole_turns f) (shift_of (size 0)) (lanes f) b single wide aligned large) (besides_of full)
       by_facts false begins e q = plain e
@@ -341,7 +342,7 @@ module _ (f : FunctionValue) (is : is_function f ≡ true) (at : List ℕ) (sing
       abbrev Left : ℕ → List Ins → Core → Type 0
       Left steps = Leaves f code s args back good r 0 args.n Wanted c at steps (turns f args.n * some)
 
-      pub row_does : (done : List Ins) × (d : Core) × Does Q (elements_of f single wide aligned large) c done d × Left (regions_of (most_besides f) (turns f args.n) (most_turn f)) done d
+      pub row_does : (done : List Ins) × (d : Core) × Does Q (elements_of f single wide aligned large) c done d × Left (regions_of (most_besides f) (turns f args.n) (most_turn f target)) done d
       row_does =
           let y = by_facts (fills f) (begins_aligned f) refl refl in
           let d = y.1 in
@@ -365,15 +366,15 @@ module _ (f : FunctionValue) (is : is_function f ≡ true) (at : List ℕ) (sing
 
   -- ---- wherever they stand
 
-  pub does_flow : DoesRow f at (flat (elements_of f single wide aligned large))
+  pub does_flow : DoesRow f target at (flat (elements_of f single wide aligned large))
   does_flow code s args back good from stands r row e come c h points counter =
       let y = row_does code s args back good r row e come c h points counter in
       let l = y.3 in
-      let steps : 2 + most_turn f ≡ cost f + arrays_of f + 6 = omega arith in
+      let steps : 2 + most_turn f target ≡ cost_for f target + arrays_of f + 6 = omega arith in
       let z = doing f code s args back good r 0 args.n (Wanted code s args back good r row) c at (elements_of f single wide aligned large) (fits_elements f is at single wide aligned large x).allowed from stands
-      (most_besides f + turns f args.n * (cost f + arrays_of f + 6)) (turns f args.n * some) y.0 y.1 y.2 (record { e = l.e; come = l.come; short = subst (λ k. length y.0 ≤ most_besides f + turns f args.n * k) steps l.short; light = l.light; quiet = l.quiet; holds = l.holds; words = l.words }) in
+      (most_besides f + turns f args.n * (cost_for f target + arrays_of f + 6)) (turns f args.n * some) y.0 y.1 y.2 (record { e = l.e; come = l.come; short = subst (λ k. length y.0 ≤ most_besides f + turns f args.n * k) steps l.short; light = l.light; quiet = l.quiet; holds = l.holds; words = l.words }) in
       (z.0, λ full reached alone. z.2 (full, reached, alone))
 
 -- as the tree is built
-pub does_tree : (f : FunctionValue) → is_function f ≡ true → (at : List ℕ) (tree : Tree) → IsElements f at tree → DoesRow f at (flat_of tree)
-does_tree f is at tree (single, wide, aligned, large, turns, e) = subst (DoesRow f at) (sym e) (does_flow f is at single wide aligned large turns)
+pub does_tree : {target : CodeTarget} (f : FunctionValue) → is_function f ≡ true → (at : List ℕ) (tree : Tree) → IsElements f target at tree → DoesRow f target at (flat_of tree)
+does_tree {target} f is at tree (single, wide, aligned, large, turns, e) = subst (DoesRow f target at) (sym e) (does_flow f is at single wide aligned large turns)

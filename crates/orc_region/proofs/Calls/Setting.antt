@@ -1,6 +1,7 @@
 -- The elements of a row of a good call are what the laws of blocks, turns and rows ask for.
 use Rattle.std.proofs.Common.{◌≡◌, ℕ, ◌+◌, ◌*◌, ◌<◌, ◌≤◌, true, List, [], length, refl, sym, ap, ◌∙◌, subst, arith, ⊎_elim}
 use Rattle.orc_bits.specs.Memory.{Memory}
+use Rattle.orc_ops.specs.declared.target.Target.{Target as CodeTarget}
 use Rattle.orc_program.specs.declared.program.VarKind.TheVariants as kind
 use Rattle.orc_program.specs.declared.call.Call.{Call}
 use Rattle.orc_program.specs.Program.{FunctionValue, count_of}
@@ -86,7 +87,7 @@ module _ (f : FunctionValue) (is : is_function f ≡ true) (known : Arrays f) (c
     abbrev pub Emul : State → ℕ → Memory → (ℕ → ℕ) → Type 0
     Emul = Reached f meant r
 
-    pub setting : (at : List ℕ) → GoodPlaces (steps_of f) at → (e : State) (count : ℕ) (actions : List Action) → AreActions at count (steps_of f) actions → Setting args.n base Slot (numbers at) rsp (plan_with f actions) (Emul e) Frame
+    pub setting : {target : CodeTarget} (at : List ℕ) → GoodPlaces (steps_of f) at → (e : State) (count : ℕ) (actions : List Action) → AreActions target at count (steps_of f) actions → Setting args.n base Slot (numbers at) rsp (plan_with f actions) (Emul e) Frame
     setting at places_are e count actions are = let stand = stand_is f is at places_are in record {
       ground = record {
         separate = separate f known code s args back good r row;

@@ -2,6 +2,7 @@
 use Rattle.std.proofs.Common.{◌≡◌, ℕ, suc, ◌+◌, ◌*◌, ◌-◌, ◌<◌, ◌≤◌, ◌&&◌, nat_le, nat_lt, true, false, if◌then◌else◌, List, [], ◌∷◌, ◌++◌, length, slice_index, refl, sym, ap, ◌∙◌, subst, arith, inl, inr, length-append}
 use Rattle.std.proofs.lemmas.Bool.{leb-false, or_parts}
 use Rattle.std.proofs.lemmas.Bool.Decides.{nat_tests}
+use Rattle.orc_ops.specs.declared.target.Target.{Target as CodeTarget}
 use Rattle.orc_program.specs.declared.program.Var.{Var}
 use Rattle.orc_program.specs.declared.program.VarKind.TheVariants as kind
 use Rattle.orc_program.specs.declared.program.Insn.{Insn}
@@ -59,7 +60,7 @@ no_call = record { n = 0; m = 0; base = λ k. 0; stride = λ k. 0; param = λ k.
 pub lanes_fit : (count k w : ℕ) → count * (w * k) ≤ 16 → count * k * w ≤ 16
 lanes_fit count k w h = omega (arith, h)
 
-same_length : (at : List ℕ) (count : ℕ) (steps : List Step) (actions : List Action) → AreActions at count steps actions → length actions ≡ length steps
+same_length : {target : CodeTarget} (at : List ℕ) (count : ℕ) (steps : List Step) (actions : List Action) → AreActions target at count steps actions → length actions ≡ length steps
 same_length at count [] [] is = refl
 same_length at count [] (a ∷ rest) is = absurd is
 same_length at count (s ∷ steps) [] is = absurd is
@@ -138,7 +139,7 @@ module _ (f : FunctionValue) (h : is_function f ≡ true) where
           (width_of_count f count is_count (var_at f.vars p).size (size_kept f h p is.inside) (is_count.arrays p is.inside is.array))
 
       -- plans of functions are small
-      pub small_with : (at : List ℕ) (actions : List Action) → Each (IsMovable count (size_of_slot f.vars)) actions → AreActions at count (steps_of f) actions → Small count (plan_with f actions)
+      pub small_with : {target : CodeTarget} (at : List ℕ) (actions : List Action) → Each (IsMovable count (size_of_slot f.vars)) actions → AreActions target at count (steps_of f) actions → Small count (plan_with f actions)
       small_with at actions m is = record {
         most = is_count.most;
         dests = few.dests;

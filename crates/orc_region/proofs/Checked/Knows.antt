@@ -5,7 +5,9 @@ use Rattle.std.proofs.lemmas.List.Sums.{sum_by-cons}
 use Rattle.orc_bits.specs.Lanes.{change}
 use Rattle.orc_bits.proofs.LaneLaws.{change_other, change_same}
 use Rattle.orc_ops.specs.declared.opcode.Op.{Op}
+use Rattle.orc_ops.specs.declared.target.Target.{Target as CodeTarget}
 use Rattle.orc_ops.specs.Table.{row, size_of_result, size_of_source}
+use Rattle.orc_ops.specs.Targets.{class_for}
 use Rattle.orc_program.specs.declared.program.Operand.{Operand}
 use Rattle.orc_program.specs.declared.program.Operand.TheVariants as operand
 use Rattle.orc_program.specs.declared.program.VarKind.{VarKind}
@@ -15,7 +17,7 @@ use Rattle.orc_program.specs.declared.call.Call.{Call}
 use Rattle.orc_program.specs.Program.{FunctionValue, var_at, same_kind, is_array_kind, count_of, count_before, places_of}
 use Rattle.orc_program.specs.Slots.{slot_of, size_of_slot}
 use Rattle.orc_program.specs.Checks.{way_of}
-use Rattle.orc_program.specs.Need.{made_by, is_array_operand, source_cost, spills, result_cost, insn_cost, cost}
+use Rattle.orc_program.specs.Need.{made_by, is_array_operand, source_cost, spills, result_cost, insn_cost, cost_for}
 use Rattle.orc_program.specs.Kept.{is_function}
 use Rattle.orc_program.proofs.PatternLaws.{patterns_few}
 use Rattle.x86_flow.specs.Moves.{IsWidth}
@@ -121,7 +123,7 @@ module _ (f : FunctionValue) (at : List ℕ) where
   are_written op prefix (x ∷ y ∷ []) (t ∷ u ∷ m ∷ more) v w p h k = absurd h
   are_written op prefix (x ∷ y ∷ z ∷ rest) ts v w p h k = absurd h
 
-  meant_one : (count : ℕ) (temps : List ℕ) (insn : Insn) (rest : List Insn) (a : Action) → IsPlanned f at temps insn rest → IsAction at count (step_at f temps insn) a
+  meant_one : {target : CodeTarget} (count : ℕ) (temps : List ℕ) (insn : Insn) (rest : List Insn) (a : Action) → IsPlanned f at temps insn rest → IsAction target at count (step_at f temps insn) a
       → IsMeant (StandsIn at) f (number_of f) (temps, steps_from f temps (insn ∷ rest)) (temps ++ made_by f.vars insn, steps_from f (temps ++ made_by f.vars insn) rest) insn a
   meant_one count temps insn rest a d is = record {
     op = is.op;
@@ -134,7 +136,7 @@ module _ (f : FunctionValue) (at : List ℕ) where
         (are_read f at temps (steps_from f temps (insn ∷ rest)) insn.op insn.prefix insn.sources.items (sources_at f at temps insn) d.sources);
   }
 
-  meant_from : (count : ℕ) (temps : List ℕ) (insns : List Insn) (actions : List Action) → ArePlanned f at temps insns → AreActions at count (steps_from f temps insns) actions → AreMeant (StandsIn at) f (number_of f) (temps, steps_from f temps insns) insns actions
+  meant_from : {target : CodeTarget} (count : ℕ) (temps : List ℕ) (insns : List Insn) (actions : List Action) → ArePlanned f at temps insns → AreActions target at count (steps_from f temps insns) actions → AreMeant (StandsIn at) f (number_of f) (temps, steps_from f temps insns) insns actions
   meant_from count temps [] [] d is = tt
   meant_from count temps [] (a ∷ rest) d is = absurd is
   meant_from count temps (insn ∷ insns) [] d is = absurd is
@@ -142,7 +144,7 @@ module _ (f : FunctionValue) (at : List ℕ) where
       ((temps ++ made_by f.vars insn, steps_from f (temps ++ made_by f.vars insn) insns), meant_one count temps insn insns a d.0 is.0, meant_from count (temps ++ made_by f.vars insn) insns rest d.1 is.1)
 
 -- a function's actions do what its instructions do, from the view before the first one, in which nothing stands (`nothing_stands`)
-pub all_meant : (f : FunctionValue) → is_function f ≡ true → (at : List ℕ) → AllPlaced f at → (count : ℕ) (actions : List Action) → AreActions at count (steps_of f) actions
+pub all_meant : {target : CodeTarget} (f : FunctionValue) → is_function f ≡ true → (at : List ℕ) → AllPlaced f at → (count : ℕ) (actions : List Action) → AreActions target at count (steps_of f) actions
     → AreMeant (StandsIn at) f (number_of f) ([], steps_of f) f.insns actions
 unfolding steps_of
 all_meant f h at stand count actions is = meant_from f at count [] f.insns actions (are_planned f h at stand) is
@@ -284,14 +286,14 @@ module _ (f : FunctionValue) (at : List ℕ) (call : Call) (n : ℕ) (base : ℕ
     from_within = subst (Each (SourceWithin (last_place at))) (sym s) from_in;
   }
 
-  known_one : (count : ℕ) (live : ℕ → ℕ) (temps : List ℕ) (insn : Insn) (rest : List Insn) (a : Action) → AreSized f (StandsIn at (temps, steps_from f temps (insn ∷ rest))) live → IsPlanned f at temps insn rest → IsAction at count (step_at f temps insn) a → Known live a
+  known_one : {target : CodeTarget} (count : ℕ) (live : ℕ → ℕ) (temps : List ℕ) (insn : Insn) (rest : List Insn) (a : Action) → AreSized f (StandsIn at (temps, steps_from f temps (insn ∷ rest))) live → IsPlanned f at temps insn rest → IsAction target at count (step_at f temps insn) a → Known live a
   known_one count live temps insn rest a sizes d is =
       known_with live a insn.op insn.prefix (targets_at f at temps insn) (sources_at f at temps insn) is.op is.prefix is.to is.sources (are_to insn.op insn.prefix insn.results.items (targets_at f at temps insn) d.prefix d.to)
       (are_from live temps (steps_from f temps (insn ∷ rest)) sizes insn.op insn.prefix insn.sources.items (sources_at f at temps insn) d.sources) d.clear d.apart
       (targets_within at (result_items f.vars (length temps) insn.results.items)) (sources_within at (source_items f.vars (patterns_in f) temps insn.op 0 insn.sources.items))
 
   -- the sizes after an action
-  sizes_on : (count : ℕ) (live : ℕ → ℕ) (temps : List ℕ) (insn : Insn) (rest : List Insn) (a : Action) → AreSized f (StandsIn at (temps, steps_from f temps (insn ∷ rest))) live → IsPlanned f at temps insn rest → IsAction at count (step_at f temps insn) a
+  sizes_on : {target : CodeTarget} (count : ℕ) (live : ℕ → ℕ) (temps : List ℕ) (insn : Insn) (rest : List Insn) (a : Action) → AreSized f (StandsIn at (temps, steps_from f temps (insn ∷ rest))) live → IsPlanned f at temps insn rest → IsAction target at count (step_at f temps insn) a
       → AreSized f (StandsIn at (temps ++ made_by f.vars insn, steps_from f (temps ++ made_by f.vars insn) rest)) (live_act live a)
   sizes_on count live temps insn rest a sizes d is =
       let there : View = (temps ++ made_by f.vars insn, steps_from f (temps ++ made_by f.vars insn) rest) in
@@ -300,7 +302,7 @@ module _ (f : FunctionValue) (at : List ℕ) (call : Call) (n : ℕ) (base : ℕ
       ap (live_targets live insn.op insn.prefix) (sym is.to) ∙ ap (λ k. live_targets live insn.op k a.to) (sym is.prefix) ∙ ap (λ o. live_targets live o a.prefix a.to) (sym is.op) in
       subst (AreSized f (StandsIn at there)) e s
 
-  known_from : (count : ℕ) (live : ℕ → ℕ) (temps : List ℕ) (insns : List Insn) (actions : List Action) → AreSized f (StandsIn at (temps, steps_from f temps insns)) live → ArePlanned f at temps insns → AreActions at count (steps_from f temps insns) actions
+  known_from : {target : CodeTarget} (count : ℕ) (live : ℕ → ℕ) (temps : List ℕ) (insns : List Insn) (actions : List Action) → AreSized f (StandsIn at (temps, steps_from f temps insns)) live → ArePlanned f at temps insns → AreActions target at count (steps_from f temps insns) actions
       → AllKnown n base (size_of_slot f.vars) P Of live actions
   known_from count live temps [] [] sizes d is = tt
   known_from count live temps [] (a ∷ rest) sizes d is = absurd is
@@ -308,7 +310,7 @@ module _ (f : FunctionValue) (at : List ℕ) (call : Call) (n : ℕ) (base : ℕ
   known_from count live temps (insn ∷ insns) (a ∷ rest) sizes d is =
       (known_one count live temps insn insns a sizes d.0 is.0, known_from count (live_act live a) (temps ++ made_by f.vars insn) insns rest (sizes_on count live temps insn insns a sizes d.0 is.0) d.1 is.1)
 
-  pub all_known : is_function f ≡ true → AllPlaced f at → (count : ℕ) (actions : List Action) → AreActions at count (steps_of f) actions → AllKnown n base (size_of_slot f.vars) P Of no_values actions
+  pub all_known : {target : CodeTarget} → is_function f ≡ true → AllPlaced f at → (count : ℕ) (actions : List Action) → AreActions target at count (steps_of f) actions → AllKnown n base (size_of_slot f.vars) P Of no_values actions
   unfolding steps_of
   all_known h stand count actions is = known_from count no_values [] f.insns actions (λ x p s. absurd (nothing_stands at (steps_from f [] f.insns) x p s)) (are_planned f h at stand) is
 
@@ -488,7 +490,7 @@ module _ (f : FunctionValue) (h : is_function f ≡ true) (at : List ℕ) (count
 
   -- ---- actions
 
-  movable_one : (temps : List ℕ) (insn : Insn) (rest : List Insn) (a : Action) → IsPlanned f at temps insn rest → IsAction at count (step_at f temps insn) a → IsMovable count (size_of_slot f.vars) a
+  movable_one : {target : CodeTarget} (temps : List ℕ) (insn : Insn) (rest : List Insn) (a : Action) → IsPlanned f at temps insn rest → IsAction target at count (step_at f temps insn) a → IsMovable count (size_of_slot f.vars) a
   movable_one temps insn rest a d is = record {
     to = subst (Each (IsToSlot count (size_of_slot f.vars))) (sym is.to) (to_few temps insn rest d).slots;
     sources = subst (Each (IsFromSlot count (size_of_slot f.vars))) (sym is.sources) (from_few temps insn rest d).slots;
@@ -497,13 +499,13 @@ module _ (f : FunctionValue) (h : is_function f ≡ true) (at : List ℕ) (count
     rule = is.rule;
   }
 
-  movable_from : (temps : List ℕ) (insns : List Insn) (actions : List Action) → ArePlanned f at temps insns → AreActions at count (steps_from f temps insns) actions → Each (IsMovable count (size_of_slot f.vars)) actions
+  movable_from : {target : CodeTarget} (temps : List ℕ) (insns : List Insn) (actions : List Action) → ArePlanned f at temps insns → AreActions target at count (steps_from f temps insns) actions → Each (IsMovable count (size_of_slot f.vars)) actions
   movable_from temps [] [] d is = tt
   movable_from temps [] (a ∷ rest) d is = absurd is
   movable_from temps (insn ∷ insns) [] d is = absurd is
   movable_from temps (insn ∷ insns) (a ∷ rest) d is = (movable_one temps insn insns a d.0 is.0, movable_from (temps ++ made_by f.vars insn) insns rest d.1 is.1)
 
-  fit_one : (temps : List ℕ) (insn : Insn) (rest : List Insn) (a : Action) → IsPlanned f at temps insn rest → FitsIn count insn → IsAction at count (step_at f temps insn) a → IsFit count (size_of_slot f.vars) a
+  fit_one : {target : CodeTarget} (temps : List ℕ) (insn : Insn) (rest : List Insn) (a : Action) → IsPlanned f at temps insn rest → FitsIn count insn → IsAction target at count (step_at f temps insn) a → IsFit count (size_of_slot f.vars) a
   fit_one temps insn rest a d fits is =
       let m = movable_one temps insn rest a d is in
       record {
@@ -514,24 +516,24 @@ module _ (f : FunctionValue) (h : is_function f ≡ true) (at : List ℕ) (count
         known = ins_of (action_code count (size_of_slot f.vars) a) (fine_action count (size_of_slot f.vars) at_pointer unaligned (λ k. omega arith) a m);
       }
 
-  fit_from : (temps : List ℕ) (insns : List Insn) (actions : List Action) → ArePlanned f at temps insns → Each (FitsIn count) insns → AreActions at count (steps_from f temps insns) actions → Each (IsFit count (size_of_slot f.vars)) actions
+  fit_from : {target : CodeTarget} (temps : List ℕ) (insns : List Insn) (actions : List Action) → ArePlanned f at temps insns → Each (FitsIn count) insns → AreActions target at count (steps_from f temps insns) actions → Each (IsFit count (size_of_slot f.vars)) actions
   fit_from temps [] [] d fits is = tt
   fit_from temps [] (a ∷ rest) d fits is = absurd is
   fit_from temps (insn ∷ insns) [] d fits is = absurd is
   fit_from temps (insn ∷ insns) (a ∷ rest) d fits is = (fit_one temps insn insns a d.0 fits.0 is.0, fit_from (temps ++ made_by f.vars insn) insns rest d.1 fits.1 is.1)
 
-  weight_within : (temps : List ℕ) (insn : Insn) (rest : List Insn) (a : Action) → IsPlanned f at temps insn rest → IsAction at count (step_at f temps insn) a → weight a ≤ insn_cost (spills f) f.vars insn
-  weight_within temps insn rest a d is =
+  weight_within : {target : CodeTarget} (temps : List ℕ) (insn : Insn) (rest : List Insn) (a : Action) → IsPlanned f at temps insn rest → IsAction target at count (step_at f temps insn) a → weight a ≤ insn_cost target (spills f) f.vars insn
+  weight_within {target} temps insn rest a d is =
       let sources : from_weights a.sources ≡ from_weights (sources_at f at temps insn) = ap from_weights is.sources in
       let results : to_weights a.to ≡ to_weights (targets_at f at temps insn) = ap to_weights is.to in
-      let class : (row a.op).class ≡ (row insn.op).class = ap (λ o. (row o).class) is.op in
-      omega (arith, sources, results, class, is.rule.few, (from_few temps insn rest d).cost, (to_few temps insn rest d).cost)
+      let class : class_for a.op target ≡ class_for insn.op target = ap (λ o. class_for o target) is.op in
+      omega (arith, sources, results, class, is.few, (from_few temps insn rest d).cost, (to_few temps insn rest d).cost)
 
-  weights_from : (temps : List ℕ) (insns : List Insn) (actions : List Action) → ArePlanned f at temps insns → AreActions at count (steps_from f temps insns) actions → weights actions ≤ sum_by (insn_cost (spills f) f.vars) insns
+  weights_from : {target : CodeTarget} (temps : List ℕ) (insns : List Insn) (actions : List Action) → ArePlanned f at temps insns → AreActions target at count (steps_from f temps insns) actions → weights actions ≤ sum_by (insn_cost target (spills f) f.vars) insns
   weights_from temps [] [] d is = omega arith
   weights_from temps [] (a ∷ rest) d is = absurd is
   weights_from temps (insn ∷ insns) [] d is = absurd is
-  weights_from temps (insn ∷ insns) (a ∷ rest) d is = omega (arith, weight_within temps insn insns a d.0 is.0, weights_from (temps ++ made_by f.vars insn) insns rest d.1 is.1, sum_by-cons (insn_cost (spills f) f.vars) insn insns)
+  weights_from {target} temps (insn ∷ insns) (a ∷ rest) d is = omega (arith, weight_within temps insn insns a d.0 is.0, weights_from (temps ++ made_by f.vars insn) insns rest d.1 is.1, sum_by-cons (insn_cost target (spills f) f.vars) insn insns)
 
   -- ---- what is asked of a step whose code is to be given
 
@@ -549,13 +551,13 @@ module _ (f : FunctionValue) (h : is_function f ≡ true) (at : List ℕ) (count
 
   -- ---- sizes by slots
 
-  same_one : (temps : List ℕ) (insn : Insn) (rest : List Insn) (a : Action) → IsPlanned f at temps insn rest → IsAction at count (step_at f temps insn) a → SameFor sizes (size_of_slot f.vars) a
+  same_one : {target : CodeTarget} (temps : List ℕ) (insn : Insn) (rest : List Insn) (a : Action) → IsPlanned f at temps insn rest → IsAction target at count (step_at f temps insn) a → SameFor sizes (size_of_slot f.vars) a
   same_one temps insn rest a d is = (
     subst (Each (SameFrom sizes (size_of_slot f.vars))) (sym is.sources) (from_few temps insn rest d).same,
     subst (Each (SameTo sizes (size_of_slot f.vars))) (sym is.to) (to_few temps insn rest d).same,
   )
 
-  same_from : (temps : List ℕ) (insns : List Insn) (actions : List Action) → ArePlanned f at temps insns → AreActions at count (steps_from f temps insns) actions → Each (SameFor sizes (size_of_slot f.vars)) actions
+  same_from : {target : CodeTarget} (temps : List ℕ) (insns : List Insn) (actions : List Action) → ArePlanned f at temps insns → AreActions target at count (steps_from f temps insns) actions → Each (SameFor sizes (size_of_slot f.vars)) actions
   same_from temps [] [] d is = tt
   same_from temps [] (a ∷ rest) d is = absurd is
   same_from temps (insn ∷ insns) [] d is = absurd is
@@ -564,15 +566,15 @@ module _ (f : FunctionValue) (h : is_function f ≡ true) (at : List ℕ) (count
 -- ---- of a function's steps
 
 module _ (f : FunctionValue) (h : is_function f ≡ true) (at : List ℕ) (stand : AllPlaced f at) (count : ℕ) (is_count : IsCount f count) where
-  pub all_movable : (actions : List Action) → AreActions at count (steps_of f) actions → Each (IsMovable count (size_of_slot f.vars)) actions
+  pub all_movable : {target : CodeTarget} (actions : List Action) → AreActions target at count (steps_of f) actions → Each (IsMovable count (size_of_slot f.vars)) actions
   unfolding steps_of
   all_movable actions is = movable_from f h at count is_count [] f.insns actions (are_planned f h at stand) is
 
-  pub all_fit : (actions : List Action) → AreActions at count (steps_of f) actions → Each (IsFit count (size_of_slot f.vars)) actions
+  pub all_fit : {target : CodeTarget} (actions : List Action) → AreActions target at count (steps_of f) actions → Each (IsFit count (size_of_slot f.vars)) actions
   unfolding steps_of
   all_fit actions is = fit_from f h at count is_count [] f.insns actions (are_planned f h at stand) is_count.operands is
 
-  pub weights_within : (actions : List Action) → AreActions at count (steps_of f) actions → weights actions ≤ cost f
+  pub weights_within : {target : CodeTarget} (actions : List Action) → AreActions target at count (steps_of f) actions → weights actions ≤ cost_for f target
   unfolding steps_of
   weights_within actions is = weights_from f h at count is_count [] f.insns actions (are_planned f h at stand) is
 
@@ -580,6 +582,6 @@ module _ (f : FunctionValue) (h : is_function f ≡ true) (at : List ℕ) (stand
   unfolding steps_of
   all_ready k d l = ready_from f h at count is_count [] f.insns (are_planned f h at stand) is_count.operands k d l
 
-  pub all_same : (actions : List Action) → AreActions at count (steps_of f) actions → Each (SameFor (slice_index (sizes_of f)) (size_of_slot f.vars)) actions
+  pub all_same : {target : CodeTarget} (actions : List Action) → AreActions target at count (steps_of f) actions → Each (SameFor (slice_index (sizes_of f)) (size_of_slot f.vars)) actions
   unfolding steps_of
   all_same actions is = same_from f h at count is_count [] f.insns actions (are_planned f h at stand) is

@@ -1,10 +1,11 @@
 -- Turns of so many elements of a function's code: their lists are what the plan says, they are allowed, and their instructions and bytes are few.
 use Rattle.std.proofs.Common.{◌≡◌, ℕ, zero, suc, ◌+◌, ◌*◌, ◌≤◌, Bool, true, false, if◌then◌else◌, nat_lt, pos, List, [], ◌∷◌, ◌++◌, length, slice_index, ap, ap₂, ◌∙◌, arith, All, IsTrue, inl, inr}
 use Rattle.std.proofs.Math.Nat.{mul-le-mul_right}
+use Rattle.orc_ops.specs.declared.target.Target.{Target as CodeTarget}
 use Rattle.orc_program.specs.declared.program.VarKind.TheVariants as kind
 use Rattle.orc_program.specs.Program.{FunctionValue, count_of}
 use Rattle.orc_program.specs.Kept.{is_function}
-use Rattle.orc_program.specs.Need.{cost}
+use Rattle.orc_program.specs.Need.{cost_for}
 use Rattle.orc_program.specs.Slots.{size_of_slot}
 use Rattle.orc_plan.specs.Lowered.{steps_of, sizes_of}
 use Rattle.orc_plan.specs.Places.{GoodPlaces}
@@ -85,27 +86,27 @@ module _ (f : FunctionValue) (h : is_function f ≡ true) (at : List ℕ) (good 
     pub ready_is : All (IsReady (layout_of f) at (slice_index (sizes_of f)) count) (steps_of f)
     ready_is = all_ready f h at stand_is count is_count
 
-    abbrev Acts : List Action → Type 0
-    Acts = AreActions at count (steps_of f)
+    abbrev Acts : CodeTarget → List Action → Type 0
+    Acts target = AreActions target at count (steps_of f)
 
     -- ---- the lists are what the plan says
 
-    same_blocks : (aligned : Bool) (b : ℕ) (list : List Ins) → AreBlocks Acts count steps (aligned_first aligned) b list → AreBlocks Acts count slots (aligned_first aligned) b list
+    same_blocks : {target : CodeTarget} (aligned : Bool) (b : ℕ) (list : List Ins) → AreBlocks (Acts target) count steps (aligned_first aligned) b list → AreBlocks (Acts target) count slots (aligned_first aligned) b list
     same_blocks aligned zero list x = x
     same_blocks aligned (suc b) list x =
         let block = same_actions steps slots count (far_by (b * count) steps) (far_by (b * count) slots) (aligned_first aligned) (λ k e. ap (λ n. b * count * n) e) x.1 (all_same f h at stand_is count is_count x.1 x.3) in
         (x.0, x.1, same_blocks aligned b x.0 x.2, x.3, x.4 ∙ ap (λ (l : List Ins). x.0 ++ l) block)
 
-    pub turn_is : (aligned : Bool) (b : ℕ) (list : List Ins) → IsTurnBy at (sizes_of f) (steps_of f) (count_of kind.Dest f.vars) (count_of kind.Source f.vars) (span_of count aligned) b list → IsTurnOf f at count aligned b list
+    pub turn_is : {target : CodeTarget} (aligned : Bool) (b : ℕ) (list : List Ins) → IsTurnBy at (sizes_of f) (steps_of f) (count_of kind.Dest f.vars) (count_of kind.Source f.vars) (span_of target count aligned) b list → IsTurnOf f target at count aligned b list
     turn_is aligned b list x = (x.0, same_blocks aligned b x.0 x.1, x.2 ∙ ap (λ (l : List Ins). x.0 ++ l) (same_moves (b * count)))
 
     -- ---- the plan by actions of the steps
 
-    module _ (actions : List Action) (is : AreActions at count (steps_of f) actions) where
+    module _ {target : CodeTarget} (actions : List Action) (is : AreActions target at count (steps_of f) actions) where
       pub small_plan : Small count (plan_with f actions)
       small_plan = small_with f h count is_count at actions (all_movable f h at stand_is count is_count actions is) is
 
-      pub weights_few : weights actions ≤ cost f
+      pub weights_few : weights actions ≤ cost_for f target
       weights_few = weights_within f h at stand_is count is_count actions is
 
       pub fit_actions : Each (IsFit count (size_of_slot f.vars)) actions
@@ -117,15 +118,15 @@ module _ (f : FunctionValue) (h : is_function f ≡ true) (at : List ℕ) (good 
 
     -- ---- turns of so many blocks
 
-    movable : (actions : List Action) → Acts actions → Each (IsMovable count (size_of_slot f.vars)) actions
+    movable : {target : CodeTarget} (actions : List Action) → Acts target actions → Each (IsMovable count (size_of_slot f.vars)) actions
     movable actions is = (small_plan actions is).actions
 
-    module _ (aligned : Bool) (b : ℕ) (near : b * count ≤ 64) (list : List Ins) (x : IsTurnOf f at count aligned b list) where
+    module _ {target : CodeTarget} (aligned : Bool) (b : ℕ) (near : b * count ≤ 64) (list : List Ins) (x : IsTurnOf f target at count aligned b list) where
       few_slots : Limits f
       few_slots = limits f h
 
       pub turn_fine : Each IsFine list
-      turn_fine = fine_turn count (size_of_slot f.vars) (slot_size f h) (aligned_first aligned) Acts movable dests sources few_slots.dests few_slots.sources b list near x
+      turn_fine = fine_turn count (size_of_slot f.vars) (slot_size f h) (aligned_first aligned) (Acts target) movable dests sources few_slots.dests few_slots.sources b list near x
 
       pub turn_ins : Each IsIns list
       turn_ins = ins_of list turn_fine
@@ -133,10 +134,10 @@ module _ (f : FunctionValue) (h : is_function f ≡ true) (at : List ℕ) (good 
       pub turn_spelled : All (λ i. IsTrue (has_spelling i)) list
       turn_spelled = all_spelled list turn_fine
 
-      pub turn_few : length list ≤ b * cost f + (count_of kind.Dest f.vars + count_of kind.Source f.vars) + 1
-      turn_few = turn_count count (size_of_slot f.vars) (aligned_first aligned) Acts movable (cost f) weights_few dests sources b list x
+      pub turn_few : length list ≤ b * cost_for f target + (count_of kind.Dest f.vars + count_of kind.Source f.vars) + 1
+      turn_few = turn_count count (size_of_slot f.vars) (aligned_first aligned) (Acts target) movable (cost_for f target) weights_few dests sources b list x
 
       pub turn_size : size list ≤ 143 + b * 118800
       turn_size =
-          let n = turn_count count (size_of_slot f.vars) (aligned_first aligned) Acts movable 10800 (λ actions is. weights_most count (plan_with f actions) (small_plan actions is)) dests sources b list x in
+          let n = turn_count count (size_of_slot f.vars) (aligned_first aligned) (Acts target) movable 10800 (λ actions is. weights_most count (plan_with f actions) (small_plan actions is)) dests sources b list x in
           omega (arith, size_within list turn_fine, n, few_slots.dests, few_slots.sources)

@@ -3,6 +3,7 @@ use Rattle.std.proofs.Common.{◌≡◌, ℕ, ◌+◌, ◌*◌, ◌≤◌, Bool,
 use Rattle.std.specs.List.{count_by, sum_by}
 use Rattle.std.proofs.lemmas.List.Sums.{sum_by-cons}
 use Rattle.orc_ops.specs.declared.opcode.Op.{Op}
+use Rattle.orc_ops.specs.declared.target.Target.{Target as CodeTarget}
 use Rattle.orc_program.specs.declared.program.Operand.{Operand}
 use Rattle.orc_program.specs.declared.program.VarKind.{VarKind}
 use Rattle.orc_program.specs.declared.program.VarKind.TheVariants as kind
@@ -77,13 +78,13 @@ module _ (f : FunctionValue) (at : List ℕ) where
   to_all op prefix (x ∷ y ∷ []) (t ∷ u ∷ v ∷ more) d = absurd d
   to_all op prefix (x ∷ y ∷ z ∷ rest) ts d = absurd d
 
-  one_action : (count : ℕ) (temps : List ℕ) (insn : Insn) (rest : List Insn) (a : Action) → IsPlanned f at temps insn rest → IsAction at count (step_of f.vars (patterns_in f) temps insn) a → from_arrays a.sources + to_arrays a.to ≤ array_operands f.vars insn
+  one_action : {target : CodeTarget} (count : ℕ) (temps : List ℕ) (insn : Insn) (rest : List Insn) (a : Action) → IsPlanned f at temps insn rest → IsAction target at count (step_of f.vars (patterns_in f) temps insn) a → from_arrays a.sources + to_arrays a.to ≤ array_operands f.vars insn
   one_action count temps insn rest a d is =
       let sources = from_all temps (steps_after f.vars (patterns_in f) temps (insn ∷ rest)) insn.op insn.prefix insn.sources.items (map (source_of at) (source_items f.vars (patterns_in f) temps insn.op 0 insn.sources.items)) d.sources in
       let results = to_all insn.op insn.prefix insn.results.items (map (target_of at) (result_items f.vars (length temps) insn.results.items)) d.to in
       omega (arith, ap from_arrays is.sources, ap to_arrays is.to, sources, results)
 
-  arrays_from : (count : ℕ) (temps : List ℕ) (insns : List Insn) (actions : List Action) → ArePlanned f at temps insns → AreActions at count (steps_after f.vars (patterns_in f) temps insns) actions → arrays_of actions ≤ sum_by (array_operands f.vars) insns
+  arrays_from : {target : CodeTarget} (count : ℕ) (temps : List ℕ) (insns : List Insn) (actions : List Action) → ArePlanned f at temps insns → AreActions target at count (steps_after f.vars (patterns_in f) temps insns) actions → arrays_of actions ≤ sum_by (array_operands f.vars) insns
   arrays_from count temps [] [] d is = omega arith
   arrays_from count temps [] (a ∷ rest) d is = absurd is
   arrays_from count temps (insn ∷ insns) [] d is = absurd is
@@ -91,7 +92,7 @@ module _ (f : FunctionValue) (at : List ℕ) where
       omega (arith, one_action count temps insn insns a d.0 is.0, arrays_from count (temps ++ made_by f.vars insn) insns rest d.1 is.1, sum_by-cons (array_operands f.vars) insn insns)
 
 -- the actions of a function's steps
-pub arrays_few : (f : FunctionValue) → is_function f ≡ true → (at : List ℕ) → AllPlaced f at → (count : ℕ) (actions : List Action) → AreActions at count (steps_of f) actions → arrays_of actions ≤ (subject_of f).operands
+pub arrays_few : {target : CodeTarget} (f : FunctionValue) → is_function f ≡ true → (at : List ℕ) → AllPlaced f at → (count : ℕ) (actions : List Action) → AreActions target at count (steps_of f) actions → arrays_of actions ≤ (subject_of f).operands
 unfolding steps_of
 arrays_few f h at stand count actions is = arrays_from f at count [] f.insns actions (are_planned f h at stand) is
 
@@ -99,5 +100,5 @@ arrays_few f h at stand count actions is = arrays_from f at count [] f.insns act
 
 -- a turn's instructions that go by some registers, of which RSP is none, are in each block at most as many as the function's operands that are arrays
 module _ (by : ℕ → Bool) (by_stack : by 4 ≡ false) (f : FunctionValue) (h : is_function f ≡ true) (at : List ℕ) (stand : AllPlaced f at) (count : ℕ) (is_count : IsCount f count) where
-  pub turn_light : (aligned : Bool) (b : ℕ) (list : List Ins) → IsTurnOf f at count aligned b list → weigh (touch_weight by) list ≤ b * (subject_of f).operands
-  turn_light aligned b list = turn_few by by_stack count (size_of_slot f.vars) (aligned_first aligned) (AreActions at count (steps_of f)) (all_fit f h at stand count is_count) (subject_of f).operands (arrays_few f h at stand count) (count_of kind.Dest f.vars) (count_of kind.Source f.vars) b list
+  pub turn_light : {target : CodeTarget} (aligned : Bool) (b : ℕ) (list : List Ins) → IsTurnOf f target at count aligned b list → weigh (touch_weight by) list ≤ b * (subject_of f).operands
+  turn_light {target} aligned b list = turn_few by by_stack count (size_of_slot f.vars) (aligned_first aligned) (AreActions target at count (steps_of f)) (all_fit f h at stand count is_count) (subject_of f).operands (arrays_few f h at stand count) (count_of kind.Dest f.vars) (count_of kind.Source f.vars) b list

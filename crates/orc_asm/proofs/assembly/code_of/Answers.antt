@@ -33,13 +33,13 @@ whole_code-requires-clause-last_spelled c = behind_spelled c.args.f.now c.counts
     (c.as_slice-2.ensures ∙ c.in_ok-append-2.ensures ∙ ap (λ (l : List Ins). l ++ c.in_ok-epilogue.field-0) c.in_ok-last.ensures)
 
 -- the tree does the function's elements
-elements_are : (c : After-whole_code) → IsElements c.args.f.now c.args.placed.now.places c.in_ok-elements.elements
+elements_are : (c : After-whole_code) → IsElements c.args.f.now c.args.target c.args.placed.now.places c.in_ok-elements.elements
 elements_are c = c.in_ok-elements.ensures.is c.args.f.now (record { kept = c.counts_of-counts.ensures.kept; steps = c.requires.steps; sizes = c.requires.sizes; lanes = c.requires.lanes; layout = c.layout-layout.ensures.value })
 
 -- the bytes of the rows between the frame's lists
 runs : (c : After-whole_code) (code : List ℕ)
     → code ≡ spell_all (with_return (whole_flow c.as_slice.result.now (Plain (flat_of c.in_ok-elements.elements)) c.as_slice-2.result.now c.layout-layout.result.two_d c.counts_of-counts.result.dests c.counts_of-counts.result.sources))
-    → RunsFully c.args.f.now code × HasCodeLength code
+    → RunsFully c.args.f.now c.args.target code × HasCodeLength code
 runs c code e = whole_runs c.args.f.now c.counts_of-counts.ensures.kept c.layout-layout.result c.in_ok-first.first c.in_ok-epilogue.field-0
     (record {
       layout = c.layout-layout.ensures.value;

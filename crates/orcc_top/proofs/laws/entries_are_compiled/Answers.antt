@@ -1,9 +1,10 @@
+use Rattle.orc_program.specs.Need.{steps}
 use Rattle.orc_frame.specs.Function.{subject_of}
 use Rattle.orc_asm.proofs.Calls.Weaker.{runs_quietly}
 use Rattle.orcc_top.proofs.laws.entries_are_compiled.Goals as goal
 
 pub returns : goal.returns
-returns c f entry kept allowed e = (
+returns c f target entry kept allowed e = (
   record { kept = kept; dests = e.dests; sources = e.sources; params = e.params; accs = e.accs; runs = e.runs; short = allowed.few_code },
   λ sizes sized. record {
     kept = kept;
@@ -14,6 +15,6 @@ returns c f entry kept allowed e = (
     accs = e.accs;
     facts = e.facts;
     sized = sized;
-    runs = runs_quietly (subject_of f) entry.code e.inside;
+    runs = runs_quietly (subject_of f) (steps f target) entry.code e.inside;
   },
 )

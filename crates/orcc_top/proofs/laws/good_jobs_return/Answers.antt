@@ -2,6 +2,7 @@ use Rattle.std.proofs.Common.{◌≡◌, ◌<◌, length, ap, sym, ◌∙◌, ar
 use Rattle.std.proofs.lemmas.List.{ext_get_or}
 use Rattle.orc_bits.proofs.Memories.{some_one}
 use Rattle.orc_bits.specs.Parts.{memory_of}
+use Rattle.orc_ops.specs.declared.target.Target.{Target}
 use Rattle.orc_program.specs.declared.program.VarKind.TheVariants as kind
 use Rattle.orc_program.specs.Program.{FunctionValue, count_of}
 use Rattle.orc_image.specs.Spelling as image
@@ -16,11 +17,11 @@ use Rattle.orcc_top.specs.Execution.{Ran, end_line}
 use Rattle.orcc_top.specs.Laws.{IsReturned}
 use Rattle.orcc_top.proofs.laws.good_jobs_return.Goals as goal
 
-module _ (f : FunctionValue) (entry : image.FunctionValue) (job : Job) (o : Outcome) (c : IsCodeOf f entry) (g : IsGoodJob f entry job) (enough : steps f job.call.n (rows f job.call) ≤ job.budget) (ran : Ran entry job o) where
-  done : IsDone f entry job ran.end ran.at
-  done = good_jobs_return f entry job ran.end ran.at c g enough ran.ends
+module _ (f : FunctionValue) (target : Target) (entry : image.FunctionValue) (job : Job) (o : Outcome) (c : IsCodeOf f target entry) (g : IsGoodJob f entry job) (enough : steps f target job.call.n (rows f job.call) ≤ job.budget) (ran : Ran entry job o) where
+  done : IsDone f target entry job ran.end ran.at
+  done = good_jobs_return f target entry job ran.end ran.at c g enough ran.ends
 
-  returned : IsReturned f job o
+  returned : IsReturned f target job o
   returned = record {
     taken = done.taken;
     returned = ran.told ∙ ap (end_line job.budget) done.returned;
@@ -37,4 +38,4 @@ module _ (f : FunctionValue) (entry : image.FunctionValue) (job : Job) (o : Outc
       count = sums_count f job.call (λ p. g.widths.bases _) (memory_of job.memory) done.left done.means
 
 pub returns : goal.returns
-returns c f entry job o code good enough ran = returned f entry job o code good enough ran
+returns c f target entry job o code good enough ran = returned f target entry job o code good enough ran

@@ -2,7 +2,7 @@ use Rattle.std.proofs.Common.{◌≡◌, true, ap, ◌∙◌, subst, arith, leng
 use Rattle.orc_program.specs.Program.{FunctionValue}
 use Rattle.orc_program.specs.Kept.{is_function}
 use Rattle.orc_program.proofs.PatternLaws.{insns_few}
-use Rattle.orc_plan.proofs.figures.cost.Goals as goal
+use Rattle.orc_plan.proofs.figures.cost_for.Goals as goal
 
 pub cost_of-requires : goal.cost_of-requires
 cost_of-requires c =
