@@ -351,12 +351,9 @@ fits_elements {target} f h at single wide aligned large t = go (fills f) (begins
     fits_stored : fills f ≡ true → Fits 118943 aligned
     fits_stored e = fits_turn (lanes f) count true 1 118943 (omega arith) (omega arith) aligned (t.stored e)
 
-    abbrev b : ℕ
-    b = blocks_of (length wide)
-
     -- whole turns of which those of one block are these
-    fits_body : (turn : List Ins) → Fits 118943 turn → Fits 594400 (flat (turns_flow (lanes f) b large turn))
-    fits_body turn x = fits_turns (lanes f) b count.most (few_blocks (length wide)) large turn x (λ l. let few = few_blocks (length wide) in fits_turn (lanes f) count (fills f) b 475343 few (omega (arith, few)) large (t.many l))
+    fits_body : (turn : List Ins) → Fits 118943 turn → Fits 594400 (flat (turns_flow (lanes f) (blocks_of (length wide)) large turn))
+    fits_body turn x = fits_turns (lanes f) (blocks_of (length wide)) count.most (few_blocks (length wide)) large turn x (λ l. let few = few_blocks (length wide) in fits_turn (lanes f) count (fills f) (blocks_of (length wide)) 475343 few (omega (arith, few)) large (t.many l))
 
     fits_first : (w : Bool) → has_whole_turns f ≡ w → (turns : Flow) → Fits 594400 (flat turns) → Fits 960000 (flat (from_first w (lanes f) single turns))
     fits_first true e turns x = (let y = fits_whole turns (lanes f) 594400 most x in record { allowed = y.allowed; bytes = (let b = y.bytes in omega (arith, b)) })
@@ -364,21 +361,18 @@ fits_elements {target} f h at single wide aligned large t = go (fills f) (begins
         let y = fits_plain (Plain single) turns turns (lanes f) 118943 594400 594400 most (omega arith) (omega arith) (omega arith) (fits_one e) x x in
         record { allowed = y.allowed; bytes = (let b = y.bytes in omega (arith, b)) }
 
-    abbrev shift : ℕ
-    shift = shift_of (size_of_slot f.vars 0)
-
-    fits_boundary : (w : Bool) → has_whole_turns f ≡ w → (turns : Flow) → Fits 594400 (flat turns) → Fits 960000 (flat (from_boundary w shift (lanes f) single wide turns))
+    fits_boundary : (w : Bool) → has_whole_turns f ≡ w → (turns : Flow) → Fits 594400 (flat turns) → Fits 960000 (flat (from_boundary w (shift_of (size_of_slot f.vars 0)) (lanes f) single wide turns))
     fits_boundary true e turns x =
         let y = fits_tested (wide_loop (Plain wide)) turns (lanes f) 118955 594400 most (omega arith) (omega arith) (fits_wide 118943 (omega arith) wide fits_more) x in
         record { allowed = y.allowed; bytes = (let b = y.bytes in omega (arith, b)) }
     fits_boundary false e turns x =
-        let y = fits_aligned (Plain single) (wide_loop (Plain wide)) turns (lanes f) 118943 118955 594400 most (omega arith) (omega arith) (omega arith) (fits_one e) (fits_wide 118943 (omega arith) wide fits_more) x shift (shift_few (size_of_slot f.vars 0)) in
+        let y = fits_aligned (Plain single) (wide_loop (Plain wide)) turns (lanes f) 118943 118955 594400 most (omega arith) (omega arith) (omega arith) (fits_one e) (fits_wide 118943 (omega arith) wide fits_more) x (shift_of (size_of_slot f.vars 0)) (shift_few (size_of_slot f.vars 0)) in
         record { allowed = y.allowed; bytes = (let b = y.bytes in omega (arith, b)) }
 
-    go : (k q : Bool) → fills f ≡ k → Fits 960000 (flat (elements_flow k q (has_whole_turns f) shift (lanes f) b single wide aligned large))
-    go true true e = fits_first (has_whole_turns f) refl (turns_flow (lanes f) b large aligned) (fits_body aligned (fits_stored e))
-    go true false e = fits_boundary (has_whole_turns f) refl (turns_flow (lanes f) b large aligned) (fits_body aligned (fits_stored e))
-    go false q e = fits_first (has_whole_turns f) refl (turns_flow (lanes f) b large wide) (fits_body wide fits_more)
+    go : (k q : Bool) → fills f ≡ k → Fits 960000 (flat (elements_flow k q (has_whole_turns f) (shift_of (size_of_slot f.vars 0)) (lanes f) (blocks_of (length wide)) single wide aligned large))
+    go true true e = fits_first (has_whole_turns f) refl (turns_flow (lanes f) (blocks_of (length wide)) large aligned) (fits_body aligned (fits_stored e))
+    go true false e = fits_boundary (has_whole_turns f) refl (turns_flow (lanes f) (blocks_of (length wide)) large aligned) (fits_body aligned (fits_stored e))
+    go false q e = fits_first (has_whole_turns f) refl (turns_flow (lanes f) (blocks_of (length wide)) large wide) (fits_body wide fits_more)
 
 pub elements_few : {target : CodeTarget} (f : FunctionValue) → is_function f ≡ true → (at : List ℕ) (t : Tree) → IsElements f target at t → size (flat_of t) ≤ 960000
 elements_few f h at t (single, wide, aligned, large, turns, e) = (let b = (fits_elements f h at single wide aligned large turns).bytes in omega (arith, ap size e, b))

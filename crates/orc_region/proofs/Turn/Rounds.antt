@@ -222,7 +222,7 @@ module _ (n : ℕ) (base : ℕ → ℕ) (P : ℕ → Type 0) (numbers : Numbers)
 
     pub aligned_turns : (large : List Ins) → (1 < b → Turned lanes true b large) → IsRegion Q rsp stack_low n Place g by by_stack each some (turns_flow lanes b large aligned) lanes (AtSixteen k (base 0)) 4
     aligned_turns large is_large =
-        turns_are n base P numbers rsp p Emul F set rdi first Q stack_low framed Free calmly by by_stack each some lanes positive most (AtSixteen k (base 0)) (λ i t. subst (λ l. AtSixteen k (base 0) (l + i)) full (sixteen_on k small (base 0) i t)) (aligned_first true) aligns (λ i t e. absurd (true≢false (sym e))) aligned is_aligned b few large is_large
+        turns_are n base P numbers rsp p Emul F set rdi first Q stack_low framed Free calmly by by_stack each some lanes positive most (AtSixteen k (base 0)) (λ i t. subst (λ l. AtSixteen k (base 0) (l + i)) full (sixteen_on k small (base 0) i t)) (aligned_first true) aligns (λ i t e. absurd (true≢false e)) aligned is_aligned b few large is_large
 
     -- one element is no whole register
     pub narrow : 1 * p.size 0 ≡ 16 → ⊥

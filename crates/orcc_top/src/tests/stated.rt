@@ -78,14 +78,21 @@ fn image_with(alloc: Global, declared: &str) -> Result<Vec<u8>, AllocError> {
     Ok(run(alloc, &["asm"], text.as_slice())?.output)
 }
 
+/// Whether a word stands in a listing.
+fn has_word(listing: &[u8], word: &str) -> bool {
+    let Ok(text) = str::from_utf8(listing) else {
+        return false;
+    };
+    text.contains(word)
+}
+
 #[test]
 fn facts_drop_single_elements(rt: HostRuntime) -> Result<(), AllocError> {
     let alloc = rt.alloc();
     for (declared, most, singles) in BOUNDS {
         let mut input = image_with(alloc, declared)?;
         let listing = run(alloc, &["dis"], input.as_slice())?.output;
-        let listed = str::from_utf8(listing.as_slice()).is_ok_and(|text| text.contains("movzx"));
-        assert_eq!(rt; listed, singles, "{declared}");
+        assert_eq!(rt; has_word(listing.as_slice(), "movzx"), singles, "{declared}");
         input.extend_from_slice(b"{\"function\":\"add8\",\"n\":1600,\"m\":1,\"arrays\":[{\"base\":4096,\"stride\":0},{\"base\":8192,\"stride\":0},{\"base\":8192,\"stride\":0}],\"params\":[],\"memory\":[{\"at\":4096,\"bytes\":\"")?;
         for _ in 0..1600 {
             input.extend_from_slice(b"00")?;
