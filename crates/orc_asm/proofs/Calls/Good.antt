@@ -1,5 +1,5 @@
 -- There is a good call: one dest of one byte.
-use Rattle.std.proofs.Common.{codes, [], ◌∷◌, ◌≡◌, ℕ, ◌+◌, ◌*◌, ◌%◌, ◌^◌, ◌<◌, ◌≤◌, ◌==◌, nat_lt, Bool, false, if◌then◌else◌, List, length, Option, Some, None, refl, sym, ap, ◌∙◌, subst, arith, ◌⊎◌, inl, inr, ⊎_elim, lit<}
+use Rattle.std.proofs.Common.{codes, [], ◌∷◌, ◌≡◌, ℕ, ◌+◌, ◌*◌, ◌%◌, ◌^◌, ◌<◌, ◌≤◌, ◌==◌, nat_lt, Bool, true, false, if◌then◌else◌, List, length, Option, Some, None, refl, sym, ap, ◌∙◌, subst, arith, ◌⊎◌, inl, inr, ⊎_elim, lit<}
 use Rattle.std.proofs.lemmas.Bool.{cases_lt}
 use Rattle.orc_bits.specs.Lanes.{from_bytes}
 use Rattle.orc_bits.proofs.LaneLaws.{AreBytes-from_bytes, length-from_bytes}

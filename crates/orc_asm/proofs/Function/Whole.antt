@@ -170,7 +170,7 @@ module _ {target : Target} (f : FunctionValue) (h : is_function f ≡ true) (l :
       let subject = subject_of f in
       lift subject (steps f target) (fully subject) (both_lift (quiet subject) (wide_promise subject) (quiet_lifts subject) (wide_lifts subject)) (spell_all (with_return flow))
       (runs_with f known front elements behind (most_turn f target) (most_besides f) some short (λ s args. WideAt subject args) (λ code s args back good. own_wide f known code s args back good)
-      (λ code s args back good. subst (λ y. Parts f known code s args back good (WideAt (subject_of f) args) (first ++ sum_loads_code at (length y.acc_sizes.items)) elements (sum_stores_code at (length y.acc_sizes.items) ++ last) (regions_of (most_besides f) (turns f args.n) (most_turn f target)) ((subject_of f).turns args.n * some)) (sym x.layout)
+      (λ code s args back good. subst (λ y. Parts f known code s args back good (WideAt (subject_of f) args) (first ++ sum_loads_code at (length y.acc_sizes.items)) elements (sum_stores_code at (length y.acc_sizes.items) ++ last) (regions_of (most_besides f) ((subject_of f).turns args.n) (most_turn f target)) ((subject_of f).turns args.n * some)) (sym x.layout)
       (parts f h at single wide aligned large turns code s args back good first last (subst (λ y. Prepares y first) x.layout x.prepares) (subst (λ y. Finishes y last) x.layout x.finishes)))
       (fully subject)
       (λ s args way t q each counted. (q, wide_way subject s args way t each (λ R sees. subst (λ k. AtMost k R way) (bound args) (counted R sees))))
