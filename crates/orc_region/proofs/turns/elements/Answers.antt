@@ -16,7 +16,7 @@ pub returns-then-lanes-size-ne-REGISTER : goal.returns-then-lanes-size-ne-REGIST
 returns-then-lanes-size-ne-REGISTER c =
     let p : PlacedValue = record { core = c.args.core.now; places = c.args.places.now } in
     ok_map c.plain_loops.result _ _
-    (λ t e f are. plain_elements f p.places p.core.sizes p.core.steps (lowered f p c.args.layout.now are c.requires.places)
+    (λ t e f are. plain_elements c.args.target f p.places p.core.sizes p.core.steps (lowered f p c.args.layout.now are c.requires.places)
     c.core.inside.lanes (ap (λ (x : CoreValue). x.lanes) c.core.view_is ∙ are.lanes) (slice_index c.core.inside.sizes 0) (ap (λ (x : CoreValue). slice_index x.sizes 0) c.core.view_is)
     c.in_ok-tail.tail.list c.in_ok-wide.wide.list (c.in_ok-tail.ensures f are) (c.in_ok-wide.ensures f are) c.blocks_of-blocks.result (c.blocks_of-blocks.ensures.is ∙ ap blocks_of c.len.ensures)
     c.if-lanes-size-ne-REGISTER.true c.in_ok-turns.turns (c.in_ok-turns.ensures f are) t e)
@@ -26,7 +26,7 @@ pub returns : goal.returns
 returns c =
     let p : PlacedValue = record { core = c.args.core.now; places = c.args.places.now } in
     ok_map c.aligned_loops.result _ _
-    (λ t e f are. aligned_elements f p.places p.core.sizes p.core.steps (lowered f p c.args.layout.now are c.requires.places)
+    (λ t e f are. aligned_elements c.args.target f p.places p.core.sizes p.core.steps (lowered f p c.args.layout.now are c.requires.places)
     c.core.inside.lanes (ap (λ (x : CoreValue). x.lanes) c.core.view_is ∙ are.lanes) (slice_index c.core.inside.sizes 0) (ap (λ (x : CoreValue). slice_index x.sizes 0) c.core.view_is)
     c.in_ok-tail.tail.list c.in_ok-wide.wide.list (c.in_ok-tail.ensures f are) (c.in_ok-wide.ensures f are) c.blocks_of-blocks.result (c.blocks_of-blocks.ensures.is ∙ ap blocks_of c.len.ensures)
     c.if-lanes-size-ne-REGISTER.false
