@@ -180,9 +180,9 @@ module _ {target : Target} (f : FunctionValue) (h : is_function f ≡ true) (l :
       bound args = ap₂ (λ a b. a + rows_of (subject_of f) args * ((subject_of f).turns args.n * some) + b) first_free last_free
 
 -- as the bytes are built from the lists around the rows and the tree that does their elements
-pub whole_runs : {target : Target} (f : FunctionValue) → is_function f ≡ true → (l : Layout) (first last : List Ins) → Lists f l first last → (at : List ℕ) (tree : Tree) → IsElements f target at tree → (begins ends : List Ins) → begins ≡ first ++ sum_loads_code at (length l.acc_sizes.items) → ends ≡ sum_stores_code at (length l.acc_sizes.items) ++ last → (bytes : List ℕ) (two_d : Bool) (d s : ℕ) → two_d ≡ f.two_d → d ≡ count_of kind.Dest f.vars → s ≡ count_of kind.Source f.vars
+pub whole_runs : (target : Target) (f : FunctionValue) → is_function f ≡ true → (l : Layout) (first last : List Ins) → Lists f l first last → (at : List ℕ) (tree : Tree) → IsElements f target at tree → (begins ends : List Ins) → begins ≡ first ++ sum_loads_code at (length l.acc_sizes.items) → ends ≡ sum_stores_code at (length l.acc_sizes.items) ++ last → (bytes : List ℕ) (two_d : Bool) (d s : ℕ) → two_d ≡ f.two_d → d ≡ count_of kind.Dest f.vars → s ≡ count_of kind.Source f.vars
     → bytes ≡ spell_all (with_return (whole_flow begins (Plain (flat_of tree)) ends two_d d s)) → RunsFully f target bytes × HasCodeLength bytes
-whole_runs {target} f h l first last x at tree (single, wide, aligned, large, turns, t) begins ends p q bytes two_d d s a b c e =
+whole_runs target f h l first last x at tree (single, wide, aligned, large, turns, t) begins ends p q bytes two_d d s a b c e =
     let loads = first ++ sum_loads_code at (length l.acc_sizes.items) in
     let stores = sum_stores_code at (length l.acc_sizes.items) ++ last in
     let is : bytes ≡ spell_all (with_return (flow f h l first last x at single wide aligned large turns)) =

@@ -89,28 +89,28 @@ module _ (f : FunctionValue) (at sizes : List ℕ) (steps : List Step) (x : Lowe
         subst (λ y. All (IsReady y at (slice_index sizes) count) steps) (sym e)
         (ready_slices (layout_of f) count at (sizes_of f) sizes (steps_of f) steps x.sizes_are x.steps_are (ready_is f x.kept at good count several))
 
-    pub turn_of : {target : CodeTarget} (aligned : Bool) (b : ℕ) (list : List Ins) → IsTurnBy at sizes steps (used_from (slice_index sizes) 0 4) (used_from (slice_index sizes) 4 8) (span_of target count aligned) b list → IsTurnOf f target at count aligned b list
-    turn_of {target} aligned b list t =
+    pub turn_of : (target : CodeTarget) (aligned : Bool) (b : ℕ) (list : List Ins) → IsTurnBy at sizes steps (used_from (slice_index sizes) 0 4) (used_from (slice_index sizes) 4 8) (span_of target count aligned) b list → IsTurnOf f target at count aligned b list
+    turn_of target aligned b list t =
         let dests = used_from (slice_index sizes) 0 4 in
         let sources = used_from (slice_index sizes) 4 8 in
-        turn_is f x.kept at good count several aligned b list
+        turn_is f x.kept at good count several target aligned b list
         (subst (λ n. IsTurnBy at (sizes_of f) (steps_of f) (count_of kind.Dest f.vars) n (span_of target count aligned) b list) (used_sources f x.kept sizes x.sizes_are)
         (subst (λ n. IsTurnBy at (sizes_of f) (steps_of f) n sources (span_of target count aligned) b list) (used_dests f x.kept sizes x.sizes_are)
         (subst (λ xs. IsTurnBy at (sizes_of f) xs dests sources (span_of target count aligned) b list) x.steps_are
         (subst (λ xs. IsTurnBy at xs steps dests sources (span_of target count aligned) b list) x.sizes_are t))))
 
-    pub block_of : {target : CodeTarget} (aligned : Bool) (list : List Ins) → IsBlockBy at sizes steps (span_of target count aligned) list → IsBlock f target at count aligned list
-    block_of {target} aligned list t =
-        block_is f x.kept at good count several aligned list
+    pub block_of : (target : CodeTarget) (aligned : Bool) (list : List Ins) → IsBlockBy at sizes steps (span_of target count aligned) list → IsBlock f target at count aligned list
+    block_of target aligned list t =
+        block_is f x.kept at good count several aligned target list
         (subst (λ xs. IsBlockBy at (sizes_of f) xs (span_of target count aligned) list) x.steps_are
         (subst (λ xs. IsBlockBy at xs steps (span_of target count aligned) list) x.sizes_are t))
 
-    pub block_spelled_of : {target : CodeTarget} (aligned : Bool) (list : List Ins) → IsBlock f target at count aligned list → All (λ i. IsTrue (has_spelling i)) list
-    block_spelled_of aligned list t = block_spelled f x.kept at good count several aligned list t
+    pub block_spelled_of : (target : CodeTarget) (aligned : Bool) (list : List Ins) → IsBlock f target at count aligned list → All (λ i. IsTrue (has_spelling i)) list
+    block_spelled_of target aligned list t = block_spelled f x.kept at good count several aligned target list t
 
     -- with aligned stores where they were asked for and elements of the first dest fill a register
-    pub does_block : {target : CodeTarget} (aligned stored : Bool) → stored ≡ aligned && (count * slice_index sizes 0 == 16) → (list : List Ins) → IsBlock f target at count stored list → DoesElements f target at count aligned list
-    does_block aligned stored e list t = does_elements f x.kept at good count several aligned stored asked given list t
+    pub does_block : (target : CodeTarget) (aligned stored : Bool) → stored ≡ aligned && (count * slice_index sizes 0 == 16) → (list : List Ins) → IsBlock f target at count stored list → DoesElements f target at count aligned list
+    does_block target aligned stored e list t = does_elements target f x.kept at good count several aligned stored asked given list t
       where
         asked : stored ≡ true → (0 < count_of kind.Dest f.vars) × (count * size_of_slot f.vars 0 ≡ 16) × (aligned ≡ true)
         asked t =
@@ -124,8 +124,8 @@ module _ (f : FunctionValue) (at sizes : List ℕ) (steps : List Step) (x : Lowe
             let first : slice_index sizes 0 ≡ size_of_slot f.vars 0 = ap (λ xs. slice_index xs 0) x.sizes_are ∙ slot_sized f x.kept 0 (inl some) in
             e ∙ ap₂ (λ a k. a && k == 16) t (ap (λ s. count * s) first ∙ whole)
 
-    pub spelled_of : {target : CodeTarget} (aligned : Bool) (b : ℕ) → b ≤ 4 → (list : List Ins) → IsTurnOf f target at count aligned b list → All (λ i. IsTrue (has_spelling i)) list
-    spelled_of aligned b few list t = turn_spelled f x.kept at good count several aligned b (blocks_near count b several.most few) list t
+    pub spelled_of : (target : CodeTarget) (aligned : Bool) (b : ℕ) → b ≤ 4 → (list : List Ins) → IsTurnOf f target at count aligned b list → All (λ i. IsTrue (has_spelling i)) list
+    spelled_of target aligned b few list t = turn_spelled f x.kept at good count several target aligned b (blocks_near count b several.most few) list t
 
 -- ---- whole turns
 
@@ -133,9 +133,9 @@ one_or_more : (lanes b : ℕ) (large turn : List Ins) (t : Bool) → nat_lt 1 b 
 one_or_more lanes b large turn t e = ap (λ t. if t then wide_loops lanes (b * lanes) (Plain large) (Plain turn) else wide_loop (Plain turn)) e
 
 -- large ones, and then those of one block
-pub whole_of_many : {target : CodeTarget} (f : FunctionValue) (at : List ℕ) (aligned : Bool) (b : ℕ) → 1 ≤ b → b ≢ 1 → (n : ℕ) → n ≡ lanes f → (large turn : List Ins) → IsTurnOf f target at n aligned b large → (larges turns loop : Tree) → flat_of larges ≡ large → flat_of turns ≡ turn
+pub whole_of_many : (target : CodeTarget) (f : FunctionValue) (at : List ℕ) (aligned : Bool) (b : ℕ) → 1 ≤ b → b ≢ 1 → (n : ℕ) → n ≡ lanes f → (large turn : List Ins) → IsTurnOf f target at n aligned b large → (larges turns loop : Tree) → flat_of larges ≡ large → flat_of turns ≡ turn
     → flat_of loop ≡ flat (wide_loops n (b * n) (Plain (flat_of larges)) (Plain (flat_of turns))) → AreWholeTurns f target at aligned b turn (flat_of loop)
-whole_of_many {target} f at aligned b some more n n_is large turn is larges turns loop l t e =
+whole_of_many target f at aligned b some more n n_is large turn is larges turns loop l t e =
     let several : nat_lt 1 b ≡ true = lt-ltb 1 b (omega (arith, some, more)) in (
       large,
       λ z. subst (λ k. IsTurnOf f target at k aligned b large) n_is is,
@@ -174,7 +174,7 @@ flat_boundary : (w : Bool) (k l : ℕ) (single wide : List Ins) (turns : Flow) �
 flat_boundary true k l single wide turns = refl
 flat_boundary false k l single wide turns = refl
 
-module _ {target : CodeTarget} (f : FunctionValue) (at : List ℕ) (n : ℕ) (n_is : n ≡ lanes f) where
+module _ (target : CodeTarget) (f : FunctionValue) (at : List ℕ) (n : ℕ) (n_is : n ≡ lanes f) where
   pub whole_first : has_whole_turns f ≡ true → (turns t : Tree) → flat_of t ≡ flat (whole_row n (Plain (flat_of turns))) → AreFromFirst f target at (flat_of turns) (flat_of t)
   whole_first whole turns t e = (
     [],
@@ -218,7 +218,7 @@ module _ {target : CodeTarget} (f : FunctionValue) (at : List ℕ) (n : ℕ) (n_
 
 -- ---- the loops of a row
 
-module _ {target : CodeTarget} (f : FunctionValue) (at sizes : List ℕ) (steps : List Step) (x : Lowered f at sizes steps) (n : ℕ) (n_is : n ≡ lanes f) (first : ℕ) (first_is : first ≡ slice_index sizes 0) where
+module _ (target : CodeTarget) (f : FunctionValue) (at sizes : List ℕ) (steps : List Step) (x : Lowered f at sizes steps) (n : ℕ) (n_is : n ≡ lanes f) (first : ℕ) (first_is : first ≡ slice_index sizes 0) where
   abbrev size_first : ℕ
   size_first = size_of_slot f.vars 0
 
@@ -339,8 +339,8 @@ fits_elements {target} f h at single wide aligned large t = go (fills f) (begins
     fits_turn : (count : ℕ) → IsCount f count → (aligned : Bool) (b n : ℕ) → b ≤ 4 → 143 + b * 118800 ≤ n → (list : List Ins) → IsTurnOf f target at count aligned b list → Fits n list
     fits_turn count is_count aligned b n few room list x =
         let near = blocks_near count b is_count.most few in
-        let bytes = turn_size f h at t.good count is_count aligned b near list x in
-        record { allowed = all_allowed list (turn_fine f h at t.good count is_count aligned b near list x); bytes = omega (arith, bytes, room) }
+        let bytes = turn_size f h at t.good count is_count target aligned b near list x in
+        record { allowed = all_allowed list (turn_fine f h at t.good count is_count target aligned b near list x); bytes = omega (arith, bytes, room) }
 
     fits_one : has_whole_turns f ≡ false → Fits 118943 single
     fits_one e = fits_turn 1 (one_count f h) false 1 118943 (omega arith) (omega arith) single (t.one e)
@@ -374,5 +374,5 @@ fits_elements {target} f h at single wide aligned large t = go (fills f) (begins
     go true false e = fits_boundary (has_whole_turns f) refl (turns_flow (lanes f) (blocks_of (length wide)) large aligned) (fits_body aligned (fits_stored e))
     go false q e = fits_first (has_whole_turns f) refl (turns_flow (lanes f) (blocks_of (length wide)) large wide) (fits_body wide fits_more)
 
-pub elements_few : {target : CodeTarget} (f : FunctionValue) → is_function f ≡ true → (at : List ℕ) (t : Tree) → IsElements f target at t → size (flat_of t) ≤ 960000
-elements_few f h at t (single, wide, aligned, large, turns, e) = (let b = (fits_elements f h at single wide aligned large turns).bytes in omega (arith, ap size e, b))
+pub elements_few : (target : CodeTarget) (f : FunctionValue) → is_function f ≡ true → (at : List ℕ) (t : Tree) → IsElements f target at t → size (flat_of t) ≤ 960000
+elements_few target f h at t (single, wide, aligned, large, turns, e) = (let b = (fits_elements f h at single wide aligned large turns).bytes in omega (arith, ap size e, b))

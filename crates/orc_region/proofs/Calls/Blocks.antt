@@ -63,7 +63,7 @@ words_kept rsp sums a few w h = ⊎_elim (λ i. omega (arith, w.0, i.1, few)) (�
 pub words_frame : (rsp a : ℕ) → InWords rsp a → InFrame rsp a
 words_frame rsp a w = (omega (arith, w.0), omega (arith, w.1))
 
-module _ {target : CodeTarget} (f : FunctionValue) (is : is_function f ≡ true) (at : List ℕ) (places : GoodPlaces (steps_of f) at) (count : ℕ) (is_count : IsCount f count) (aligned stored : Bool)
+module _ (target : CodeTarget) (f : FunctionValue) (is : is_function f ≡ true) (at : List ℕ) (places : GoodPlaces (steps_of f) at) (count : ℕ) (is_count : IsCount f count) (aligned stored : Bool)
     (asked : stored ≡ true → IsDest f 0 × (count * size_of_slot f.vars 0 ≡ 16) × (aligned ≡ true)) (given : aligned ≡ true → count * size_of_slot f.vars 0 ≡ 16 → IsDest f 0 → stored ≡ true) (list : List Ins) (x : IsBlock f target at count stored list) where
   abbrev known : Arrays f
   known = arrays_known f is
@@ -89,7 +89,7 @@ module _ {target : CodeTarget} (f : FunctionValue) (is : is_function f ≡ true)
     plan = plan_with f x.0
 
     set : Setting args.n Base Slots (numbers f is known code s args back good at) low plan Emulates (InFrame low)
-    set = setting f is known code s args back good r row at places come.0 count x.0 x.1
+    set = setting f is known code s args back good r row target at places come.0 count x.0 x.1
 
     -- where the first dest may be stored a whole register at once by stores that aren't aligned
     abbrev Free : Type 0
@@ -187,8 +187,8 @@ module _ {target : CodeTarget} (f : FunctionValue) (is : is_function f ≡ true)
 
     made : (from : ℕ) → Stands code from list → Made from
     made from stands =
-        let y = block_steps args.n Base Slots (numbers f is known code s args back good at) low plan Emulates (InFrame low) set (s.core.gpr 7) c.memory count Free is_count.some (fit_actions f is at places count is_count x.0 x.1)
-        (far_by 0 fits) (aligned_first stored) (λ a b. (a, b)) 0 (λ k. refl) (ins_of_block f is at places count is_count stored x.0 x.1) i i (let z : i ≡ 0 + i = omega arith in z) (aligns stored refl) e.memory (totals_in f is known code s args back good at e c h) c within begins reached in
+        let y = block_steps args.n Base Slots (numbers f is known code s args back good at) low plan Emulates (InFrame low) set (s.core.gpr 7) c.memory count Free is_count.some (fit_actions f is at places count is_count target x.0 x.1)
+        (far_by 0 fits) (aligned_first stored) (λ a b. (a, b)) 0 (λ k. refl) (ins_of_block f is at places count is_count stored target x.0 x.1) i i (let z : i ≡ 0 + i = omega arith in z) (aligns stored refl) e.memory (totals_in f is known code s args back good at e c h) c within begins reached in
         let d = y.2 in
         let line : Line Here list c d = subst (λ l. Line Here l c d) (sym x.2) y.4 in
         let end = y.5 in
@@ -196,11 +196,11 @@ module _ {target : CodeTarget} (f : FunctionValue) (is : is_function f ≡ true)
         let emulated = y.3 in
         let t : State = state memory emulated.temps emulated.sums in
         let does : Does Way (Plain list) c list d = (line_map Here Way on_way list c d line, refl) in
-        let z = doing f code s args back good r i count Wanted c at (Plain list) (all_allowed list (block_fine f is at places count is_count stored list x)) from stands (cost_for f target) (subject_of f).operands list d does (record {
+        let z = doing f code s args back good r i count Wanted c at (Plain list) (all_allowed list (block_fine f is at places count is_count stored target list x)) from stands (cost_for f target) (subject_of f).operands list d does (record {
           e = t;
           come = (come.0, come.1, subst (λ n. row_of f (meant_call f args) r n come.0 ≡ Ok t) (more_elements i count) emulated.is);
-          short = block_few f is at places count is_count stored list x;
-          light = block_light f is at places count is_count stored list x by_pointer refl;
+          short = block_few f is at places count is_count stored target list x;
+          light = block_light f is at places count is_count stored target list x by_pointer refl;
           quiet = quietly d y.7;
           holds = holds_again f is known code s args back good at t d y.1 end.framed emulated.agrees end.calm.stack end.block end.agree (λ a m. does_keeps Way a (Plain list) c list d does (h.mapped a m)) end.bounded;
           words = λ a w. y.7 a (λ t. frame_cells a t (words_frame low a w)) (words_kept low (count_of kind.Accumulator f.vars) a known.few.accs w);

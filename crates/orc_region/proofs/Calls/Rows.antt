@@ -128,7 +128,7 @@ module _ {target : CodeTarget} (f : FunctionValue) (is : is_function f ≡ true)
       Emulates = Emul f is known code s args back good r row come.0
 
       set : (count : ℕ) (actions : List Action) → AreActions target at count (steps_of f) actions → Setting args.n Base Slots (numbers f is known code s args back good at) low (plan_with f actions) Emulates (InFrame low)
-      set count actions are = setting f is known code s args back good r row at x.good come.0 count actions are
+      set count actions are = setting f is known code s args back good r row target at x.good come.0 count actions are
 
       abbrev several : List Action
       several = x.more.1.1
@@ -239,15 +239,15 @@ module _ {target : CodeTarget} (f : FunctionValue) (is : is_function f ≡ true)
       turned : (count : ℕ) → IsCount f count → (aligned : Bool) (blocks : ℕ) → 0 < blocks → blocks ≤ 4 → (list : List Ins) → IsTurnOf f target at count aligned blocks list → Turned count aligned blocks list
       turned count is_count aligned blocks some_blocks few list t =
           let near = blocks_near count blocks is_count.most few in
-          let short = turn_few f is at x.good count is_count aligned blocks near list t in
+          let short = turn_few f is at x.good count is_count target aligned blocks near list t in
           let spread = many_short blocks (cost_for f target) (arrays_of f) some_blocks in
           record {
             turn = turns_map (AreActions target at count (steps_of f)) (Able args.n Base Slots (numbers f is known code s args back good at) low plan Emulates (InFrame low) count (aligned_first aligned)) count size (aligned_first aligned)
-                (λ actions are. record { set = set count actions are; fit = fit_actions f is at x.good count is_count actions are; known = ins_blocks f is at x.good count is_count actions are aligned })
+                (λ actions are. record { set = set count actions are; fit = fit_actions f is at x.good count is_count target actions are; known = ins_blocks f is at x.good count is_count target actions are aligned })
                 (count_of kind.Dest f.vars) (count_of kind.Source f.vars) blocks list t;
-            known = turn_ins f is at x.good count is_count aligned blocks near list t;
+            known = turn_ins f is at x.good count is_count target aligned blocks near list t;
             short = omega (arith, short, spread);
-            light = turn_light by_pointer refl f is at (stand_is f is at x.good) count is_count aligned blocks list t;
+            light = turn_light by_pointer refl f is at (stand_is f is at x.good) count is_count target aligned blocks list t;
           }
 
       one_is : has_whole_turns f ≡ false → Turned 1 false 1 single
@@ -376,5 +376,5 @@ module _ {target : CodeTarget} (f : FunctionValue) (is : is_function f ≡ true)
       (z.0, λ full reached alone. z.2 (full, reached, alone))
 
 -- as the tree is built
-pub does_tree : {target : CodeTarget} (f : FunctionValue) → is_function f ≡ true → (at : List ℕ) (tree : Tree) → IsElements f target at tree → DoesRow f target at (flat_of tree)
-does_tree {target} f is at tree (single, wide, aligned, large, turns, e) = subst (DoesRow f target at) (sym e) (does_flow f is at single wide aligned large turns)
+pub does_tree : (target : CodeTarget) (f : FunctionValue) → is_function f ≡ true → (at : List ℕ) (tree : Tree) → IsElements f target at tree → DoesRow f target at (flat_of tree)
+does_tree target f is at tree (single, wide, aligned, large, turns, e) = subst (DoesRow f target at) (sym e) (does_flow f is at single wide aligned large turns)

@@ -87,8 +87,8 @@ module _ (f : FunctionValue) (is : is_function f ≡ true) (known : Arrays f) (c
     abbrev pub Emul : State → ℕ → Memory → (ℕ → ℕ) → Type 0
     Emul = Reached f meant r
 
-    pub setting : {target : CodeTarget} (at : List ℕ) → GoodPlaces (steps_of f) at → (e : State) (count : ℕ) (actions : List Action) → AreActions target at count (steps_of f) actions → Setting args.n base Slot (numbers at) rsp (plan_with f actions) (Emul e) Frame
-    setting at places_are e count actions are = let stand = stand_is f is at places_are in record {
+    pub setting : (target : CodeTarget) (at : List ℕ) → GoodPlaces (steps_of f) at → (e : State) (count : ℕ) (actions : List Action) → AreActions target at count (steps_of f) actions → Setting args.n base Slot (numbers at) rsp (plan_with f actions) (Emul e) Frame
+    setting target at places_are e count actions are = let stand = stand_is f is at places_are in record {
       ground = record {
         separate = separate f known code s args back good r row;
         low = low f known code s args back good r row;
@@ -97,11 +97,11 @@ module _ (f : FunctionValue) (is : is_function f ≡ true) (known : Arrays f) (c
       };
       decided = decided f known code s args back good r row;
       slots = λ k h. h;
-      known = all_known f at meant args.n base Slot has known.few.dests is stand count actions are;
+      known = all_known f at meant args.n base Slot has known.few.dests target is stand count actions are;
       few_dests = known.few.dests;
       few_sources = known.few.sources;
       few = (arrays f known code s args back good).few;
-      emulates = reaches f meant r base size Slot (separate f known code s args back good r row) (low f known code s args back good r row) has cells (numbers at) (number_of f) (λ j. refl) (StandsIn at) actions ([], steps_of f) (nothing_stands at (steps_of f)) (all_meant f is at stand count actions are) e;
+      emulates = reaches f meant r base size Slot (separate f known code s args back good r row) (low f known code s args back good r row) has cells (numbers at) (number_of f) (λ j. refl) (StandsIn at) actions ([], steps_of f) (nothing_stands at (steps_of f)) (all_meant target f is at stand count actions are) e;
       apart = apart;
       changed = changed_frame at;
     }

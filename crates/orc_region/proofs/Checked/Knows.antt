@@ -136,18 +136,18 @@ module _ (f : FunctionValue) (at : List ℕ) where
         (are_read f at temps (steps_from f temps (insn ∷ rest)) insn.op insn.prefix insn.sources.items (sources_at f at temps insn) d.sources);
   }
 
-  meant_from : {target : CodeTarget} (count : ℕ) (temps : List ℕ) (insns : List Insn) (actions : List Action) → ArePlanned f at temps insns → AreActions target at count (steps_from f temps insns) actions → AreMeant (StandsIn at) f (number_of f) (temps, steps_from f temps insns) insns actions
-  meant_from count temps [] [] d is = tt
-  meant_from count temps [] (a ∷ rest) d is = absurd is
-  meant_from count temps (insn ∷ insns) [] d is = absurd is
-  meant_from count temps (insn ∷ insns) (a ∷ rest) d is =
-      ((temps ++ made_by f.vars insn, steps_from f (temps ++ made_by f.vars insn) insns), meant_one count temps insn insns a d.0 is.0, meant_from count (temps ++ made_by f.vars insn) insns rest d.1 is.1)
+  meant_from : (target : CodeTarget) (count : ℕ) (temps : List ℕ) (insns : List Insn) (actions : List Action) → ArePlanned f at temps insns → AreActions target at count (steps_from f temps insns) actions → AreMeant (StandsIn at) f (number_of f) (temps, steps_from f temps insns) insns actions
+  meant_from target count temps [] [] d is = tt
+  meant_from target count temps [] (a ∷ rest) d is = absurd is
+  meant_from target count temps (insn ∷ insns) [] d is = absurd is
+  meant_from target count temps (insn ∷ insns) (a ∷ rest) d is =
+      ((temps ++ made_by f.vars insn, steps_from f (temps ++ made_by f.vars insn) insns), meant_one count temps insn insns a d.0 is.0, meant_from target count (temps ++ made_by f.vars insn) insns rest d.1 is.1)
 
 -- a function's actions do what its instructions do, from the view before the first one, in which nothing stands (`nothing_stands`)
-pub all_meant : {target : CodeTarget} (f : FunctionValue) → is_function f ≡ true → (at : List ℕ) → AllPlaced f at → (count : ℕ) (actions : List Action) → AreActions target at count (steps_of f) actions
+pub all_meant : (target : CodeTarget) (f : FunctionValue) → is_function f ≡ true → (at : List ℕ) → AllPlaced f at → (count : ℕ) (actions : List Action) → AreActions target at count (steps_of f) actions
     → AreMeant (StandsIn at) f (number_of f) ([], steps_of f) f.insns actions
 unfolding steps_of
-all_meant f h at stand count actions is = meant_from f at count [] f.insns actions (are_planned f h at stand) is
+all_meant target f h at stand count actions is = meant_from f at target count [] f.insns actions (are_planned f h at stand) is
 
 -- ---- what a turn needs
 
@@ -302,17 +302,17 @@ module _ (f : FunctionValue) (at : List ℕ) (call : Call) (n : ℕ) (base : ℕ
       ap (live_targets live insn.op insn.prefix) (sym is.to) ∙ ap (λ k. live_targets live insn.op k a.to) (sym is.prefix) ∙ ap (λ o. live_targets live o a.prefix a.to) (sym is.op) in
       subst (AreSized f (StandsIn at there)) e s
 
-  known_from : {target : CodeTarget} (count : ℕ) (live : ℕ → ℕ) (temps : List ℕ) (insns : List Insn) (actions : List Action) → AreSized f (StandsIn at (temps, steps_from f temps insns)) live → ArePlanned f at temps insns → AreActions target at count (steps_from f temps insns) actions
+  known_from : (target : CodeTarget) (count : ℕ) (live : ℕ → ℕ) (temps : List ℕ) (insns : List Insn) (actions : List Action) → AreSized f (StandsIn at (temps, steps_from f temps insns)) live → ArePlanned f at temps insns → AreActions target at count (steps_from f temps insns) actions
       → AllKnown n base (size_of_slot f.vars) P Of live actions
-  known_from count live temps [] [] sizes d is = tt
-  known_from count live temps [] (a ∷ rest) sizes d is = absurd is
-  known_from count live temps (insn ∷ insns) [] sizes d is = absurd is
-  known_from count live temps (insn ∷ insns) (a ∷ rest) sizes d is =
-      (known_one count live temps insn insns a sizes d.0 is.0, known_from count (live_act live a) (temps ++ made_by f.vars insn) insns rest (sizes_on count live temps insn insns a sizes d.0 is.0) d.1 is.1)
+  known_from target count live temps [] [] sizes d is = tt
+  known_from target count live temps [] (a ∷ rest) sizes d is = absurd is
+  known_from target count live temps (insn ∷ insns) [] sizes d is = absurd is
+  known_from target count live temps (insn ∷ insns) (a ∷ rest) sizes d is =
+      (known_one count live temps insn insns a sizes d.0 is.0, known_from target count (live_act live a) (temps ++ made_by f.vars insn) insns rest (sizes_on count live temps insn insns a sizes d.0 is.0) d.1 is.1)
 
-  pub all_known : {target : CodeTarget} → is_function f ≡ true → AllPlaced f at → (count : ℕ) (actions : List Action) → AreActions target at count (steps_of f) actions → AllKnown n base (size_of_slot f.vars) P Of no_values actions
+  pub all_known : (target : CodeTarget) → is_function f ≡ true → AllPlaced f at → (count : ℕ) (actions : List Action) → AreActions target at count (steps_of f) actions → AllKnown n base (size_of_slot f.vars) P Of no_values actions
   unfolding steps_of
-  all_known h stand count actions is = known_from count no_values [] f.insns actions (λ x p s. absurd (nothing_stands at (steps_from f [] f.insns) x p s)) (are_planned f h at stand) is
+  all_known target h stand count actions is = known_from target count no_values [] f.insns actions (λ x p s. absurd (nothing_stands at (steps_from f [] f.insns) x p s)) (are_planned f h at stand) is
 
 -- ---- what the code needs
 
@@ -499,11 +499,11 @@ module _ (f : FunctionValue) (h : is_function f ≡ true) (at : List ℕ) (count
     rule = is.rule;
   }
 
-  movable_from : {target : CodeTarget} (temps : List ℕ) (insns : List Insn) (actions : List Action) → ArePlanned f at temps insns → AreActions target at count (steps_from f temps insns) actions → Each (IsMovable count (size_of_slot f.vars)) actions
-  movable_from temps [] [] d is = tt
-  movable_from temps [] (a ∷ rest) d is = absurd is
-  movable_from temps (insn ∷ insns) [] d is = absurd is
-  movable_from temps (insn ∷ insns) (a ∷ rest) d is = (movable_one temps insn insns a d.0 is.0, movable_from (temps ++ made_by f.vars insn) insns rest d.1 is.1)
+  movable_from : (target : CodeTarget) (temps : List ℕ) (insns : List Insn) (actions : List Action) → ArePlanned f at temps insns → AreActions target at count (steps_from f temps insns) actions → Each (IsMovable count (size_of_slot f.vars)) actions
+  movable_from target temps [] [] d is = tt
+  movable_from target temps [] (a ∷ rest) d is = absurd is
+  movable_from target temps (insn ∷ insns) [] d is = absurd is
+  movable_from target temps (insn ∷ insns) (a ∷ rest) d is = (movable_one temps insn insns a d.0 is.0, movable_from target (temps ++ made_by f.vars insn) insns rest d.1 is.1)
 
   fit_one : {target : CodeTarget} (temps : List ℕ) (insn : Insn) (rest : List Insn) (a : Action) → IsPlanned f at temps insn rest → FitsIn count insn → IsAction target at count (step_at f temps insn) a → IsFit count (size_of_slot f.vars) a
   fit_one temps insn rest a d fits is =
@@ -516,11 +516,11 @@ module _ (f : FunctionValue) (h : is_function f ≡ true) (at : List ℕ) (count
         known = ins_of (action_code count (size_of_slot f.vars) a) (fine_action count (size_of_slot f.vars) at_pointer unaligned (λ k. omega arith) a m);
       }
 
-  fit_from : {target : CodeTarget} (temps : List ℕ) (insns : List Insn) (actions : List Action) → ArePlanned f at temps insns → Each (FitsIn count) insns → AreActions target at count (steps_from f temps insns) actions → Each (IsFit count (size_of_slot f.vars)) actions
-  fit_from temps [] [] d fits is = tt
-  fit_from temps [] (a ∷ rest) d fits is = absurd is
-  fit_from temps (insn ∷ insns) [] d fits is = absurd is
-  fit_from temps (insn ∷ insns) (a ∷ rest) d fits is = (fit_one temps insn insns a d.0 fits.0 is.0, fit_from (temps ++ made_by f.vars insn) insns rest d.1 fits.1 is.1)
+  fit_from : (target : CodeTarget) (temps : List ℕ) (insns : List Insn) (actions : List Action) → ArePlanned f at temps insns → Each (FitsIn count) insns → AreActions target at count (steps_from f temps insns) actions → Each (IsFit count (size_of_slot f.vars)) actions
+  fit_from target temps [] [] d fits is = tt
+  fit_from target temps [] (a ∷ rest) d fits is = absurd is
+  fit_from target temps (insn ∷ insns) [] d fits is = absurd is
+  fit_from target temps (insn ∷ insns) (a ∷ rest) d fits is = (fit_one temps insn insns a d.0 fits.0 is.0, fit_from target (temps ++ made_by f.vars insn) insns rest d.1 fits.1 is.1)
 
   weight_within : {target : CodeTarget} (temps : List ℕ) (insn : Insn) (rest : List Insn) (a : Action) → IsPlanned f at temps insn rest → IsAction target at count (step_at f temps insn) a → weight a ≤ insn_cost target (spills f) f.vars insn
   weight_within {target} temps insn rest a d is =
@@ -529,11 +529,11 @@ module _ (f : FunctionValue) (h : is_function f ≡ true) (at : List ℕ) (count
       let class : class_for a.op target ≡ class_for insn.op target = ap (λ o. class_for o target) is.op in
       omega (arith, sources, results, class, is.few, (from_few temps insn rest d).cost, (to_few temps insn rest d).cost)
 
-  weights_from : {target : CodeTarget} (temps : List ℕ) (insns : List Insn) (actions : List Action) → ArePlanned f at temps insns → AreActions target at count (steps_from f temps insns) actions → weights actions ≤ sum_by (insn_cost target (spills f) f.vars) insns
-  weights_from temps [] [] d is = omega arith
-  weights_from temps [] (a ∷ rest) d is = absurd is
-  weights_from temps (insn ∷ insns) [] d is = absurd is
-  weights_from {target} temps (insn ∷ insns) (a ∷ rest) d is = omega (arith, weight_within temps insn insns a d.0 is.0, weights_from (temps ++ made_by f.vars insn) insns rest d.1 is.1, sum_by-cons (insn_cost target (spills f) f.vars) insn insns)
+  weights_from : (target : CodeTarget) (temps : List ℕ) (insns : List Insn) (actions : List Action) → ArePlanned f at temps insns → AreActions target at count (steps_from f temps insns) actions → weights actions ≤ sum_by (insn_cost target (spills f) f.vars) insns
+  weights_from target temps [] [] d is = omega arith
+  weights_from target temps [] (a ∷ rest) d is = absurd is
+  weights_from target temps (insn ∷ insns) [] d is = absurd is
+  weights_from target temps (insn ∷ insns) (a ∷ rest) d is = omega (arith, weight_within temps insn insns a d.0 is.0, weights_from target (temps ++ made_by f.vars insn) insns rest d.1 is.1, sum_by-cons (insn_cost target (spills f) f.vars) insn insns)
 
   -- ---- what is asked of a step whose code is to be given
 
@@ -557,31 +557,31 @@ module _ (f : FunctionValue) (h : is_function f ≡ true) (at : List ℕ) (count
     subst (Each (SameTo sizes (size_of_slot f.vars))) (sym is.to) (to_few temps insn rest d).same,
   )
 
-  same_from : {target : CodeTarget} (temps : List ℕ) (insns : List Insn) (actions : List Action) → ArePlanned f at temps insns → AreActions target at count (steps_from f temps insns) actions → Each (SameFor sizes (size_of_slot f.vars)) actions
-  same_from temps [] [] d is = tt
-  same_from temps [] (a ∷ rest) d is = absurd is
-  same_from temps (insn ∷ insns) [] d is = absurd is
-  same_from temps (insn ∷ insns) (a ∷ rest) d is = (same_one temps insn insns a d.0 is.0, same_from (temps ++ made_by f.vars insn) insns rest d.1 is.1)
+  same_from : (target : CodeTarget) (temps : List ℕ) (insns : List Insn) (actions : List Action) → ArePlanned f at temps insns → AreActions target at count (steps_from f temps insns) actions → Each (SameFor sizes (size_of_slot f.vars)) actions
+  same_from target temps [] [] d is = tt
+  same_from target temps [] (a ∷ rest) d is = absurd is
+  same_from target temps (insn ∷ insns) [] d is = absurd is
+  same_from target temps (insn ∷ insns) (a ∷ rest) d is = (same_one temps insn insns a d.0 is.0, same_from target (temps ++ made_by f.vars insn) insns rest d.1 is.1)
 
 -- ---- of a function's steps
 
 module _ (f : FunctionValue) (h : is_function f ≡ true) (at : List ℕ) (stand : AllPlaced f at) (count : ℕ) (is_count : IsCount f count) where
-  pub all_movable : {target : CodeTarget} (actions : List Action) → AreActions target at count (steps_of f) actions → Each (IsMovable count (size_of_slot f.vars)) actions
+  pub all_movable : (target : CodeTarget) (actions : List Action) → AreActions target at count (steps_of f) actions → Each (IsMovable count (size_of_slot f.vars)) actions
   unfolding steps_of
-  all_movable actions is = movable_from f h at count is_count [] f.insns actions (are_planned f h at stand) is
+  all_movable target actions is = movable_from f h at count is_count target [] f.insns actions (are_planned f h at stand) is
 
-  pub all_fit : {target : CodeTarget} (actions : List Action) → AreActions target at count (steps_of f) actions → Each (IsFit count (size_of_slot f.vars)) actions
+  pub all_fit : (target : CodeTarget) (actions : List Action) → AreActions target at count (steps_of f) actions → Each (IsFit count (size_of_slot f.vars)) actions
   unfolding steps_of
-  all_fit actions is = fit_from f h at count is_count [] f.insns actions (are_planned f h at stand) is_count.operands is
+  all_fit target actions is = fit_from f h at count is_count target [] f.insns actions (are_planned f h at stand) is_count.operands is
 
-  pub weights_within : {target : CodeTarget} (actions : List Action) → AreActions target at count (steps_of f) actions → weights actions ≤ cost_for f target
+  pub weights_within : (target : CodeTarget) (actions : List Action) → AreActions target at count (steps_of f) actions → weights actions ≤ cost_for f target
   unfolding steps_of
-  weights_within actions is = weights_from f h at count is_count [] f.insns actions (are_planned f h at stand) is
+  weights_within target actions is = weights_from f h at count is_count target [] f.insns actions (are_planned f h at stand) is
 
   pub all_ready : (k : ℕ) (d : Step) → k < length (steps_of f) → IsReady (layout_of f) at (slice_index (sizes_of f)) count (get_or (steps_of f) k d)
   unfolding steps_of
   all_ready k d l = ready_from f h at count is_count [] f.insns (are_planned f h at stand) is_count.operands k d l
 
-  pub all_same : {target : CodeTarget} (actions : List Action) → AreActions target at count (steps_of f) actions → Each (SameFor (slice_index (sizes_of f)) (size_of_slot f.vars)) actions
+  pub all_same : (target : CodeTarget) (actions : List Action) → AreActions target at count (steps_of f) actions → Each (SameFor (slice_index (sizes_of f)) (size_of_slot f.vars)) actions
   unfolding steps_of
-  all_same actions is = same_from f h at count is_count [] f.insns actions (are_planned f h at stand) is
+  all_same target actions is = same_from f h at count is_count target [] f.insns actions (are_planned f h at stand) is

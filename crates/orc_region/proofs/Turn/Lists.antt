@@ -91,26 +91,26 @@ module _ (f : FunctionValue) (h : is_function f ≡ true) (at : List ℕ) (good 
 
     -- ---- the lists are what the plan says
 
-    same_blocks : {target : CodeTarget} (aligned : Bool) (b : ℕ) (list : List Ins) → AreBlocks (Acts target) count steps (aligned_first aligned) b list → AreBlocks (Acts target) count slots (aligned_first aligned) b list
-    same_blocks aligned zero list x = x
-    same_blocks aligned (suc b) list x =
-        let block = same_actions steps slots count (far_by (b * count) steps) (far_by (b * count) slots) (aligned_first aligned) (λ k e. ap (λ n. b * count * n) e) x.1 (all_same f h at stand_is count is_count x.1 x.3) in
-        (x.0, x.1, same_blocks aligned b x.0 x.2, x.3, x.4 ∙ ap (λ (l : List Ins). x.0 ++ l) block)
+    same_blocks : (target : CodeTarget) (aligned : Bool) (b : ℕ) (list : List Ins) → AreBlocks (Acts target) count steps (aligned_first aligned) b list → AreBlocks (Acts target) count slots (aligned_first aligned) b list
+    same_blocks target aligned zero list x = x
+    same_blocks target aligned (suc b) list x =
+        let block = same_actions steps slots count (far_by (b * count) steps) (far_by (b * count) slots) (aligned_first aligned) (λ k e. ap (λ n. b * count * n) e) x.1 (all_same f h at stand_is count is_count target x.1 x.3) in
+        (x.0, x.1, same_blocks target aligned b x.0 x.2, x.3, x.4 ∙ ap (λ (l : List Ins). x.0 ++ l) block)
 
-    pub turn_is : {target : CodeTarget} (aligned : Bool) (b : ℕ) (list : List Ins) → IsTurnBy at (sizes_of f) (steps_of f) (count_of kind.Dest f.vars) (count_of kind.Source f.vars) (span_of target count aligned) b list → IsTurnOf f target at count aligned b list
-    turn_is aligned b list x = (x.0, same_blocks aligned b x.0 x.1, x.2 ∙ ap (λ (l : List Ins). x.0 ++ l) (same_moves (b * count)))
+    pub turn_is : (target : CodeTarget) (aligned : Bool) (b : ℕ) (list : List Ins) → IsTurnBy at (sizes_of f) (steps_of f) (count_of kind.Dest f.vars) (count_of kind.Source f.vars) (span_of target count aligned) b list → IsTurnOf f target at count aligned b list
+    turn_is target aligned b list x = (x.0, same_blocks target aligned b x.0 x.1, x.2 ∙ ap (λ (l : List Ins). x.0 ++ l) (same_moves (b * count)))
 
     -- ---- the plan by actions of the steps
 
-    module _ {target : CodeTarget} (actions : List Action) (is : AreActions target at count (steps_of f) actions) where
+    module _ (target : CodeTarget) (actions : List Action) (is : AreActions target at count (steps_of f) actions) where
       pub small_plan : Small count (plan_with f actions)
-      small_plan = small_with f h count is_count at actions (all_movable f h at stand_is count is_count actions is) is
+      small_plan = small_with f h count is_count target at actions (all_movable f h at stand_is count is_count target actions is) is
 
       pub weights_few : weights actions ≤ cost_for f target
-      weights_few = weights_within f h at stand_is count is_count actions is
+      weights_few = weights_within f h at stand_is count is_count target actions is
 
       pub fit_actions : Each (IsFit count (size_of_slot f.vars)) actions
-      fit_actions = all_fit f h at stand_is count is_count actions is
+      fit_actions = all_fit f h at stand_is count is_count target actions is
 
       -- the instructions of a block that is so many elements behind the pointers
       pub ins_blocks : (aligned : Bool) (first : ℕ) → first ≤ 64 → Each (λ a. Each IsIns (action_far_code count (size_of_slot f.vars) (far_by first (size_of_slot f.vars)) (aligned_first aligned) a)) actions
@@ -118,15 +118,15 @@ module _ (f : FunctionValue) (h : is_function f ≡ true) (at : List ℕ) (good 
 
     -- ---- turns of so many blocks
 
-    movable : {target : CodeTarget} (actions : List Action) → Acts target actions → Each (IsMovable count (size_of_slot f.vars)) actions
-    movable actions is = (small_plan actions is).actions
+    movable : (target : CodeTarget) (actions : List Action) → Acts target actions → Each (IsMovable count (size_of_slot f.vars)) actions
+    movable target actions is = (small_plan target actions is).actions
 
-    module _ {target : CodeTarget} (aligned : Bool) (b : ℕ) (near : b * count ≤ 64) (list : List Ins) (x : IsTurnOf f target at count aligned b list) where
+    module _ (target : CodeTarget) (aligned : Bool) (b : ℕ) (near : b * count ≤ 64) (list : List Ins) (x : IsTurnOf f target at count aligned b list) where
       few_slots : Limits f
       few_slots = limits f h
 
       pub turn_fine : Each IsFine list
-      turn_fine = fine_turn count (size_of_slot f.vars) (slot_size f h) (aligned_first aligned) (Acts target) movable dests sources few_slots.dests few_slots.sources b list near x
+      turn_fine = fine_turn count (size_of_slot f.vars) (slot_size f h) (aligned_first aligned) (Acts target) (movable target) dests sources few_slots.dests few_slots.sources b list near x
 
       pub turn_ins : Each IsIns list
       turn_ins = ins_of list turn_fine
@@ -135,9 +135,9 @@ module _ (f : FunctionValue) (h : is_function f ≡ true) (at : List ℕ) (good 
       turn_spelled = all_spelled list turn_fine
 
       pub turn_few : length list ≤ b * cost_for f target + (count_of kind.Dest f.vars + count_of kind.Source f.vars) + 1
-      turn_few = turn_count count (size_of_slot f.vars) (aligned_first aligned) (Acts target) movable (cost_for f target) weights_few dests sources b list x
+      turn_few = turn_count count (size_of_slot f.vars) (aligned_first aligned) (Acts target) (movable target) (cost_for f target) (weights_few target) dests sources b list x
 
       pub turn_size : size list ≤ 143 + b * 118800
       turn_size =
-          let n = turn_count count (size_of_slot f.vars) (aligned_first aligned) (Acts target) movable 10800 (λ actions is. weights_most count (plan_with f actions) (small_plan actions is)) dests sources b list x in
+          let n = turn_count count (size_of_slot f.vars) (aligned_first aligned) (Acts target) (movable target) 10800 (λ actions is. weights_most count (plan_with f actions) (small_plan target actions is)) dests sources b list x in
           omega (arith, size_within list turn_fine, n, few_slots.dests, few_slots.sources)

@@ -84,21 +84,21 @@ module _ (f : FunctionValue) (at : List ℕ) where
       let results = to_all insn.op insn.prefix insn.results.items (map (target_of at) (result_items f.vars (length temps) insn.results.items)) d.to in
       omega (arith, ap from_arrays is.sources, ap to_arrays is.to, sources, results)
 
-  arrays_from : {target : CodeTarget} (count : ℕ) (temps : List ℕ) (insns : List Insn) (actions : List Action) → ArePlanned f at temps insns → AreActions target at count (steps_after f.vars (patterns_in f) temps insns) actions → arrays_of actions ≤ sum_by (array_operands f.vars) insns
-  arrays_from count temps [] [] d is = omega arith
-  arrays_from count temps [] (a ∷ rest) d is = absurd is
-  arrays_from count temps (insn ∷ insns) [] d is = absurd is
-  arrays_from count temps (insn ∷ insns) (a ∷ rest) d is =
-      omega (arith, one_action count temps insn insns a d.0 is.0, arrays_from count (temps ++ made_by f.vars insn) insns rest d.1 is.1, sum_by-cons (array_operands f.vars) insn insns)
+  arrays_from : (target : CodeTarget) (count : ℕ) (temps : List ℕ) (insns : List Insn) (actions : List Action) → ArePlanned f at temps insns → AreActions target at count (steps_after f.vars (patterns_in f) temps insns) actions → arrays_of actions ≤ sum_by (array_operands f.vars) insns
+  arrays_from target count temps [] [] d is = omega arith
+  arrays_from target count temps [] (a ∷ rest) d is = absurd is
+  arrays_from target count temps (insn ∷ insns) [] d is = absurd is
+  arrays_from target count temps (insn ∷ insns) (a ∷ rest) d is =
+      omega (arith, one_action count temps insn insns a d.0 is.0, arrays_from target count (temps ++ made_by f.vars insn) insns rest d.1 is.1, sum_by-cons (array_operands f.vars) insn insns)
 
 -- the actions of a function's steps
-pub arrays_few : {target : CodeTarget} (f : FunctionValue) → is_function f ≡ true → (at : List ℕ) → AllPlaced f at → (count : ℕ) (actions : List Action) → AreActions target at count (steps_of f) actions → arrays_of actions ≤ (subject_of f).operands
+pub arrays_few : (target : CodeTarget) (f : FunctionValue) → is_function f ≡ true → (at : List ℕ) → AllPlaced f at → (count : ℕ) (actions : List Action) → AreActions target at count (steps_of f) actions → arrays_of actions ≤ (subject_of f).operands
 unfolding steps_of
-arrays_few f h at stand count actions is = arrays_from f at count [] f.insns actions (are_planned f h at stand) is
+arrays_few target f h at stand count actions is = arrays_from f at target count [] f.insns actions (are_planned f h at stand) is
 
 -- ---- turns
 
 -- a turn's instructions that go by some registers, of which RSP is none, are in each block at most as many as the function's operands that are arrays
 module _ (by : ℕ → Bool) (by_stack : by 4 ≡ false) (f : FunctionValue) (h : is_function f ≡ true) (at : List ℕ) (stand : AllPlaced f at) (count : ℕ) (is_count : IsCount f count) where
-  pub turn_light : {target : CodeTarget} (aligned : Bool) (b : ℕ) (list : List Ins) → IsTurnOf f target at count aligned b list → weigh (touch_weight by) list ≤ b * (subject_of f).operands
-  turn_light {target} aligned b list = turn_few by by_stack count (size_of_slot f.vars) (aligned_first aligned) (AreActions target at count (steps_of f)) (all_fit f h at stand count is_count) (subject_of f).operands (arrays_few f h at stand count) (count_of kind.Dest f.vars) (count_of kind.Source f.vars) b list
+  pub turn_light : (target : CodeTarget) (aligned : Bool) (b : ℕ) (list : List Ins) → IsTurnOf f target at count aligned b list → weigh (touch_weight by) list ≤ b * (subject_of f).operands
+  turn_light target aligned b list = turn_few by by_stack count (size_of_slot f.vars) (aligned_first aligned) (AreActions target at count (steps_of f)) (all_fit f h at stand count is_count target) (subject_of f).operands (arrays_few target f h at stand count) (count_of kind.Dest f.vars) (count_of kind.Source f.vars) b list

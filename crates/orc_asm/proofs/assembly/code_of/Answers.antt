@@ -22,7 +22,7 @@ row_flow-requires c = record {
 pub whole_code-requires-clause-few : goal.whole_code-requires-clause-few
 whole_code-requires-clause-few c =
     let are : AreOf c.args.f.now c.args.placed.now c.layout-layout.result = record { kept = c.counts_of-counts.ensures.kept; steps = c.requires.steps; sizes = c.requires.sizes; lanes = c.requires.lanes; layout = c.layout-layout.ensures.value } in
-    elements_few c.args.f.now c.counts_of-counts.ensures.kept c.args.placed.now.places _ (c.in_ok-elements.ensures.is c.args.f.now are)
+    elements_few c.args.target c.args.f.now c.counts_of-counts.ensures.kept c.args.placed.now.places _ (c.in_ok-elements.ensures.is c.args.f.now are)
 
 pub whole_code-requires-clause-first_spelled : goal.whole_code-requires-clause-first_spelled
 whole_code-requires-clause-first_spelled c = front_spelled c.args.f.now c.counts_of-counts.ensures.kept c.layout-layout.result c.layout-layout.ensures.value c.args.placed.now.places c.in_ok-first.first c.as_slice.result.now c.in_ok-first.ensures.allowed
@@ -40,7 +40,7 @@ elements_are c = c.in_ok-elements.ensures.is c.args.f.now (record { kept = c.cou
 runs : (c : After-whole_code) (code : List ℕ)
     → code ≡ spell_all (with_return (whole_flow c.as_slice.result.now (Plain (flat_of c.in_ok-elements.elements)) c.as_slice-2.result.now c.layout-layout.result.two_d c.counts_of-counts.result.dests c.counts_of-counts.result.sources))
     → RunsFully c.args.f.now c.args.target code × HasCodeLength code
-runs c code e = whole_runs c.args.f.now c.counts_of-counts.ensures.kept c.layout-layout.result c.in_ok-first.first c.in_ok-epilogue.field-0
+runs c code e = whole_runs c.args.target c.args.f.now c.counts_of-counts.ensures.kept c.layout-layout.result c.in_ok-first.first c.in_ok-epilogue.field-0
     (record {
       layout = c.layout-layout.ensures.value;
       prepares = c.in_ok-first.ensures.prepares;

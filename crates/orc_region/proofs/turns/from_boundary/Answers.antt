@@ -19,7 +19,7 @@ aligned_loops-requires-clause-lanes c = lanes_few c.requires.of.0 c.requires.of.
 pub returns-then-divides_each : goal.returns-then-divides_each
 returns-then-divides_each c =
     ok_map c.tested_loops.result _ _
-    (λ t e f are. whole_boundary f c.args.places.now c.core.inside.lanes (ap (λ (x : CoreValue). x.lanes) c.core.view_is ∙ are.lanes) c.args.wide.list c.plain.result c.in_ok-wide.wide c.plain.ensures c.in_ok-wide.ensures
+    (λ t e f are. whole_boundary c.args.target f c.args.places.now c.core.inside.lanes (ap (λ (x : CoreValue). x.lanes) c.core.view_is ∙ are.lanes) c.args.wide.list c.plain.result c.in_ok-wide.wide c.plain.ensures c.in_ok-wide.ensures
     (sym (whole_is f c.args.layout.now are.layout c.core.inside.lanes (ap (λ (x : CoreValue). x.lanes) c.core.view_is ∙ are.lanes)) ∙ sym c.divides_each.ensures ∙ c.if-divides_each.true) c.args.turns t e)
     c.tested_loops.ensures
 
@@ -27,12 +27,12 @@ pub returns : goal.returns
 returns c =
     let p : PlacedValue = record { core = c.args.core.now; places = c.args.places.now } in
     ok_map c.aligned_loops.result _ _
-    (λ t e f are. searched_boundary f c.args.places.now c.core.inside.lanes (ap (λ (x : CoreValue). x.lanes) c.core.view_is ∙ are.lanes) c.args.wide.list c.plain.result c.in_ok-wide.wide c.plain.ensures c.in_ok-wide.ensures
+    (λ t e f are. searched_boundary c.args.target f c.args.places.now c.core.inside.lanes (ap (λ (x : CoreValue). x.lanes) c.core.view_is ∙ are.lanes) c.args.wide.list c.plain.result c.in_ok-wide.wide c.plain.ensures c.in_ok-wide.ensures
     (sym (whole_is f c.args.layout.now are.layout c.core.inside.lanes (ap (λ (x : CoreValue). x.lanes) c.core.view_is ∙ are.lanes)) ∙ sym c.divides_each.ensures ∙ c.if-divides_each.false)
     c.in_ok-tail.tail.list c.in_ok-from_slice.field-0 (c.in_ok-tail.ensures f are) (c.in_ok-from_slice.ensures ∙ c.as_slice.ensures)
     c.shift_of-shift.result
     (c.shift_of-shift.ensures.is
-    ∙ shift_is f p.places p.core.sizes p.core.steps (lowered f p c.args.layout.now are c.requires.places) c.args.core.now.lanes are.lanes (slice_index c.core.inside.sizes 0) (ap (λ (x : CoreValue). slice_index x.sizes 0) c.core.view_is)
+    ∙ shift_is c.args.target f p.places p.core.sizes p.core.steps (lowered f p c.args.layout.now are c.requires.places) c.args.core.now.lanes are.lanes (slice_index c.core.inside.sizes 0) (ap (λ (x : CoreValue). slice_index x.sizes 0) c.core.view_is)
     (ap (λ (x : CoreValue). c.args.core.now.lanes * slice_index x.sizes 0) c.core.view_is ∙ c.requires.filled))
     c.args.turns t e)
     c.aligned_loops.ensures

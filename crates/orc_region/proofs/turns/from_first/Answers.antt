@@ -19,12 +19,12 @@ plain_loops-requires c = lanes_few c.requires.of.0 c.requires.of.1.kept c.core.i
 pub returns-then-divides_each : goal.returns-then-divides_each
 returns-then-divides_each c =
     ok_map c.whole_loops.result _ _
-    (λ t e f are. whole_first f c.args.places.now c.core.inside.lanes (ap (λ (x : CoreValue). x.lanes) c.core.view_is ∙ are.lanes) (sym (whole_is f c.args.layout.now are.layout c.core.inside.lanes (ap (λ (x : CoreValue). x.lanes) c.core.view_is ∙ are.lanes)) ∙ sym c.divides_each.ensures ∙ c.if-divides_each.true) c.args.turns t e)
+    (λ t e f are. whole_first c.args.target f c.args.places.now c.core.inside.lanes (ap (λ (x : CoreValue). x.lanes) c.core.view_is ∙ are.lanes) (sym (whole_is f c.args.layout.now are.layout c.core.inside.lanes (ap (λ (x : CoreValue). x.lanes) c.core.view_is ∙ are.lanes)) ∙ sym c.divides_each.ensures ∙ c.if-divides_each.true) c.args.turns t e)
     c.whole_loops.ensures
 
 pub returns : goal.returns
 returns c =
     ok_map c.plain_loops.result _ _
-    (λ t e f are. plain_first f c.args.places.now c.core.inside.lanes (ap (λ (x : CoreValue). x.lanes) c.core.view_is ∙ are.lanes) (sym (whole_is f c.args.layout.now are.layout c.core.inside.lanes (ap (λ (x : CoreValue). x.lanes) c.core.view_is ∙ are.lanes)) ∙ sym c.divides_each.ensures ∙ c.if-divides_each.false)
+    (λ t e f are. plain_first c.args.target f c.args.places.now c.core.inside.lanes (ap (λ (x : CoreValue). x.lanes) c.core.view_is ∙ are.lanes) (sym (whole_is f c.args.layout.now are.layout c.core.inside.lanes (ap (λ (x : CoreValue). x.lanes) c.core.view_is ∙ are.lanes)) ∙ sym c.divides_each.ensures ∙ c.if-divides_each.false)
     c.in_ok-single.single.list (c.in_ok-single.ensures f are) c.args.turns t e)
     c.plain_loops.ensures

@@ -14,5 +14,5 @@ returns c =
     (λ b e f are.
     let here = subst (λ p. AreOf f p c.args.l.now) (sym same) are in
     subst (λ at. DoesElements f c.args.target at c.args.count c.args.aligned b.list) (ap (λ (p : PlacedValue). p.places) same)
-    (does_block f c.as_slice.result.now c.p.inside.core.sizes c.p.inside.core.steps (lowered f (place c.as_slice.result.now) c.args.l.now here good) c.args.count (count_by f c.args.p.now c.args.l.now are c.args.count c.requires.count) c.args.aligned _ (ap (λ t. c.args.aligned && t) c.fills.ensures) b.list (e f here)))
+    (does_block f c.as_slice.result.now c.p.inside.core.sizes c.p.inside.core.steps (lowered f (place c.as_slice.result.now) c.args.l.now here good) c.args.count (count_by f c.args.p.now c.args.l.now are c.args.count c.requires.count) c.args.target c.args.aligned _ (ap (λ t. c.args.aligned && t) c.fills.ensures) b.list (e f here)))
     c.block.ensures

@@ -10,4 +10,4 @@ pub returns-clause-does : goal.returns-clause-does
 returns-clause-does c =
     let place : List ℕ → PlacedValue = λ xs. record { core = c.p.inside.core; places = xs } in
     let same : place c.as_slice.result.now ≡ c.args.p.now = ap place c.as_slice.ensures.value ∙ c.p.view_is in
-    ok_map c.elements.result _ _ (λ t e f are. subst (λ at. DoesRow f c.args.target at (flat_of t)) (ap (λ (p : PlacedValue). p.places) same) (does_tree f are.kept c.as_slice.result.now t (e f (subst (λ p. AreOf f p c.args.l.now) (sym same) are)))) c.elements.ensures
+    ok_map c.elements.result _ _ (λ t e f are. subst (λ at. DoesRow f c.args.target at (flat_of t)) (ap (λ (p : PlacedValue). p.places) same) (does_tree c.args.target f are.kept c.as_slice.result.now t (e f (subst (λ p. AreOf f p c.args.l.now) (sym same) are)))) c.elements.ensures
