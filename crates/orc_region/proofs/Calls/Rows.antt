@@ -328,8 +328,8 @@ module _ {target : CodeTarget} (f : FunctionValue) (is : is_function f ≡ true)
           c place_first counter in
           (z.0, z.1, z.2, z.3, roomy z.0 19 19 (turns f args.n) (3 + (2 + each)) (2 + most_turn f target) (omega arith) (omega arith) z.4, z.5)
 
-      by_facts : (full begins : Bool) → fills f ≡ full → begins_aligned f ≡ begins → Goes (elements_flow full begins (has_whole_turns f) (shift_of (size 0)) (lanes f) b single wide aligned large) (besides_of full)
-      by_facts false begins e q = plain e
+      by_facts : (full first_at_16 : Bool) → fills f ≡ full → begins_aligned f ≡ first_at_16 → Goes (elements_flow full first_at_16 (has_whole_turns f) (shift_of (size 0)) (lanes f) b single wide aligned large) (besides_of full)
+      by_facts false first_at_16 e q = plain e
       by_facts true true e q = begun e q
       by_facts true false e q = searched e q
 

@@ -92,8 +92,14 @@ fn facts_drop_single_elements(rt: HostRuntime) -> Result<(), AllocError> {
     for (declared, most, singles) in BOUNDS {
         let mut input = image_with(alloc, declared)?;
         let listing = run(alloc, &["dis"], input.as_slice())?.output;
-        assert_eq!(rt; has_word(listing.as_slice(), "movzx"), singles, "{declared}");
-        input.extend_from_slice(b"{\"function\":\"add8\",\"n\":1600,\"m\":1,\"arrays\":[{\"base\":4096,\"stride\":0},{\"base\":8192,\"stride\":0},{\"base\":8192,\"stride\":0}],\"params\":[],\"memory\":[{\"at\":4096,\"bytes\":\"")?;
+        assert_eq!(rt;
+            has_word(listing.as_slice(), "movzx"),
+            singles,
+            "{declared}"
+        );
+        input.extend_from_slice(
+            b"{\"function\":\"add8\",\"n\":1600,\"m\":1,\"arrays\":[{\"base\":4096,\"stride\":0},{\"base\":8192,\"stride\":0},{\"base\":8192,\"stride\":0}],\"params\":[],\"memory\":[{\"at\":4096,\"bytes\":\"",
+        )?;
         for _ in 0..1600 {
             input.extend_from_slice(b"00")?;
         }
@@ -103,7 +109,10 @@ fn facts_drop_single_elements(rt: HostRuntime) -> Result<(), AllocError> {
         }
         input.extend_from_slice(b"\"}],\"budget\":100000}")?;
         let ran = run(alloc, &["run"], input.as_slice())?;
-        assert!(rt; has_at_most(ran.output.as_slice(), "end returned ", most), "{declared}");
+        assert!(rt;
+            has_at_most(ran.output.as_slice(), "end returned ", most),
+            "{declared}"
+        );
     }
     Ok(())
 }

@@ -1,4 +1,4 @@
-use Rattle.std.proofs.Common.{◌≡◌, ◌*◌, ◌∙◌, ap, ap₂, sym, slice_index}
+use Rattle.std.proofs.Common.{◌*◌, ◌∙◌, ap, sym, slice_index}
 use Rattle.orc_plan.specs.Core.{CoreValue}
 use Rattle.orc_plan.specs.Places.{PlacedValue}
 use Rattle.orc_frame.proofs.Counted.{ok_map}

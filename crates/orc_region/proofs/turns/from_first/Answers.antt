@@ -1,7 +1,5 @@
-use Rattle.std.proofs.Common.{◌≡◌, ◌<◌, ◌∙◌, ap, sym, subst, slice_index}
+use Rattle.std.proofs.Common.{◌<◌, ◌∙◌, ap, sym, subst}
 use Rattle.orc_plan.specs.Core.{CoreValue}
-use Rattle.orc_plan.specs.Places.{PlacedValue}
-use Rattle.orc_program.specs.Need.{lanes}
 use Rattle.orc_frame.proofs.Counted.{ok_map}
 use Rattle.orc_region.proofs.Checked.Several.{lanes_count}
 use Rattle.orc_region.proofs.Built.Turns.{lanes_few, whole_is, whole_first, plain_first}
