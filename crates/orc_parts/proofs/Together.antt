@@ -38,7 +38,7 @@ use Rattle.orc_parts.specs.DrawnParts.{part_steps, EndsAsOne}
 use Rattle.orc_parts.proofs.Dests.{stride_small, dest_by_slot, dest_by_variable}
 
 -- numbers that are there or not are equal where they can't differ
-stable : (x y : Option ℕ) → ((x ≡ y → ⊥) → ⊥) → x ≡ y
+pub stable : (x y : Option ℕ) → ((x ≡ y → ⊥) → ⊥) → x ≡ y
 stable None None h = refl
 stable None (Some y) h = absurd (h none_some)
 stable (Some x) None h = absurd (h (λ e. none_some (sym e)))
@@ -109,13 +109,13 @@ module _ {target : Target} (f : FunctionValue) (kept : is_function f ≡ true) (
   own_of k a (inr (inl x)) = inr (inl (sums_in_block k a x))
   own_of k a (inr (inr x)) = inr (inr (inr x))
 
-  cell_mapped : (k : ℕ) → k < n → (a : ℕ) → IsCell f (call_with f (s.words k)) a → IsMapped (s.own k) a
+  pub cell_mapped : (k : ℕ) → k < n → (a : ℕ) → IsCell f (call_with f (s.words k)) a → IsMapped (s.own k) a
   cell_mapped k l a c = subst (IsMapped (s.own k)) (sym c.5) ((s.begins k l).good.arrays.mapped c.0 c.1 c.2 c.3 c.4)
 
   dest_cell : (k : ℕ) → k < n → (a : ℕ) → InDests F (s.words k) a → IsDestCell f (call_with f (s.words k)) a
   dest_cell k l a d = dest_by_variable f few (s.words k) (strides k l) a d
 
-  cell_of : (k a : ℕ) → IsDestCell f (call_with f (s.words k)) a → IsCell f (call_with f (s.words k)) a
+  pub cell_of : (k a : ℕ) → IsDestCell f (call_with f (s.words k)) a → IsCell f (call_with f (s.words k)) a
   cell_of k a d = (d.0, d.1, d.2, d.3, d.4.byte, d.4.here)
 
   written_mapped : (k : ℕ) → k < n → (a : ℕ) → W k a → IsMapped (s.own k) a
@@ -162,7 +162,7 @@ module _ {target : Target} (f : FunctionValue) (kept : is_function f ≡ true) (
   abbrev part : ℕ → Call
   part k = call_with f (s.words k)
 
-  cut : IsCut f call n (rect_at rects) part
+  pub cut : IsCut f call n (rect_at rects) part
   cut = record {
     cuts = s.cuts;
     parts = s.parts;
@@ -170,7 +170,7 @@ module _ {target : Target} (f : FunctionValue) (kept : is_function f ≡ true) (
         s.separate j k lj lk ne a (inl (dest_by_slot f few (s.words j) (strides j lj) a p r i b d)) (cell_mapped k lk a (q, r2, i2, b2, c, e));
   }
 
-  common : (k : ℕ) → k < n → (a : ℕ) → IsCell f (part k) a → (s.own k a ≡ w.memory a) × IsMapped w.memory a
+  pub common : (k : ℕ) → k < n → (a : ℕ) → IsCell f (part k) a → (s.own k a ≡ w.memory a) × IsMapped w.memory a
   common k l a c =
       let x = mapped_value (s.own k) a (cell_mapped k l a c) in
       let there = (s.begins k l).within a x.0 x.1 in

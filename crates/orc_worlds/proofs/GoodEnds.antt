@@ -37,7 +37,8 @@ use Rattle.orc_worlds.proofs.Leaving.{first_covers, one_more_keeps}
 use Rattle.orc_worlds.specs.Placement.{code_at, block_at, return_to, start, placed_code, stop}
 use Rattle.orc_worlds.specs.Whole.{words_of}
 use Rattle.orc_worlds.specs.GoodJobs.{IsCodeOf, IsGoodJob, IsDone, GoodJobsReturn}
-use Rattle.orc_worlds.proofs.GoodPlaced.{call_same, good, segment_mapped, segment_same, in_segments}
+use Rattle.orc_worlds.proofs.Behind.{in_segments}
+use Rattle.orc_worlds.proofs.GoodPlaced.{call_same, good, segment_mapped, segment_same}
 
 -- ---- emulation on the segments alone, and with more bytes mapped
 

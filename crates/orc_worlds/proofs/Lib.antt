@@ -1,4 +1,7 @@
 pub mod BlockWords
+pub mod Behind
+pub mod Own
+pub mod Calls
 pub mod GoodPlaced
 pub mod GoodEnds
 pub mod Padding
@@ -9,3 +12,7 @@ pub mod Keeping
 pub mod Placed
 pub mod Wholly
 pub mod Meet
+pub mod PartBytes
+pub mod CellTest
+pub mod Separate
+pub mod Copied

@@ -62,13 +62,14 @@ pub record Placing (f : FunctionValue) (job : Job) (sizes : List ℕ) (workers :
   pub parts : placed ≡ job.memory ++ first_own f.dests (call_of_part f job sizes workers) k
   pub runners : map stand_of standing ≡ first_stands f k
   pub signed : 0 < k → AreSigned job.call.arrays.items
+  pub few : 0 < k → length job.call.params.items ≤ 8
 
 pub none_placed : (f : FunctionValue) (job : Job) (sizes : List ℕ) (workers : ℕ) (parts : List Part) → parts ≡ job.memory → Placing f job sizes workers parts [] 0
-none_placed f job sizes workers parts e = record { parts = e ∙ sym (nil_after job.memory); runners = refl; signed = λ l. absurd (omega (arith, l)) }
+none_placed f job sizes workers parts e = record { parts = e ∙ sym (nil_after job.memory); runners = refl; signed = λ l. absurd (omega (arith, l)); few = λ l. absurd (omega (arith, l)) }
 
 pub one_placed : (f : FunctionValue) (job : Job) (sizes : List ℕ) (workers k : ℕ) (parts now : List Part) (runners then : List Runner) (call : Call) (r : Runner) → Placing f job sizes workers parts runners k
-    → call ≡ call_of_part f job sizes workers k → AreSigned job.call.arrays.items → now ≡ parts ++ own_parts f.dests call k → stand_of r ≡ part_stand f k → then ≡ runners ++ r ∷ [] → Placing f job sizes workers now then (k + 1)
-one_placed f job sizes workers k parts now runners then call r h is fits e q t =
+    → call ≡ call_of_part f job sizes workers k → AreSigned job.call.arrays.items → length job.call.params.items ≤ 8 → now ≡ parts ++ own_parts f.dests call k → stand_of r ≡ part_stand f k → then ≡ runners ++ r ∷ [] → Placing f job sizes workers now then (k + 1)
+one_placed f job sizes workers k parts now runners then call r h is fits few e q t =
     let s : suc k ≡ k + 1 = omega arith in
     let calls = call_of_part f job sizes workers in
     record {
@@ -76,6 +77,7 @@ one_placed f job sizes workers k parts now runners then call r h is fits e q t =
           ∙ append_assoc job.memory (first_own f.dests calls k) (own_parts f.dests (calls k) k) ∙ ap (λ n. job.memory ++ first_own f.dests calls n) s;
       runners = ap (map stand_of) t ∙ map-append stand_of runners (r ∷ []) ∙ stands_more f (map stand_of runners) k (stand_of r) h.runners q;
       signed = λ l. fits;
+      few = λ l. few;
     }
 
 pub all_placed : (f : FunctionValue) (job : Job) (sizes : List ℕ) (workers k : ℕ) (placed : List Part) (standing : List Runner) (w : World) → Placing f job sizes workers placed standing k → workers ≤ k → k ≤ workers

@@ -1,22 +1,19 @@
 -- Separate parts of a job do the whole call.
-use Rattle.std.proofs.Common.{◌≡◌, ℕ, zero, suc, ◌+◌, ◌-◌, ◌*◌, ◌%◌, ◌^◌, ◌<◌, ◌≤◌, nat_lt, Bool, true, false, if◌then◌else◌, List, [], ◌∷◌, length, map, drop, get_or, slice_index, slice_index_or, refl, sym, ap, ap₂, ◌∙◌, subst, arith, ◌⊎◌, inl, inr, ⊎_elim}
+use Rattle.std.proofs.Common.{◌≡◌, ℕ, zero, suc, ◌+◌, ◌-◌, ◌*◌, ◌%◌, ◌^◌, ◌<◌, ◌≤◌, nat_lt, Bool, true, false, if◌then◌else◌, List, [], ◌∷◌, length, map, get_or, slice_index, slice_index_or, refl, sym, ap, ap₂, ◌∙◌, subst, arith, ◌⊎◌, inl, inr, ⊎_elim}
 use Rattle.std.specs.Int.{w64, cast_unsigned}
 use Rattle.std.specs.Int.RustNames.{FitsSigned}
-use Rattle.std.specs.List.{range_with_len, list_all, AllByRecursion}
+use Rattle.std.specs.List.{range_with_len}
 use Rattle.std.proofs.lemmas.Bool.{cases_lt, lt-ltb, le-ltb, true≢false}
-use Rattle.std.proofs.lemmas.Bool.Decides.{nat_tests}
 use Rattle.std.proofs.lemmas.Int.{to_z-of_z}
 use Rattle.std.proofs.lemmas.List.{get_or-map, get_or_past, length-map}
 use Rattle.std.proofs.lemmas.List.FromFn.{get_or-map-range_with_len, length-map-range_with_len}
-use Rattle.orc_bits.specs.declared.parts.Part.{Part}
 use Rattle.orc_bits.specs.Memory.{Memory, word}
-use Rattle.orc_bits.specs.Parts.{Span, span, layout}
-use Rattle.orc_ops.specs.declared.target.Target.{Target}
 use Rattle.orc_program.specs.declared.program.Var.{Var}
 use Rattle.orc_program.specs.declared.program.VarKind.{VarKind}
 use Rattle.orc_program.specs.declared.program.VarKind.TheVariants as kind
 use Rattle.orc_program.specs.declared.call.Place.{Place}
 use Rattle.orc_program.specs.declared.rect.Rect.{Rect}
+use Rattle.orc_ops.specs.declared.target.Target.{Target}
 use Rattle.orc_program.specs.Program.{FunctionValue, var_at, is_of, same_kind, is_array, is_array_kind, no_var, count_of, count_before, array_number, places_of}
 use Rattle.orc_program.specs.Meaning.{no_place, place_at, param_at, rows, rows_of, start, sums_of}
 use Rattle.orc_program.specs.Meaning.{ended as ended_call}
@@ -37,7 +34,6 @@ use Rattle.orc_asm.specs.RunsAs.{stop}
 use Rattle.orc_region.proofs.Checked.Slots.{Limits, limits, slot_is}
 use Rattle.orc_image.specs.Spelling as image
 use Rattle.orc_job.specs.declared.job.Job.{Job}
-use Rattle.orc_job.specs.Forms.{is_within}
 use Rattle.orc_job.specs.Kept.{IsJob}
 use Rattle.orc_jobs.specs.World.{Stand, Shared, stand_at, no_stand, on}
 use Rattle.orc_jobs.proofs.Draws.{plays_drawn}
@@ -47,12 +43,29 @@ use Rattle.orc_parts.specs.DrawnParts.{part_steps, EndsAsOne}
 use Rattle.orc_parts.proofs.EvenCuts.{even_cuts}
 use Rattle.orc_parts.proofs.Together.{drawn_as_one}
 use Rattle.orc_worlds.specs.declared.playing.Played.{Played}
-use Rattle.orc_worlds.specs.Now.{IsPartOf}
 use Rattle.orc_worlds.specs.Placement.{return_to}
 use Rattle.orc_worlds.specs.Worlds.{moved_place, moved_places, AreSigned, call_of_part, part_stand, placed_world}
 use Rattle.orc_worlds.specs.Played.{or_zero, part_sum, PlayedOut}
 use Rattle.orc_worlds.specs.Whole.{IsCompiled, place_of_slot, words_of_part, AreSeparate, steps_of_part, IsWhole, DoesWhole}
 use Rattle.orc_worlds.proofs.Started.{stands_count, placed_stand}
+use Rattle.orc_worlds.proofs.Placed.{moved_count}
+use Rattle.orc_worlds.proofs.Behind.{in_segments, more_behind, none_before}
+use Rattle.orc_worlds.proofs.Own.{InOwn, block_long, in_own, first_found}
+use Rattle.orc_worlds.proofs.GoodEnds.{now_left}
+use Rattle.std.proofs.Common.{◌≢◌, Option, Some, None, is_some, Ok}
+use Rattle.std.proofs.lemmas.Bool.{cases_eq}
+use Rattle.orc_bits.specs.Memory.{IsMapped}
+use Rattle.orc_bits.specs.Parts.{memory_of}
+use Rattle.orc_bits.proofs.Memories.{mapped_value}
+use Rattle.orc_program.specs.declared.call.Call.{Call}
+use Rattle.orc_program.specs.Meaning.{emulate}
+use Rattle.orc_program.specs.Cut.{IsCell, IsDestCell, AddsUp}
+use Rattle.orc_program.proofs.Cutting.{parts_add_up}
+use Rattle.orc_frame.specs.Parts.{block_size}
+use Rattle.orc_frame.specs.Function.{IsCellByte}
+use Rattle.orc_parts.proofs.Together.{stable, cut, common, cell_of, cell_mapped}
+use Rattle.orc_worlds.specs.Placement.{block_bytes}
+use Rattle.orc_worlds.specs.Worlds.{first_own}
 
 -- ---- moved arrays
 
@@ -81,7 +94,7 @@ total_same (suc n) g h e = ap₂ (λ x y. x + y) (total_same n g h (λ k l. e k 
 -- ---- the parts
 
 module _ {target : Target} (f : FunctionValue) (entry : image.FunctionValue) (job : Job) (sizes : List ℕ) (workers : ℕ) (c : IsCompiled f target entry sizes)
-    (signed : AreSigned job.call.arrays.items) (arrays : length job.call.arrays.items ≡ entry.dests + entry.sources) (sized : length sizes ≡ length job.call.arrays.items) where
+    (signed : AreSigned job.call.arrays.items) (arrays : length job.call.arrays.items ≡ entry.dests + entry.sources) (sized : length sizes ≡ length job.call.arrays.items) (numbers : length job.call.params.items ≤ 8) where
   few : Limits f
   few = limits f c.kept
 
@@ -91,7 +104,7 @@ module _ {target : Target} (f : FunctionValue) (entry : image.FunctionValue) (jo
   abbrev words : ℕ → Arguments
   words k = words_of_part entry job sizes workers k
 
-  rect_same : (k : ℕ) → even_part entry.two_d job.call workers k ≡ rect k
+  pub rect_same : (k : ℕ) → even_part entry.two_d job.call workers k ≡ rect k
   rect_same k = ap (λ b. even_part b job.call workers k) c.two_d
 
   -- the place in a job's arrays of a slot
@@ -161,7 +174,7 @@ module _ {target : Target} (f : FunctionValue) (entry : image.FunctionValue) (jo
       go true e = ap (λ b. if b then (words k).m else 1) e ∙ ap (λ (q : Rect). q.rows) (rect_same k)
       go false e = ap (λ b. if b then (words k).m else 1) e ∙ sym (ap (λ b. (even_part b job.call workers k).rows) e)
 
-  is_part : (k : ℕ) → IsPart f job.call (call_with f (words k)) (rect k)
+  pub is_part : (k : ℕ) → IsPart f job.call (call_with f (words k)) (rect k)
   is_part k = record {
     n = ap (λ (q : Rect). q.elements) (rect_same k);
     m = rows_so k;
@@ -228,7 +241,7 @@ module _ {target : Target} (f : FunctionValue) (entry : image.FunctionValue) (jo
       code = subst (λ (t : Stand). RunsQuietly f target t.code.bytes) (sym (stand k l)) c.runs;
     }
 
-    split : Split f target job.call rects w
+    abbrev split : Split f target job.call rects w
     split = record {
       words = words;
       own = s.own;
@@ -240,6 +253,90 @@ module _ {target : Target} (f : FunctionValue) (entry : image.FunctionValue) (jo
       separate = λ j k lj lk ne a own.
           s.separate j k (inside j lj) (inside k lk) ne a (subst (λ (t : Stand). IsOwn f t.point.core (words j) a) (stand j (inside j lj)) own);
     }
+
+    -- ---- emulation on the segments alone
+
+    abbrev segments : Memory
+    segments = memory_of job.memory
+
+    abbrev part : ℕ → Call
+    part k = call_with f (words k)
+
+    long : (k : ℕ) → length (block_bytes entry.dests (call_of_part entry job sizes workers k)) ≡ block_size
+    long k =
+        let count = moved_count (even_part entry.two_d job.call workers k) job.call.arrays.items sizes sized in
+        let d = few.dests in
+        let r = few.sources in
+        block_long entry.dests (call_of_part entry job sizes workers k) (omega (arith, d, c.dests)) (omega (arith, count, arrays)) (omega (arith, count, arrays, r, c.sources)) numbers
+
+    cell_byte : (k a : ℕ) → IsCell f (part k) a → IsCellByte f (part k) a
+    cell_byte k a h = record { place = h.0; row = h.1; element = h.2; byte = h.3; cell = h.4; here = h.5 }
+
+    -- a byte of a cell is none that is a part's alone
+    not_own : (k : ℕ) → k < workers → (a : ℕ) → IsCell f (part k) a → (j : ℕ) → j < workers → InOwn j a → ⊥
+    not_own k l a h j lj o = go (cases_eq j k)
+      where
+        apart : InOwn k a → ⊥
+        apart (inl b) = ((s.good k l).disjoint.cells a (cell_byte k a h)).0 b
+        apart (inr (inl b)) = ((s.good k l).disjoint.cells a (cell_byte k a h)).1 b
+        apart (inr (inr b)) = ((s.good k l).disjoint.cells a (cell_byte k a h)).2 b
+
+        go : (j ≡ k) ⊎ (j ≢ k) → ⊥
+        go (inl e) = apart (subst (λ i. InOwn i a) e o)
+        go (inr ne) = s.separate j k lj l ne a (inr o) (cell_mapped f c.kept job.call rects w split k (outside k l) a h)
+
+    -- so it is a byte of a segment
+    cell_in : (k : ℕ) → k < workers → (a : ℕ) → IsCell f (part k) a → IsMapped segments a
+    cell_in k l a h = go (segments a) refl
+      where
+        go : (o : Option ℕ) → segments a ≡ o → IsMapped segments a
+        go (Some v) e = ap is_some e
+        go None e =
+            let x = mapped_value (s.own k) a (cell_mapped f c.kept job.call rects w split k (outside k l) a h) in
+            let there = s.within k l a x.0 x.1 in
+            let own = first_own entry.dests (call_of_part entry job sizes workers) workers in
+            let found = first_found entry.dests (call_of_part entry job sizes workers) long workers a x.0 (sym (none_before job.memory own a e) ∙ there) in
+            absurd (not_own k l a h found.0 found.1 (in_own entry.dests (call_of_part entry job sizes workers found.0) (long found.0) found.0 a (ap is_some found.2)))
+
+    in_world : (a : ℕ) → IsMapped segments a → w.memory a ≡ segments a
+    in_world a m = more_behind job.memory (first_own entry.dests (call_of_part entry job sizes workers) workers) a m
+
+    abbrev Ends : Memory → Type 0
+    Ends mem = (whole : Memory × List ℕ) × (emulate f job.call mem ≡ Ok whole) × ((ends : ℕ → Memory × List ℕ) × ((k : ℕ) → k < length rects → emulate f (part k) (s.own k) ≡ Ok (ends k)) × AddsUp f (length rects) part mem whole ends)
+
+    together : Ends w.memory
+    together = parts_add_up f job.call c.kept (length rects) (rect_at rects) part (cut f c.kept job.call rects w split) w.memory s.own
+        (λ k l a h. (common f c.kept job.call rects w split k l a h).1) (λ k l a h. (common f c.kept job.call rects w split k l a h).0)
+
+    alone : Ends segments
+    alone = parts_add_up f job.call c.kept (length rects) (rect_at rects) part (cut f c.kept job.call rects w split) segments s.own
+        (λ k l a h. cell_in k (inside k l) a h) (λ k l a h. (common f c.kept job.call rects w split k l a h).0 ∙ in_world a (cell_in k (inside k l) a h))
+
+    same_end : (k : ℕ) → k < length rects → together.2.0 k ≡ alone.2.0 k
+    same_end k l = ok_same (together.2.0 k) (alone.2.0 k) (sym (together.2.1 k l) ∙ alone.2.1 k l)
+
+    same_memory : (a : ℕ) → IsMapped segments a → together.0.0 a ≡ alone.0.0 a
+    same_memory a m = stable (together.0.0 a) (alone.0.0 a) (λ ne. ne (together.2.2.others a (none ne) ∙ in_world a m ∙ sym (alone.2.2.others a (none ne))))
+      where
+        none : (together.0.0 a ≡ alone.0.0 a → ⊥) → (k : ℕ) → k < length rects → IsDestCell f (part k) a → ⊥
+        none ne k l d =
+            let cell = cell_of f c.kept job.call rects w split k a d in
+            ne (together.2.2.cells k l a cell ∙ ap (λ (x : Memory × List ℕ). x.0 a) (same_end k l) ∙ sym (alone.2.2.cells k l a cell))
+
+    count_in : (mem : Memory) (e : Memory × List ℕ) → emulate f job.call mem ≡ Ok e → length e.1 ≡ count_of kind.Accumulator f.vars
+    count_in mem e h =
+        let u = go_on_ok (rows_of f job.call (rows f job.call) (start mem)) (ended_call f) e h in
+        ap (λ (x : Memory × List ℕ). length x.1) (sym (ok_same (u.0.memory, sums_of f u.0) e u.2))
+        ∙ length-map (places_of kind.Accumulator f.vars) u.0.sums ∙ length-places_of kind.Accumulator f.vars
+
+    same_count : length together.0.1 ≡ length alone.0.1
+    same_count = count_in w.memory together.0 together.1 ∙ sym (count_in segments alone.0 alone.1)
+
+    same_sums : (g : ℕ) → g < length together.0.1 → slice_index together.0.1 g ≡ slice_index alone.0.1 g
+    same_sums g l =
+        together.2.2.sums g l
+        ∙ ap (λ n. n % 2 ^ (8 * sum_size f g)) (total_same (length rects) (λ k. slice_index (together.2.0 k).1 g) (λ k. slice_index (alone.2.0 k).1 g) (λ k lk. ap (λ (x : Memory × List ℕ). slice_index x.1 g) (same_end k lk)))
+        ∙ sym (alone.2.2.sums g (let e = same_count in omega (arith, l, e)))
 
     -- ---- what is left
 
@@ -274,27 +371,12 @@ module _ {target : Target} (f : FunctionValue) (entry : image.FunctionValue) (jo
           subst (λ (x : Stand). (InBlock (x.point.core.gpr 7) a → ⊥) × (InReturn (x.point.core.gpr 4) a → ⊥) × (InFrame (lowered x.point.core) a → ⊥)) (sym t)
           ((λ h. omega (arith, h.0, low)), (λ h. omega (arith, h.0, low)), (λ h. omega (arith, h.0, low)))
 
-      low_part : (q : Part) → is_within q ≡ true → q.at + length q.bytes ≤ 0x600000000000
-      low_part q h = grind (arith, nat_tests, h)
-
-      now_at : (before after : List Part) → list_all is_within before ≡ true → layout after ≡ layout before → AllByRecursion (IsPartOf v.memory) after → AllByRecursion (IsPartOf one.end.0) after
-      now_at before [] h e all = tt
-      now_at [] (q ∷ after) h e all = absurd (let n = ap length e in omega (arith, n))
-      now_at (b ∷ before) (q ∷ after) h e all =
-          let first : span q ≡ span b = ap (λ ss. slice_index_or ss 0 (record { at = 0; count = 0 })) e in
-          let rest : layout after ≡ layout before = ap (λ ss. drop 1 ss) e in
-          let low = low_part b (grind (arith, h)) in
-          let at = ap (λ (x : Span). x.at) first in
-          let count = ap (λ (x : Span). x.count) first in (
-            (λ i l. sym (one.memory (q.at + i) (out (q.at + i) (omega (arith, low, at, count, l)))) ∙ all.0 i l),
-            now_at before after (grind (arith, h)) rest all.1,
-          )
+      -- on the segments emulation leaves what it leaves on the world
+      memory_so : (a : ℕ) → IsMapped segments a → v.memory a ≡ alone.0.0 a
+      memory_so a m = one.memory a (out a (in_segments job.memory a kept.within m)) ∙ ap (λ (x : Memory × List ℕ). x.0 a) (ok_same one.end together.0 (sym one.means ∙ together.1)) ∙ same_memory a m
 
       sums_count : length one.end.1 ≡ entry.accs
-      sums_count =
-          let u = go_on_ok (rows_of f job.call (rows f job.call) (start w.memory)) (ended_call f) one.end one.means in
-          ap (λ (x : Memory × List ℕ). length x.1) (sym (ok_same (u.0.memory, sums_of f u.0) one.end u.2))
-          ∙ length-map (places_of kind.Accumulator f.vars) u.0.sums ∙ length-places_of kind.Accumulator f.vars ∙ sym c.accs
+      sums_count = count_in w.memory one.end one.means ∙ sym c.accs
 
       -- sizes are of at most 64 bits
       cut_twice : (n size : ℕ) → IsSize size ⊎ (size ≡ 0) → n % 2 ^ 64 % 2 ^ (8 * size) ≡ n % 2 ^ (8 * size)
@@ -322,16 +404,22 @@ module _ {target : Target} (f : FunctionValue) (entry : image.FunctionValue) (jo
           ∙ sym (cut_twice (total workers (part_sum v.memory g)) (sum_size f g) (size_any (slice_index (places_of kind.Accumulator f.vars) g)))
           ∙ ap (λ n. n % 2 ^ (8 * sum_size f g)) (sym is)
 
+      sums_alone : (g : ℕ) → g < length alone.0.1 → slice_index alone.0.1 g ≡ slice_index o.accs.items g % 2 ^ (8 * sum_size f g)
+      sums_alone g l =
+          let is : together.0 ≡ one.end = ok_same together.0 one.end (sym together.1 ∙ one.means) in
+          let inside : g < length together.0.1 = let e = same_count in omega (arith, l, e) in
+          sym (same_sums g inside) ∙ ap (λ (x : Memory × List ℕ). slice_index x.1 g) is ∙ sums g (subst (λ (x : Memory × List ℕ). g < length x.1) is inside)
+
       whole : IsWhole f target entry job sizes workers o
       whole = record {
         played = one.all_ended;
         steps = steps;
-        end = one.end;
-        means = one.means;
-        memory = record { lie = p.memory.lie; have = now_at job.memory o.memory kept.within p.memory.lie p.memory.have };
-        sums = sums;
+        end = alone.0;
+        means = alone.1;
+        memory = now_left job.memory o.memory v.memory alone.0.0 memory_so p.memory;
+        sums = sums_alone;
       }
 
-pub does_whole : (entry : image.FunctionValue) (job : Job) (sizes : List ℕ) (workers seed : ℕ) (o : Played) → IsJob job → length job.call.arrays.items ≡ entry.dests + entry.sources → length sizes ≡ length job.call.arrays.items → 0 < workers
+pub does_whole : (entry : image.FunctionValue) (job : Job) (sizes : List ℕ) (workers seed : ℕ) (o : Played) → IsJob job → length job.call.arrays.items ≡ entry.dests + entry.sources → length sizes ≡ length job.call.arrays.items → length job.call.params.items ≤ 8 → 0 < workers
     → PlayedOut entry job sizes workers seed o → DoesWhole entry job sizes workers o
-does_whole entry job sizes workers seed o kept arrays sized some p f target c s enough = whole f entry job sizes workers c p.signed arrays sized some s kept seed o enough p
+does_whole entry job sizes workers seed o kept arrays sized numbers some p f target c s enough = whole f entry job sizes workers c p.signed arrays sized numbers some s kept seed o enough p

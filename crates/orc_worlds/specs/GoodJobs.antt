@@ -1,5 +1,5 @@
 -- Jobs whose placed calls are good, and how runs of them end.
-use Rattle.std.specs.Prelude.{◌≡◌, ℕ, ◌+◌, ◌^◌, ◌<◌, ◌≤◌, true, List, length, Some, Ok, slice_index, slice_index_or}
+use Rattle.std.specs.Prelude.{◌≡◌, ◌≢◌, ℕ, ◌+◌, ◌^◌, ◌<◌, ◌≤◌, true, false, List, length, Some, Ok, slice_index, slice_index_or}
 use Rattle.orc_bits.specs.Memory.{Memory, IsMapped, word}
 use Rattle.orc_bits.specs.Parts.{memory_of}
 use Rattle.orc_ops.specs.declared.target.Target.{Target}
@@ -9,7 +9,9 @@ use Rattle.orc_program.specs.Kept.{is_function}
 use Rattle.orc_program.specs.Meaning.{no_place, emulate, rows}
 use Rattle.orc_program.specs.Need.{steps}
 use Rattle.orc_program.specs.Facts.{facts_of, call_meets}
-use Rattle.orc_program.specs.Good.{GoodArrays}
+use Rattle.orc_program.specs.Good.{IsByte, GoodArrays, byte_at}
+use Rattle.orc_program.specs.Laws.{IsDestByte}
+use Rattle.orc_program.specs.declared.call.Call.{Call}
 use Rattle.orc_program.specs.Cut.{IsCell}
 use Rattle.orc_frame.specs.Parts.{sum_word}
 use Rattle.orc_frame.specs.GoodCall.{GoodCall}
@@ -24,7 +26,7 @@ use Rattle.x86_machine.specs.declared.machine.End.TheVariants as end
 use Rattle.x86_machine.specs.Ends.{EndsAt}
 use Rattle.orc_worlds.specs.Placement.{block_at, return_to, start, placed_code, stop}
 use Rattle.orc_worlds.specs.Worlds.{AreSigned}
-use Rattle.orc_worlds.specs.Whole.{words_of}
+use Rattle.orc_worlds.specs.Whole.{IsCompiled, words_of, words_of_part, AreSeparate}
 
 -- ---- the function and the job
 
@@ -76,3 +78,18 @@ pub record IsDone (f : FunctionValue) (target : Target) (entry : image.FunctionV
 abbrev pub GoodJobsReturn : Type 0
 GoodJobsReturn = (f : FunctionValue) (target : Target) (entry : image.FunctionValue) (job : Job) (e : End) (at : Point) → IsCodeOf f target entry → IsGoodJob f entry job → steps f target job.call.n (rows f job.call) ≤ job.budget
     → EndsAt (placed_code entry) stop job.budget (start entry.dests job) e at → IsDone f target entry job e at
+
+-- ---- in parts
+
+-- no byte of a dest's cell in one row is a byte of a cell in another row
+abbrev pub RowsApart : FunctionValue → Call → Type 0
+RowsApart f call = (a p r i j q r2 i2 j2 : ℕ) → r ≢ r2 → IsDestByte f call a p r i j → IsByte f call q r2 i2 j2 → a ≢ byte_at f call q r2 i2 j2
+
+-- so it is where there is one row
+abbrev pub OneRowIsApart : Type 0
+OneRowIsApart = (f : FunctionValue) (call : Call) → f.two_d ≡ false → RowsApart f call
+
+-- the parts of a good job are separate, if its rows are apart and each part meets the function's facts
+abbrev pub GoodJobsSeparate : Type 0
+GoodJobsSeparate = (f : FunctionValue) (target : Target) (entry : image.FunctionValue) (job : Job) (sizes : List ℕ) (workers : ℕ) → IsCodeOf f target entry → IsCompiled f target entry sizes → IsGoodJob f entry job → length sizes ≡ length job.call.arrays.items → 0 < workers → workers ≤ 64
+    → RowsApart f job.call → ((k : ℕ) → k < workers → (subject_of f).facts (words_of_part entry job sizes workers k) ≡ true) → AreSeparate f entry job sizes workers

@@ -6,3 +6,4 @@ pub mod Played
 pub mod Whole
 pub mod Worlds
 pub mod Meeting
+pub mod Copying

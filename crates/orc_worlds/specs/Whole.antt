@@ -2,6 +2,7 @@
 use Rattle.std.specs.Prelude.{◌≡◌, ◌≢◌, ℕ, ◌+◌, ◌-◌, ◌*◌, ◌%◌, ◌^◌, ◌<◌, ◌≤◌, true, nat_lt, if◌then◌else◌, List, length, Ok, slice_index, slice_index_or}
 use Rattle.std.specs.Int.{w64, cast_unsigned}
 use Rattle.orc_bits.specs.Memory.{Memory, IsMapped}
+use Rattle.orc_bits.specs.Parts.{memory_of}
 use Rattle.orc_ops.specs.declared.target.Target.{Target}
 use Rattle.orc_program.specs.declared.program.VarKind.TheVariants as kind
 use Rattle.orc_program.specs.declared.call.Call.{Call}
@@ -75,12 +76,12 @@ pub record AreSeparate (f : FunctionValue) (entry : image.FunctionValue) (job : 
 abbrev pub steps_of_part : FunctionValue → Target → Job → ℕ → ℕ → ℕ
 steps_of_part f target job workers k = steps f target (even_part f.two_d job.call workers k).elements (even_part f.two_d job.call workers k).rows
 
--- all parts have ended, each within its steps; the segments are as emulation of the whole call leaves them, and each sum, taken modulo the size of its accumulator, is emulation's
+-- all parts have ended, each within its steps; the segments are as emulation of the whole call on them leaves them, and each sum, taken modulo the size of its accumulator, is emulation's
 pub record IsWhole (f : FunctionValue) (target : Target) (entry : image.FunctionValue) (job : Job) (sizes : List ℕ) (workers : ℕ) (o : Played) : Type 0 where
   pub played : o.why ≡ stopped.Played
   pub steps : (k : ℕ) → k < workers → slice_index o.steps.items k ≤ steps_of_part f target job workers k
   pub end : Memory × List ℕ
-  pub means : emulate f job.call (placed_world entry job sizes workers).memory ≡ Ok end
+  pub means : emulate f job.call (memory_of job.memory) ≡ Ok end
   pub memory : AreNow end.0 job.memory o.memory
   pub sums : (g : ℕ) → g < length end.1 → slice_index end.1 g ≡ slice_index o.accs.items g % 2 ^ (8 * sum_size f g)
 

@@ -8,7 +8,7 @@ mod playing;
 mod printing;
 mod remaining;
 
-pub use laws::good_jobs_return;
+pub use laws::{good_jobs_return, good_jobs_separate};
 pub use parting::{parts_meet, world_of};
 pub use placing::{BLOCK, machine_of};
 pub use playing::{Played, Steps, play_job};

@@ -173,7 +173,8 @@ fn put_own(
     k: u8,
 ) -> Result<(), AllocError>
     requires { dests ≤ length call.now.arrays.items }
-    ensures { OnOk result (parts.new ≡ parts.old ++ own_parts dests call.now k) }
+    ensures value { OnOk result (parts.new ≡ parts.old ++ own_parts dests call.now k) }
+    ensures few { OnOk result (length call.now.params.items ≤ 8) }
 {
     parts.push(Part {
         at: block_of(k),
@@ -215,6 +216,7 @@ pub fn world_of(
     requires sized { length sizes.now ≡ length job.now.call.arrays.items }
     ensures world { IfOk result (λ w. seen w ≡ placed_world f.now job.now sizes.now workers) }
     ensures signed { OnOk result (0 < workers → AreSigned job.now.call.arrays.items) }
+    ensures few { OnOk result (0 < workers → length job.now.call.params.items ≤ 8) }
 {
     let mut parts = copy_of(alloc, job.memory.as_slice())?;
     let mut runners = Vec::new(alloc);

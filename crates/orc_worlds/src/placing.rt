@@ -87,7 +87,8 @@ fn pad(out: &mut Vec<u8>, size: usize) -> Result<(), AllocError>
 #[tactic(auto, unfolding(crate::specs::Placement::block_bytes))]
 pub fn block_bytes_of(alloc: Global, dests: usize, call: &Call) -> Result<Items<u8>, AllocError>
     requires { dests ≤ length call.now.arrays.items }
-    ensures { IfOk result (λ bytes. bytes ≡ block_bytes dests call.now) }
+    ensures value { IfOk result (λ bytes. bytes ≡ block_bytes dests call.now) }
+    ensures few { OnOk result (length call.now.params.items ≤ 8) }
 {
     let (written, read) = call.arrays.as_slice().split_at(dests);
     let mut out = Vec::new(alloc);

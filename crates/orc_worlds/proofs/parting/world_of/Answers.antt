@@ -1,4 +1,4 @@
-use Rattle.std.proofs.Common.{◌++◌, ◌∙◌, length, ap, arith}
+use Rattle.std.proofs.Common.{◌++◌, ◌≤◌, ◌∙◌, length, ap, subst, arith}
 use Rattle.orc_program.specs.declared.call.Call.{Call}
 use Rattle.orc_image.specs.Spelling.{FunctionValue}
 use Rattle.orc_parts.specs.Even.{even_part}
@@ -22,6 +22,7 @@ loop-k-preserved c =
     one_placed c.args.f.now job c.args.sizes.now c.args.workers k c.loop-k.parts c.put_own.new.parts c.loop-k.runners.items c.push.new.self.items c.in_ok-call.call c.in_ok-runner_of.field-0 c.loop-k.invariant
     (c.in_ok-call.ensures.value ∙ ap (part_call job.call c.args.sizes.now) rect)
     c.in_ok-call.ensures.signed
-    (c.in_ok-put_own.ensures ∙ ap (λ n. c.loop-k.parts ++ own_parts n c.in_ok-call.call k) dests)
+    (subst (λ (x : Call). length x.params.items ≤ 8) c.in_ok-call.ensures.value c.in_ok-put_own.ensures.few)
+    (c.in_ok-put_own.ensures.value ∙ ap (λ n. c.loop-k.parts ++ own_parts n c.in_ok-call.call k) dests)
     c.in_ok-runner_of.ensures
     c.in_ok-push.ensures.items

@@ -37,6 +37,6 @@ returns-clause-played c =
 
 pub returns-clause-whole : goal.returns-clause-whole
 returns-clause-whole c =
-    does_whole c.args.f.now c.args.job.now c.args.sizes.now c.args.workers c.args.seed _ c.requires.kept c.requires.counts c.requires.sized c.requires.some
+    does_whole c.args.f.now c.args.job.now c.args.sizes.now c.args.workers c.args.seed _ c.requires.kept c.requires.counts c.requires.sized (c.in_ok-world.ensures.few c.requires.some) c.requires.some
     (played_out c.args.f.now c.args.job.now c.args.sizes.now c.args.workers c.args.seed c.in_ok-world.world c.play_drawn-drawn.new.w _ c.as_slice-2.result.now c.as_slice.result.now (c.in_ok-world.ensures.signed c.requires.some) c.in_ok-world.ensures.world
     c.play_drawn-drawn.ensures.plays c.as_slice-2.ensures.value c.steps_of.ensures (subst (λ n. AreTotals (memory_of c.play_drawn-drawn.new.w.memory) c.args.workers n c.totals_of.result.items) (ap (λ (x : FunctionValue). x.accs) c.f.view_is) c.totals_of.ensures) c.as_slice.ensures c.in_ok-memory.ensures)
