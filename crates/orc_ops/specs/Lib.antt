@@ -2,5 +2,6 @@ pub mod Table
 pub mod Stems
 pub mod Widths
 pub mod Formula
+pub mod Far
 pub mod Names
 pub mod Targets

@@ -1,0 +1,59 @@
+//! The far loads, and what the table says of each.
+
+ghost use Rattle.std.specs.Prelude.{◌≡◌};
+ghost use Rattle.orc_ops.specs.Far.{far_name, far_size, far_scalars};
+
+/// A load that reads elements other than the one at the place of its result: at an offset (`Loadoff`), each element twice (`Loadupd`,
+/// `Loadupi`), or at places that are counted in parts of 2^16 (`Ldresnear`, `Ldreslin`). The letter at the end of a name tells
+/// the width of the array and of the result.
+#[derive(Clone, Copy, Debug, PartialEq, Eq)]
+pub enum Far {
+    Loadoffb,
+    Loadoffw,
+    Loadoffl,
+    Loadupdb,
+    Loadupib,
+    Ldresnearb,
+    Ldresnearl,
+    Ldreslinb,
+    Ldreslinl,
+}
+
+/// The name of a far load.
+pub fn far_name(far: Far) -> &'static str
+    ensures { result.now ≡ far_name far }
+{
+    match far {
+        Far::Loadoffb => "loadoffb",
+        Far::Loadoffw => "loadoffw",
+        Far::Loadoffl => "loadoffl",
+        Far::Loadupdb => "loadupdb",
+        Far::Loadupib => "loadupib",
+        Far::Ldresnearb => "ldresnearb",
+        Far::Ldresnearl => "ldresnearl",
+        Far::Ldreslinb => "ldreslinb",
+        Far::Ldreslinl => "ldreslinl",
+    }
+}
+
+/// The bytes of a far load's result, and of an element of its array.
+pub fn far_size(far: Far) -> u8
+    ensures { result ≡ far_size far }
+{
+    match far {
+        Far::Loadoffw => 2,
+        Far::Loadoffl | Far::Ldresnearl | Far::Ldreslinl => 4,
+        _ => 1,
+    }
+}
+
+/// How many scalars a far load has behind its array.
+pub fn far_scalars(far: Far) -> u8
+    ensures { result ≡ far_scalars far }
+{
+    match far {
+        Far::Loadoffb | Far::Loadoffw | Far::Loadoffl => 1,
+        Far::Loadupdb | Far::Loadupib => 0,
+        _ => 2,
+    }
+}
