@@ -2,13 +2,14 @@
 use Rattle.std.proofs.Common.{◌≡◌, ℕ, zero, suc, ◌+◌, ◌-◌, ◌*◌, ◌≤◌, ◌==◌, ◌&&◌, Bool, true, false, not, if◌then◌else◌, length, List, [], ◌∷◌, ◌++◌, Result, Ok, Err, IfOk, ap, ◌∙◌, refl, arith, length-append}
 use Rattle.x86_ins.specs.declared.ins.Ins.{Ins}
 use Rattle.x86_flow.specs.Moves.{IsWidth}
+use Rattle.x86_flow.specs.Touching.{touch_weight}
 use Rattle.x86_flow.proofs.Moves.{each_width}
 use Rattle.orc_ops.specs.declared.far.Far.{Far}
 use Rattle.orc_ops.specs.declared.far.Far.TheVariants.{Loadoffb, Loadoffw, Loadoffl, Loadupdb, Loadupib, Ldresnearb, Ldresnearl, Ldreslinb, Ldreslinl}
 use Rattle.orc_ops.specs.Far.{far_size}
 use Rattle.orc_resample.specs.declared.plan.FarPlan.{FarPlan}
 use Rattle.orc_resample.specs.Code.{element_of, elements_code, row_code, gather_code, scratch}
-use Rattle.orc_resample.specs.Ready.{weight, is_far, far_count, is_quiet, all_quiet}
+use Rattle.orc_resample.specs.Ready.{weight, is_pointer, far_count}
 
 -- the instructions of one element
 abbrev each : Far → ℕ
@@ -64,18 +65,18 @@ at_most_one false = omega arith
 
 far_append : (x y : List Ins) → far_count (x ++ y) ≡ far_count x + far_count y
 far_append [] y = let q : far_count y ≡ 0 + far_count y = omega arith in q
-far_append (i ∷ x) y = let h = far_append x y in let q : (if is_far i then 1 else 0) + far_count (x ++ y) ≡ (if is_far i then 1 else 0) + far_count x + far_count y = omega (arith, h) in q
+far_append (i ∷ x) y = let h = far_append x y in let q : touch_weight is_pointer i + far_count (x ++ y) ≡ touch_weight is_pointer i + far_count x + far_count y = omega (arith, h) in q
 
 element_far : (far : Far) (plan : FarPlan) (k a b e : ℕ) → far_count (element_of far plan k a b e) ≤ 2
-element_far Loadoffb plan k a b e = omega (arith, at_most_one (not (a == 4)))
-element_far Loadoffw plan k a b e = omega (arith, at_most_one (not (a == 4)))
-element_far Loadoffl plan k a b e = omega (arith, at_most_one (not (a == 4)))
-element_far Loadupdb plan k a b e = omega (arith, at_most_one (not (a == 4)))
-element_far Loadupib plan k a b e = omega (arith, at_most_one (not (a == 4)))
-element_far Ldresnearb plan k a b e = omega (arith, at_most_one (not (a == 4)))
-element_far Ldresnearl plan k a b e = omega (arith, at_most_one (not (a == 4)))
-element_far Ldreslinb plan k a b e = omega (arith, at_most_one (not (a == 4)))
-element_far Ldreslinl plan k a b e = omega (arith, at_most_one (not (a == 4)))
+element_far Loadoffb plan k a b e = omega (arith, at_most_one (is_pointer a))
+element_far Loadoffw plan k a b e = omega (arith, at_most_one (is_pointer a))
+element_far Loadoffl plan k a b e = omega (arith, at_most_one (is_pointer a))
+element_far Loadupdb plan k a b e = omega (arith, at_most_one (is_pointer a))
+element_far Loadupib plan k a b e = omega (arith, at_most_one (is_pointer a))
+element_far Ldresnearb plan k a b e = omega (arith, at_most_one (is_pointer a))
+element_far Ldresnearl plan k a b e = omega (arith, at_most_one (is_pointer a))
+element_far Ldreslinb plan k a b e = omega (arith, at_most_one (is_pointer a))
+element_far Ldreslinl plan k a b e = omega (arith, at_most_one (is_pointer a))
 
 elements_far : (far : Far) (plan : FarPlan) (count a b e n : ℕ) → far_count (elements_code far plan count a b e n) ≤ 2 * n
 elements_far far plan count a b e zero = omega arith
@@ -84,7 +85,7 @@ elements_far far plan count a b e (suc n) =
 
 row_far : (width a : ℕ) → IsWidth width → far_count (row_code width a) ≤ 1
 row_far width a is =
-    let h = at_most_one (not (a == 4)) in
+    let h = at_most_one (is_pointer a) in
     each_width (λ w. far_count (row_code w a) ≤ 1) (omega (arith, h)) (omega (arith, h)) (omega (arith, h)) (omega (arith, h)) (omega (arith, h)) width is
 
 some_width : (width : ℕ) → IsWidth width → 1 ≤ width
@@ -100,42 +101,3 @@ gather_far Ldresnearb count plan is = omega (arith, elements_far Ldresnearb plan
 gather_far Ldresnearl count plan is = omega (arith, elements_far Ldresnearl plan count (scratch plan 0) (scratch plan 1) (scratch plan 2) count)
 gather_far Ldreslinb count plan is = omega (arith, elements_far Ldreslinb plan count (scratch plan 0) (scratch plan 1) (scratch plan 2) count)
 gather_far Ldreslinl count plan is = omega (arith, elements_far Ldreslinl plan count (scratch plan 0) (scratch plan 1) (scratch plan 2) count)
-
--- ---- no jumps and no stores
-
-quiet_append : (x y : List Ins) → all_quiet x ≡ true → all_quiet y ≡ true → all_quiet (x ++ y) ≡ true
-quiet_append [] y p q = q
-quiet_append (i ∷ x) y p q = go (is_quiet i) p (λ h. quiet_append x y h q)
-  where
-    go : (t : Bool) → (t && all_quiet x) ≡ true → (all_quiet x ≡ true → all_quiet (x ++ y) ≡ true) → (t && all_quiet (x ++ y)) ≡ true
-    go true h r = r h
-    go false h r = h
-
-element_quiet : (far : Far) (plan : FarPlan) (k a b e : ℕ) → all_quiet (element_of far plan k a b e) ≡ true
-element_quiet Loadoffb plan k a b e = refl
-element_quiet Loadoffw plan k a b e = refl
-element_quiet Loadoffl plan k a b e = refl
-element_quiet Loadupdb plan k a b e = refl
-element_quiet Loadupib plan k a b e = refl
-element_quiet Ldresnearb plan k a b e = refl
-element_quiet Ldresnearl plan k a b e = refl
-element_quiet Ldreslinb plan k a b e = refl
-element_quiet Ldreslinl plan k a b e = refl
-
-elements_quiet : (far : Far) (plan : FarPlan) (count a b e n : ℕ) → all_quiet (elements_code far plan count a b e n) ≡ true
-elements_quiet far plan count a b e zero = refl
-elements_quiet far plan count a b e (suc n) = quiet_append (elements_code far plan count a b e n) (element_of far plan (count - 1 - n) a b e) (elements_quiet far plan count a b e n) (element_quiet far plan (count - 1 - n) a b e)
-
-row_quiet : (width a : ℕ) → IsWidth width → all_quiet (row_code width a) ≡ true
-row_quiet width a is = each_width (λ w. all_quiet (row_code w a) ≡ true) refl refl refl refl refl width is
-
-pub gather_quiet : (far : Far) (count : ℕ) (plan : FarPlan) → IsWidth (count * far_size far) → all_quiet (gather_code far count plan) ≡ true
-gather_quiet Loadoffb count plan is = row_quiet (count * 1) (scratch plan 0) is
-gather_quiet Loadoffw count plan is = row_quiet (count * 2) (scratch plan 0) is
-gather_quiet Loadoffl count plan is = row_quiet (count * 4) (scratch plan 0) is
-gather_quiet Loadupdb count plan is = elements_quiet Loadupdb plan count (scratch plan 0) (scratch plan 1) (scratch plan 2) count
-gather_quiet Loadupib count plan is = elements_quiet Loadupib plan count (scratch plan 0) (scratch plan 1) (scratch plan 2) count
-gather_quiet Ldresnearb count plan is = elements_quiet Ldresnearb plan count (scratch plan 0) (scratch plan 1) (scratch plan 2) count
-gather_quiet Ldresnearl count plan is = elements_quiet Ldresnearl plan count (scratch plan 0) (scratch plan 1) (scratch plan 2) count
-gather_quiet Ldreslinb count plan is = elements_quiet Ldreslinb plan count (scratch plan 0) (scratch plan 1) (scratch plan 2) count
-gather_quiet Ldreslinl count plan is = elements_quiet Ldreslinl plan count (scratch plan 0) (scratch plan 1) (scratch plan 2) count

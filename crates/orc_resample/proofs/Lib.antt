@@ -1,3 +1,5 @@
 pub mod Appends
 pub mod Counted
 pub mod Numbers
+pub mod Twins
+pub mod Runs

@@ -7,7 +7,7 @@ use Rattle.x86_ins.specs.declared.ins.MoveOp.TheVariants.{Movd, Movq, Movdqu}
 use Rattle.x86_ins.specs.declared.ins.AluOp.TheVariants.{Add, Sub, And}
 use Rattle.x86_ins.specs.declared.ins.ShiftOp.TheVariants.{Shl, Shr, Sar}
 use Rattle.x86_ins.specs.declared.ins.Ins.{Ins}
-use Rattle.x86_ins.specs.declared.ins.Ins.TheVariants.{Vec, VecImm, VecLoad, FromGpr, ToGpr, Move, Load, Load8, Load16, MovImm, Alu, AluImm, Shift, Imul, Lea}
+use Rattle.x86_ins.specs.declared.ins.Ins.TheVariants.{Vec, VecImm, VecLoad, FromGpr, ToGpr, Move, Load, Load8, Load16, Alu, AluImm, Shift, Imul, Lea}
 use Rattle.x86_flow.specs.Moves.{away}
 use Rattle.orc_ops.specs.declared.far.Far.{Far}
 use Rattle.orc_ops.specs.declared.far.Far.TheVariants.{Loadoffb, Loadoffw, Loadoffl, Loadupdb, Loadupib, Ldresnearb, Ldresnearl, Ldreslinb}
@@ -136,13 +136,9 @@ is_one_by_one Loadoffw = false
 is_one_by_one Loadoffl = false
 is_one_by_one _ = true
 
--- XMM0 becomes 0
-abbrev pub clear_code : ℕ → List Ins
-clear_code a = MovImm a 0 ∷ FromGpr true 0 a ∷ []
-
 abbrev pub gather_with : Far → FarPlan → ℕ → ℕ → ℕ → ℕ → List Ins
 gather_with far plan count a b e =
-    if is_one_by_one far then clear_code a ++ elements_code far plan count a b e count
+    if is_one_by_one far then elements_code far plan count a b e count
     else offset_code plan (far_size far) count a b
 
 abbrev pub gather_code : Far → ℕ → FarPlan → List Ins

@@ -2,11 +2,10 @@
 use Rattle.std.specs.Prelude.{◌≡◌, ◌≢◌, ℕ, ◌+◌, ◌*◌, ◌%◌, ◌^◌, ◌<◌, ◌≤◌, ◌⊎◌, ◌==◌, ℤ, pos, ◌*ℤ◌, Bool, true, false, not, ◌&&◌, if◌then◌else◌, List, [], ◌∷◌, length, Option, Some, None}
 use Rattle.orc_bits.specs.Lanes.{lane}
 use Rattle.orc_bits.specs.Memory.{Memory, word, value, IsMapped}
-use Rattle.x86_ins.specs.declared.ins.Addr.{Addr}
 use Rattle.x86_ins.specs.declared.ins.Ins.{Ins}
-use Rattle.x86_ins.specs.declared.ins.Ins.TheVariants.{VecLoad, VecStore, Load, Store, Store8, Store16, Load8, Load16, Push, Pop, Jump, JumpIf, Ret}
-use Rattle.x86_ins.specs.Machine.{Core, Bounded, moved}
+use Rattle.x86_ins.specs.Machine.{Core, Bounded, Touches, moved}
 use Rattle.x86_flow.specs.Does.{Line}
+use Rattle.x86_flow.specs.Touching.{touch_weight}
 use Rattle.orc_ops.specs.declared.far.Far.{Far}
 use Rattle.orc_ops.specs.declared.far.Far.TheVariants.{Loadoffb, Loadoffw, Loadoffl, Ldreslinb, Ldreslinl}
 use Rattle.orc_ops.specs.Far.{far_size, far_scalars, far_first, far_second, far_value}
@@ -74,42 +73,14 @@ pub record Ready (far : Far) (count : ℕ) (plan : FarPlan) (s : Source) (c : Co
   pub second_scalar : 1 < far_scalars far → word c.memory (moved (c.gpr 4) (scalar_at plan 1)) ≡ Some s.q
   pub mapped : (x : ℕ) → AmongCells far count s x → IsMapped c.memory x
 
--- an instruction that reads or writes memory by another register than RSP
-abbrev pub is_of : Addr → Bool
-is_of at = not (at.base == 4)
+-- a register that holds the address of elements and not of the frame: any but RSP
+abbrev pub is_pointer : ℕ → Bool
+is_pointer r = not (r == 4)
 
-abbrev pub is_far : Ins → Bool
-is_far (VecLoad op dst at) = is_of at
-is_far (VecStore op src at) = is_of at
-is_far (Load dst at) = is_of at
-is_far (Store src at) = is_of at
-is_far (Load8 dst at) = is_of at
-is_far (Load16 dst at) = is_of at
-is_far (Store8 src at) = is_of at
-is_far (Store16 src at) = is_of at
-is_far _ = false
-
--- how many of a list do
+-- how many instructions of a list read or write memory by such a register
 abbrev pub far_count : List Ins → ℕ
 far_count [] = 0
-far_count (i ∷ is) = (if is_far i then 1 else 0) + far_count is
-
--- an instruction that is no jump and no return, and that writes no memory
-abbrev pub is_quiet : Ins → Bool
-is_quiet (VecStore op src at) = false
-is_quiet (Store src at) = false
-is_quiet (Store8 src at) = false
-is_quiet (Store16 src at) = false
-is_quiet (Push src) = false
-is_quiet (Pop dst) = false
-is_quiet (Jump rel) = false
-is_quiet (JumpIf q rel) = false
-is_quiet Ret = false
-is_quiet _ = true
-
-abbrev pub all_quiet : List Ins → Bool
-all_quiet [] = true
-all_quiet (i ∷ is) = is_quiet i && all_quiet is
+far_count (i ∷ is) = touch_weight is_pointer i + far_count is
 
 abbrev pub IsScratch : FarPlan → ℕ → Type 0
 IsScratch plan r = (j : ℕ) × (j < 3) × (r ≡ scratch plan j)
@@ -130,13 +101,26 @@ pub record Gathered (far : Far) (count : ℕ) (plan : FarPlan) (s : Source) (c d
   pub keeps : Keeps plan c d
   pub bounded : Bounded d
 
--- a step on the way changes as little
-abbrev pub OnTheWay : FarPlan → Core → Core → Ins → Type 0
-OnTheWay plan c u i = Keeps plan c u
+-- an address is one of the bytes of the word at another
+abbrev pub InWord : ℕ → ℕ → Type 0
+InWord at x = (j : ℕ) × (j < 8) × (x ≡ (at + j) % 2 ^ 64)
+
+-- or of the words and patterns that the plan names
+abbrev pub InPlan : Far → FarPlan → ℕ → ℕ → Type 0
+InPlan far plan stack x =
+    InWord (moved stack plan.index) x ⊎ (InWord (moved stack plan.array) x ⊎ ((j : ℕ) × (j < far_scalars far) × InWord (moved stack (scalar_at plan j)) x))
+
+-- what an instruction touches: by RSP the plan's words and patterns alone, and by another register the elements that are read
+abbrev pub Sees : Far → ℕ → FarPlan → Source → ℕ → Core → Ins → Type 0
+Sees far count plan s stack u i = (x : ℕ) → Touches i u x → InPlan far plan stack x ⊎ ((touch_weight is_pointer i ≡ 1) × AmongCells far count s x)
+
+-- what holds before each instruction on the way from c
+abbrev pub OnTheWay : Far → ℕ → FarPlan → Source → Core → Core → Ins → Type 0
+OnTheWay far count plan s c u i = Keeps plan c u × Sees far count plan s (c.gpr 4) u i
 
 -- from every state that is ready, the list leads to the values
 abbrev pub Gathers : Far → ℕ → FarPlan → List Ins → Type 0
-Gathers far count plan list = (s : Source) (c : Core) → Ready far count plan s c → (d : Core) × Line (OnTheWay plan c) list c d × Gathered far count plan s c d
+Gathers far count plan list = (s : Source) (c : Core) → Ready far count plan s c → (d : Core) × Line (OnTheWay far count plan s c) list c d × Gathered far count plan s c d
 
 -- w: the greatest length of the list for so many elements
 abbrev pub weight : Far → ℕ → ℕ

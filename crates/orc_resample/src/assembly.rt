@@ -4,11 +4,11 @@ ghost use Rattle.std.specs.Prelude.{◌≡◌, ◌<◌, ◌≤◌, ◌*◌, ◌+
 ghost use Rattle.orc_ops.specs.declared.far.Far.TheVariants as loads;
 ghost use Rattle.orc_ops.specs.Far.{far_size, far_scalars};
 ghost use Rattle.x86_flow.specs.Moves.{IsWidth};
-ghost use Rattle.orc_resample.specs.Code.{scratch, element_of, elements_code, clear_code, offset_code, is_one_by_one, gather_with, gather_code};
-ghost use Rattle.orc_resample.specs.Ready.{IsPlan, weight, far_count, all_quiet};
+ghost use Rattle.orc_resample.specs.Code.{scratch, element_of, elements_code, offset_code, is_one_by_one, gather_with, gather_code};
+ghost use Rattle.orc_resample.specs.Ready.{IsPlan, weight, far_count};
 
 use crate::pieces::{
-    bits_of, push_address, push_average, push_byte, push_clear, push_half, push_mixed_byte,
+    bits_of, push_address, push_average, push_byte, push_half, push_mixed_byte,
     push_mixed_long, push_near_byte, push_near_long, push_offset, push_other_half, push_place,
     push_row, push_spread,
 };
@@ -211,26 +211,6 @@ fn push_row_of(
     push_row(list, count * size, a)
 }
 
-/// Adds the code of a far load that goes element by element.
-#[tactic(auto, using(crate::proofs::Appends::extended))]
-fn push_singles(
-    list: &mut InsList,
-    plan: &FarPlan,
-    far: Far,
-    count: usize,
-    a: Gpr,
-    b: Gpr,
-    e: Gpr,
-) -> Result<(), AllocError>
-    requires few { count ≤ 16 }
-    requires one { IsTrue (is_one_by_one far) }
-    requires scalars { length plan.now.scalars.items ≡ far_scalars far }
-    ensures { OnOk result (list.new ≡ list.old ++ (clear_code a ++ elements_code far plan.now count a b e count)) }
-{
-    push_clear(list, a)?;
-    push_elements(list, plan, far, count, a, b, e)
-}
-
 /// Adds the code for `count` elements.
 fn push_values(
     list: &mut InsList,
@@ -248,7 +228,7 @@ fn push_values(
     ensures { OnOk result (list.new ≡ list.old ++ gather_with far plan.now count a b e) }
 {
     if is_single(far) {
-        push_singles(list, plan, far, count, a, b, e)
+        push_elements(list, plan, far, count, a, b, e)
     } else {
         push_row_of(list, plan, usize::from(far_size(far)), count, a, b)
     }
@@ -280,7 +260,6 @@ pub fn gather(alloc: Global, far: Far, count: u8, plan: &FarPlan) -> Result<InsL
     requires width { IsWidth (count * far_size far) }
     ensures list { IfOk result (λ list. list ≡ gather_code far count plan.now) }
     ensures short { IfOk result (λ list. length list ≤ weight far count) }
-    ensures quiet { IfOk result (λ list. all_quiet list ≡ true) }
     ensures touches { IfOk result (λ list. far_count list ≤ 2 * count) }
 {
     gather_list(alloc, far, count, plan)

@@ -7,7 +7,7 @@ ghost use Rattle.x86_ins.specs.declared.ins.Ins.TheVariants as ins;
 ghost use Rattle.x86_ins.specs.declared.ins.MoveOp.TheVariants.{Movd};
 ghost use Rattle.x86_ins.specs.declared.ins.AluOp.TheVariants.{And};
 ghost use Rattle.x86_flow.specs.Moves.{away, IsWidth};
-ghost use Rattle.orc_resample.specs.Code.{slot, scalar_at, bits_of, start_code, row_code, push_gpr_code, half_code, average_code, place_code, near_byte_code, near_long_code, address_code, mixed_byte_code, spread_code, mixed_long_code, clear_code};
+ghost use Rattle.orc_resample.specs.Code.{slot, scalar_at, bits_of, start_code, row_code, push_gpr_code, half_code, average_code, place_code, near_byte_code, near_long_code, address_code, mixed_byte_code, spread_code, mixed_long_code};
 
 use crate::plan::FarPlan;
 use std::alloc::AllocError;
@@ -485,29 +485,4 @@ pub fn push_row(list: &mut InsList, width: usize, a: Gpr) -> Result<(), AllocErr
         8 => list.push(load_values(MoveOp::Movq, a)),
         _ => list.push(load_values(MoveOp::Movdqu, a)),
     }
-}
-
-/// `mov dst, 0`.
-fn zero(dst: Gpr) -> Ins
-    ensures { result ≡ ins.MovImm dst 0 }
-{
-    Ins::MovImm { dst, value: 0 }
-}
-
-/// `movq XMM0, src`.
-fn all_values_from(src: Gpr) -> Ins
-    ensures { result ≡ ins.FromGpr true 0 src }
-{
-    Ins::FromGpr {
-        wide: true,
-        dst: VALUES,
-        src,
-    }
-}
-
-/// Adds what makes XMM0 zero.
-pub fn push_clear(list: &mut InsList, a: Gpr) -> Result<(), AllocError>
-    ensures { OnOk result (list.new ≡ list.old ++ clear_code a) }
-{
-    push_each(list, &[zero(a), all_values_from(a)])
 }
