@@ -3,3 +3,4 @@ pub mod Counted
 pub mod Numbers
 pub mod Twins
 pub mod Runs
+pub mod Pushes

@@ -2,14 +2,15 @@
 use Rattle.std.proofs.Common.{◌≡◌, ℕ, ◌+◌, ◌%◌, ◌^◌, ◌<◌, Bool, true, false, ◌&&◌, if◌then◌else◌, ℤ, pos, List, [], ◌∷◌, ◌++◌, get_or, Option, Some, Result, Ok, Err, refl, sym, ap, ◌∙◌, subst, arith, true≢false, ◌⊎◌, inl, inr}
 use Rattle.orc_bits.specs.Lanes.{from_bytes}
 use Rattle.orc_bits.specs.Memory.{Memory, word, value, read}
-use Rattle.x86_ins.specs.declared.ins.MoveOp.TheVariants.{Movd, Movq, Movdqu}
+use Rattle.x86_ins.specs.declared.ins.MoveOp.{MoveOp}
 use Rattle.x86_ins.specs.declared.ins.Ins.{Ins}
 use Rattle.x86_ins.specs.declared.ins.Ins.TheVariants.{Vec, VecImm, VecLoad, FromGpr, ToGpr, Move, Load, Load8, Load16, Alu, AluImm, Shift, Imul, Lea, Shuffle, VecStore, Store, Store8, Store16, MovImm, Test, Push, Pop, Jump, JumpIf, Ret}
 use Rattle.x86_ins.specs.declared.state.Trap.{Trap}
-use Rattle.x86_ins.specs.Machine.{Core, with_gpr, with_xmm, moved, address, access, work}
+use Rattle.x86_ins.specs.Machine.{Core, with_gpr, with_xmm, moved, address, access, aligned, move_size, work, span, Touches}
 use Rattle.x86_flow.specs.Does.{Line}
 use Rattle.x86_flow.specs.Moves.{away}
 use Rattle.x86_flow.proofs.Moves.{line_append}
+use Rattle.x86_flow.specs.Touching.{touch_weight}
 use Rattle.orc_resample.specs.Code.{slot}
 use Rattle.orc_resample.specs.Ready.{is_pointer, InWord}
 use Rattle.orc_resample.proofs.Twins.{Looks}
@@ -82,22 +83,25 @@ module _ (Near Far : ℕ → Type 0) where
   calm_looks (Shift op d n) h v x (j, l, e) = absurd (omega (arith, l))
   calm_looks (Imul d s) h v x (j, l, e) = absurd (omega (arith, l))
   calm_looks (Lea d at) h v x (j, l, e) = absurd (omega (arith, l))
-  calm_looks (Shuffle op d s o) h v = absurd (true≢false (sym h))
-  calm_looks (VecLoad op d at) h v = absurd (true≢false (sym h))
-  calm_looks (VecStore op s at) h v = absurd (true≢false (sym h))
-  calm_looks (Load d at) h v = absurd (true≢false (sym h))
-  calm_looks (Load8 d at) h v = absurd (true≢false (sym h))
-  calm_looks (Load16 d at) h v = absurd (true≢false (sym h))
-  calm_looks (Store s at) h v = absurd (true≢false (sym h))
-  calm_looks (Store8 s at) h v = absurd (true≢false (sym h))
-  calm_looks (Store16 s at) h v = absurd (true≢false (sym h))
-  calm_looks (MovImm d y) h v = absurd (true≢false (sym h))
-  calm_looks (Test y z) h v = absurd (true≢false (sym h))
-  calm_looks (Push s) h v = absurd (true≢false (sym h))
-  calm_looks (Pop d) h v = absurd (true≢false (sym h))
-  calm_looks (Jump rel) h v = absurd (true≢false (sym h))
-  calm_looks (JumpIf q rel) h v = absurd (true≢false (sym h))
-  calm_looks Ret h v = absurd (true≢false (sym h))
+  calm_looks (Shuffle op d s o) h v x t = absurd (true≢false (sym h))
+  calm_looks (VecLoad op d at) h v x t = absurd (true≢false (sym h))
+  calm_looks (VecStore op s at) h v x t = absurd (true≢false (sym h))
+  calm_looks (Load d at) h v x t = absurd (true≢false (sym h))
+  calm_looks (Load8 d at) h v x t = absurd (true≢false (sym h))
+  calm_looks (Load16 d at) h v x t = absurd (true≢false (sym h))
+  calm_looks (Store s at) h v x t = absurd (true≢false (sym h))
+  calm_looks (Store8 s at) h v x t = absurd (true≢false (sym h))
+  calm_looks (Store16 s at) h v x t = absurd (true≢false (sym h))
+  calm_looks (MovImm d y) h v x t = absurd (true≢false (sym h))
+  calm_looks (Test y z) h v x t = absurd (true≢false (sym h))
+  calm_looks (Push s) h v x t = absurd (true≢false (sym h))
+  calm_looks (Pop d) h v x t = absurd (true≢false (sym h))
+  calm_looks (Jump rel) h v x t = absurd (true≢false (sym h))
+  calm_looks (JumpIf q rel) h v x t = absurd (true≢false (sym h))
+  calm_looks Ret h v x t = absurd (true≢false (sym h))
+
+  touched : (i : Ins) (n a : ℕ) (v : Core) → span i v ≡ (a, n) → ((j : ℕ) → j < n → Far ((a + j) % 2 ^ 64)) → (y : ℕ) → Touches i v y → Far y
+  touched i n a v s far y (j, l, p) = subst Far (sym (p ∙ ap (λ z. (z.0 + j) % 2 ^ 64) s)) (far j (subst (λ k. j < k) (ap (λ z. z.1) s) l))
 
   calm_line : (is : List Ins) → all_calm is ≡ true → (v : Core) → Line (Looks Near Far) is v (after is v)
   calm_line [] h v = refl
@@ -139,40 +143,31 @@ module _ (Near Far : ℕ → Type 0) where
       k.2,
     )
 
-  -- a byte by another register, and what follows
+  -- bytes by another register as a number, and what follows
+  load_then : (i : Ins) (n r a : ℕ) (js : List Ins) (v : Core) (x : ℕ) (P : Core → Type 0) → touch_weight is_pointer i ≡ 1 → span i v ≡ (a, n) → work i v ≡ access n v.memory a (value n v.memory a) (λ w. with_gpr v r w)
+      → value n v.memory a ≡ Some x → ((j : ℕ) → j < n → Far ((a + j) % 2 ^ 64)) → Run js (with_gpr v r x) P → Run (i ∷ js) v P
+  load_then i n r a js v x P by s w e far k = (
+      k.0,
+      (λ y t. inr (by, touched i n a v s far y t), (with_gpr v r x, w ∙ ap (λ o. access n v.memory a o (λ w. with_gpr v r w)) e, k.1)),
+      k.2,
+    )
+
   pub byte_then : (r b d : ℕ) (js : List Ins) (v : Core) (x : ℕ) (P : Core → Type 0) → is_pointer b ≡ true → value 1 v.memory (address v (away b d)) ≡ Some x → ((j : ℕ) → j < 1 → Far ((address v (away b d) + j) % 2 ^ 64)) → Run js (with_gpr v r x) P → Run (Load8 r (away b d) ∷ js) v P
-  byte_then r b d js v x P by e far k = (
-      k.0,
-      (λ y t. inr (ap (λ z. if z then 1 else 0) by, subst Far (sym t.2) (far t.0 t.1)), (with_gpr v r x, ap (λ o. access 1 v.memory (address v (away b d)) o (λ w. with_gpr v r w)) e, k.1)),
-      k.2,
-    )
+  byte_then r b d js v x P by = load_then (Load8 r (away b d)) 1 r (address v (away b d)) js v x P (ap (λ z. if z then 1 else 0) by) refl refl
 
-  -- two bytes
   pub pair_then : (r b d : ℕ) (js : List Ins) (v : Core) (x : ℕ) (P : Core → Type 0) → is_pointer b ≡ true → value 2 v.memory (address v (away b d)) ≡ Some x → ((j : ℕ) → j < 2 → Far ((address v (away b d) + j) % 2 ^ 64)) → Run js (with_gpr v r x) P → Run (Load16 r (away b d) ∷ js) v P
-  pair_then r b d js v x P by e far k = (
-      k.0,
-      (λ y t. inr (ap (λ z. if z then 1 else 0) by, subst Far (sym t.2) (far t.0 t.1)), (with_gpr v r x, ap (λ o. access 2 v.memory (address v (away b d)) o (λ w. with_gpr v r w)) e, k.1)),
-      k.2,
-    )
+  pair_then r b d js v x P by = load_then (Load16 r (away b d)) 2 r (address v (away b d)) js v x P (ap (λ z. if z then 1 else 0) by) refl refl
 
-  -- four, eight or sixteen bytes into a vector register
-  pub long_then : (r b d : ℕ) (js : List Ins) (v : Core) (bs : List ℕ) (P : Core → Type 0) → is_pointer b ≡ true → read 4 v.memory (address v (away b d)) ≡ Some bs → ((j : ℕ) → j < 4 → Far ((address v (away b d) + j) % 2 ^ 64)) → Run js (with_xmm v r (from_bytes (λ j. get_or bs j 0))) P → Run (VecLoad Movd r (away b d) ∷ js) v P
-  long_then r b d js v bs P by e far k = (
-      k.0,
-      (λ y t. inr (ap (λ z. if z then 1 else 0) by, subst Far (sym t.2) (far t.0 t.1)), (with_xmm v r (from_bytes (λ j. get_or bs j 0)), ap (λ o. access 4 v.memory (address v (away b d)) o (λ bs. with_xmm v r (from_bytes (λ j. get_or bs j 0)))) e, k.1)),
-      k.2,
-    )
-
-  pub quad_then : (r b d : ℕ) (js : List Ins) (v : Core) (bs : List ℕ) (P : Core → Type 0) → is_pointer b ≡ true → read 8 v.memory (address v (away b d)) ≡ Some bs → ((j : ℕ) → j < 8 → Far ((address v (away b d) + j) % 2 ^ 64)) → Run js (with_xmm v r (from_bytes (λ j. get_or bs j 0))) P → Run (VecLoad Movq r (away b d) ∷ js) v P
-  quad_then r b d js v bs P by e far k = (
-      k.0,
-      (λ y t. inr (ap (λ z. if z then 1 else 0) by, subst Far (sym t.2) (far t.0 t.1)), (with_xmm v r (from_bytes (λ j. get_or bs j 0)), ap (λ o. access 8 v.memory (address v (away b d)) o (λ bs. with_xmm v r (from_bytes (λ j. get_or bs j 0)))) e, k.1)),
-      k.2,
-    )
-
-  pub whole_then : (r b d : ℕ) (js : List Ins) (v : Core) (bs : List ℕ) (P : Core → Type 0) → is_pointer b ≡ true → read 16 v.memory (address v (away b d)) ≡ Some bs → ((j : ℕ) → j < 16 → Far ((address v (away b d) + j) % 2 ^ 64)) → Run js (with_xmm v r (from_bytes (λ j. get_or bs j 0))) P → Run (VecLoad Movdqu r (away b d) ∷ js) v P
-  whole_then r b d js v bs P by e far k = (
-      k.0,
-      (λ y t. inr (ap (λ z. if z then 1 else 0) by, subst Far (sym t.2) (far t.0 t.1)), (with_xmm v r (from_bytes (λ j. get_or bs j 0)), ap (λ o. access 16 v.memory (address v (away b d)) o (λ bs. with_xmm v r (from_bytes (λ j. get_or bs j 0)))) e, k.1)),
-      k.2,
-    )
+  -- and into a vector register
+  pub vector_then : (op : MoveOp) → ((x : ℕ) (o : Result Core Trap) → aligned op x o ≡ o) → (r b d : ℕ) (js : List Ins) (v : Core) (bs : List ℕ) (P : Core → Type 0) → is_pointer b ≡ true → read (move_size op) v.memory (address v (away b d)) ≡ Some bs → ((j : ℕ) → j < move_size op → Far ((address v (away b d) + j) % 2 ^ 64))
+      → Run js (with_xmm v r (from_bytes (λ j. get_or bs j 0))) P → Run (VecLoad op r (away b d) ∷ js) v P
+  vector_then op free r b d js v bs P by e far k =
+      let a = address v (away b d) in
+      let w : Core = with_xmm v r (from_bytes (λ j. get_or bs j 0)) in (
+        k.0,
+        (
+          λ y t. inr (ap (λ z. if z then 1 else 0) by, touched (VecLoad op r (away b d)) (move_size op) a v refl far y t),
+          (w, free a _ ∙ ap (λ o. access (move_size op) v.memory a o (λ bs. with_xmm v r (from_bytes (λ j. get_or bs j 0)))) e, k.1),
+        ),
+        k.2,
+      )
