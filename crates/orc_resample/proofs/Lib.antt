@@ -4,3 +4,5 @@ pub mod Numbers
 pub mod Twins
 pub mod Runs
 pub mod Pushes
+pub mod Bytes
+pub mod Blocks
