@@ -174,7 +174,7 @@ module _ (far : Far) (count : ℕ) (plan : FarPlan) (s : Source) (c : Core) (rea
   -- ---- places
 
   -- the address that a register holds, with no displacement
-  plain : (x : ℕ) (z : ℤ) (size : ℕ) → far_size far ≡ size → x ≡ moved s.base (z *ℤ pos size) → (x + 0) % 2 ^ 64 ≡ cell far s.base z
+  pub plain : (x : ℕ) (z : ℤ) (size : ℕ) → far_size far ≡ size → x ≡ moved s.base (z *ℤ pos size) → (x + 0) % 2 ^ 64 ≡ cell far s.base z
   plain x z size e h =
       let l : x < 2 ^ 64 = subst (λ n. n < 2 ^ 64) (sym h) (moved_small s.base (z *ℤ pos size)) in
       (let q : (x + 0) % 2 ^ 64 ≡ x = omega (arith, l) in q) ∙ h ∙ ap (λ n. moved s.base (z *ℤ pos n)) (sym e)
@@ -232,5 +232,5 @@ module _ (far : Far) (count : ℕ) (plan : FarPlan) (s : Source) (c : Core) (rea
       (load_array 1 (Alu Add 0 1 ∷ []) v1 P (record { memory = t.memory; stack = t.stack })
         (calm_run Near Cells (Alu Add 0 1 ∷ []) refl v2 P (record { memory = refl; stack = refl; third = refl; xmm = refl }, is)))
 
-  kept_at : (v d : Core) → At c v → Kept v d → At c d
+  pub kept_at : (v d : Core) → At c v → Kept v d → At c d
   kept_at v d t k = record { memory = k.memory ∙ t.memory; stack = k.stack ∙ t.stack }

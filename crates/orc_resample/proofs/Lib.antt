@@ -6,3 +6,4 @@ pub mod Runs
 pub mod Pushes
 pub mod Bytes
 pub mod Blocks
+pub mod Singles
