@@ -75,7 +75,7 @@ pushed_byte value x l small =
     (λ i m h. from_byte (byte_of 4 value) i h ∙ byte_above value i l m)
 
 -- an address in a register
-shl_is : (x bits : ℕ) → nat_lt bits 64 ≡ true → shl 64 x bits ≡ x * 2 ^ bits % 2 ^ 64
+pub shl_is : (x bits : ℕ) → nat_lt bits 64 ≡ true → shl 64 x bits ≡ x * 2 ^ bits % 2 ^ 64
 shl_is x bits t = ap (λ b. cond b (x * 2 ^ bits % 2 ^ 64) 0) t
 
 module _ (far : Far) (count : ℕ) (plan : FarPlan) (s : Source) (c : Core) (ready : Ready far count plan s c) where

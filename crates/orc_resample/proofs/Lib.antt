@@ -7,3 +7,6 @@ pub mod Pushes
 pub mod Bytes
 pub mod Blocks
 pub mod Singles
+pub mod Longs
+pub mod Rows
+pub mod Gathered

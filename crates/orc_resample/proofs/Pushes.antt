@@ -14,7 +14,7 @@ use Rattle.x86_ins.specs.Vectors.{shape, result_of, imm_shape, imm_result}
 abbrev pub pushed : ℕ → List ℕ → List ℕ → List ℕ
 pushed n x y = result_of (shape Por) (imm_result (imm_shape Pslldq) n x) y
 
-by_bytes : (g : ℕ → ℕ) (i : ℕ) → i < 16 → get_or (from_lanes 1 g) i 0 ≡ g i % 256
+pub by_bytes : (g : ℕ → ℕ) (i : ℕ) → i < 16 → get_or (from_lanes 1 g) i 0 ≡ g i % 256
 by_bytes g i l =
     byte_is 1 g i l
     ∙ ap (λ k. g k / 256 ^ (i % 1) % 256) (let e : i / 1 ≡ i = omega arith in e)

@@ -10,19 +10,21 @@ use Rattle.orc_bits.proofs.LaneLaws.{eq_false}
 use Rattle.x86_ins.specs.declared.ins.AluOp.TheVariants.{Add, Sub, And}
 use Rattle.x86_ins.specs.declared.ins.ShiftOp.TheVariants.{Shl, Shr, Sar}
 use Rattle.x86_ins.specs.declared.ins.Ins.{Ins}
-use Rattle.x86_ins.specs.declared.ins.Ins.TheVariants.{Move, Alu, AluImm, Shift, Imul, Lea, Load8, VecLoad}
+use Rattle.x86_ins.specs.declared.ins.Ins.TheVariants.{Vec, ToGpr, Move, Alu, AluImm, Shift, Imul, Lea, Load8, VecLoad}
+use Rattle.x86_ins.specs.declared.ins.VecOp.TheVariants.{Pxor, Punpcklbw}
 use Rattle.x86_ins.specs.declared.ins.MoveOp.TheVariants.{Movd}
-use Rattle.x86_ins.specs.Vectors.{shl, shr, sar, add_wrap, sub_wrap, mul_low}
+use Rattle.x86_ins.specs.Vectors.{shape, result_of, shl, shr, sar, add_wrap, sub_wrap, mul_low}
 use Rattle.x86_ins.specs.Machine.{Core, with_gpr, with_xmm, moved, address}
 use Rattle.x86_flow.specs.Moves.{away}
 use Rattle.orc_ops.specs.declared.far.Far.{Far}
 use Rattle.orc_ops.specs.declared.far.Far.TheVariants.{Loadupdb, Loadupib, Ldresnearb, Ldresnearl, Ldreslinb, Ldreslinl}
-use Rattle.orc_ops.specs.Far.{far_size, far_scalars, far_first, far_second, far_part, far_blend, other, place, fraction, mixed}
+use Rattle.orc_ops.specs.Far.{far_size, far_scalars, far_first, far_second, far_part, far_blend, other, place, fraction, mixed, mixed_bytes}
 use Rattle.orc_resample.specs.declared.plan.FarPlan.{FarPlan}
-use Rattle.orc_resample.specs.Code.{element_of, element_code, half_code, place_code, address_code, near_byte_code, near_long_code, mixed_byte_code, mix_code, average_code, push_code, push_gpr_code}
+use Rattle.orc_resample.specs.Code.{element_of, element_code, half_code, place_code, address_code, near_byte_code, near_long_code, mixed_byte_code, mix_code, join_code, spread_code, mixed_long_code, average_code, push_code, push_gpr_code}
 use Rattle.orc_resample.specs.Ready.{Source, Ready, IsRead, cell, element, value_at}
 use Rattle.orc_resample.proofs.Numbers.{element_on, moved_small, place_fits, fraction_of, small_fraction, mix_of}
 use Rattle.orc_resample.proofs.Runs.{run_then, run_map, after, calm_then, calm_run}
+use Rattle.orc_resample.proofs.Longs.{words, blended, blended_words, words_small, zeros_of, spread_of, joined, joined_high, joined_small, long_of}
 use Rattle.orc_resample.proofs.Blocks.{At, Kept, Pushed, Near, Cells, Leads, IsCell, IsLong, load_byte, load_long, byte_element, push_byte, push_long, plain, half_run, place_run, locate_run, kept_at}
 
 module _ (far : Far) (count : ℕ) (plan : FarPlan) (s : Source) (c : Core) (ready : Ready far count plan s c) where
@@ -225,3 +227,59 @@ module _ (count : ℕ) (plan : FarPlan) (s : Source) (c : Core) where
           let ey : y ≡ y % 256 = omega (arith, b) in
           ap (λ n. ((256 - part) * n + part * y) / 2 ^ 8) ex ∙ ap (λ n. ((256 - part) * (x % 256) + part * n) / 2 ^ 8) ey
           ∙ (let q : mixed part (x % 256) (y % 256) ≡ mixed part (x % 256) (y % 256) + 256 * 0 = omega arith in q)
+
+  -- ---- the mix of two longs
+
+  pub linear_long_run : (ready : Ready Ldreslinl count plan s c) (k : ℕ) → k < count → (v : Core) → At c v → AreBytes (v.xmm 0) → Adds Ldreslinl count plan s c ready k v
+  linear_long_run ready k l v t small =
+      let f = Ldreslinl in
+      let N = Near f count plan s c ready in
+      let C = Cells f count plan s c ready in
+      let below = low f count plan s c ready k l in
+      let i = s.first + k in
+      let p : ℤ = place i s.p s.q in
+      let z : ℤ = int_shr p 16 in
+      let w : ℤ = z +ℤ pos 1 in
+      let is = first_cell f count plan s c ready k l in
+      let is_w = read_cell f count plan s c ready k w l (inr refl) in
+      let part = fraction i s.p s.q in
+      let value = value_at f s c.memory i in
+      run_then N C (place_code plan k 0 1) (address_code plan 2 0 1 2 ++ (spread_code 0 1 ++ mixed_long_code 0 1 2)) v (λ d. Kept v d × (d.gpr 0 ≡ wrap 64 p)) _ (place_run f count plan s c ready k v (omega arith) below t)
+      (λ d h.
+        let d1 = after (Move 2 0 ∷ []) d in
+        let t1 : At c d1 = record { memory = h.0.memory ∙ t.memory; stack = h.0.stack ∙ t.stack } in
+        calm_then N C (Move 2 0 ∷ []) ((Shift Sar 0 16 ∷ element_code plan 2 0 1) ++ (spread_code 0 1 ++ mixed_long_code 0 1 2)) refl d _
+        (run_then N C (Shift Sar 0 16 ∷ element_code plan 2 0 1) (spread_code 0 1 ++ mixed_long_code 0 1 2) d1 (λ e. Kept d1 e × (e.gpr 0 ≡ moved s.base (z *ℤ pos 4))) _
+          (locate_run f count plan s c ready 2 p d1 refl (place_fits i s.p s.q below) t1 h.1)
+          (λ e g.
+            let te : At c e = record { memory = g.0.memory ∙ t1.memory; stack = g.0.stack ∙ t1.stack } in
+            let next : address e (away 0 4) ≡ cell f s.base w = ap (λ a. (a + 4) % 2 ^ 64) g.1 ∙ sym (element_on s.base z 1 4) in
+            let third : e.gpr 2 ≡ wrap 64 p = g.0.third ∙ h.1 in
+            let share : bit_and (sar 64 (e.gpr 2) 8) (wrap 64 (pos 255)) ≡ part = ap (λ a. bit_and (sar 64 a 8) (wrap 64 (pos 255))) third ∙ fraction_of i s.p s.q below in
+            let same : e.xmm 0 ≡ v.xmm 0 = ap (λ f. f 0) (g.0.xmm ∙ h.0.xmm) in
+            let rest : List Ins = Vec Pxor 3 3 ∷ Vec Punpcklbw 1 3 ∷ Vec Punpcklbw 2 3 ∷ ToGpr true 0 1 ∷ ToGpr true 1 2 ∷ (mix_code 0 1 2 ++ join_code 0) in
+            load_long f count plan s c ready 1 0 0 (VecLoad Movd 2 (away 0 4) ∷ (rest ++ push_code 4)) e _ z refl te refl (plain f count plan s c ready (e.gpr 0) z 4 refl g.1) is
+            (λ x long_x.
+              let e1 : Core = with_xmm e 1 x in
+              load_long f count plan s c ready 2 0 4 (rest ++ push_code 4) e1 _ w refl (record { memory = te.memory; stack = te.stack }) refl next is_w
+              (λ y long_y.
+                let e2 : Core = with_xmm e1 2 y in
+                let e3 = after rest e2 in
+                let zeros : List ℕ = result_of (shape Pxor) (e.xmm 3) (e.xmm 3) in
+                let none = zeros_of (e.xmm 3) in
+                let byte_x : ℕ → ℕ = λ j. get_or x j 0 in
+                let byte_y : ℕ → ℕ = λ j. get_or y j 0 in
+                let mix : ℕ → ℕ → ℕ → ℕ = λ a b f. add_wrap 64 (shl 64 a 8) (mul_low 64 (sub_wrap 64 b a) f) in
+                let spread_x = lane 8 0 (result_of (shape Punpcklbw) x zeros) in
+                let spread_y = lane 8 0 (result_of (shape Punpcklbw) y zeros) in
+                let is_mix : mix spread_x spread_y (bit_and (sar 64 (e.gpr 2) 8) (wrap 64 (pos 255))) ≡ words (λ j. blended part (byte_x j) (byte_y j)) =
+                ap (mix spread_x spread_y) share ∙ ap (λ a. mix a spread_y part) (spread_of x zeros long_x.small none) ∙ ap (λ b. mix (words byte_x) b part) (spread_of y zeros long_y.small none)
+                ∙ mix_of part (words byte_x) (words byte_y) (small_fraction i s.p s.q) (words_small byte_x long_x.small) (words_small byte_y long_y.small) ∙ blended_words part byte_x byte_y in
+                let is_joined : e3.xmm 1 ≡ joined (words (λ j. blended part (byte_x j) (byte_y j))) zeros = ap (λ m. joined m zeros) is_mix in
+                let lowest : lane 4 0 (e3.xmm 1) ≡ value =
+                ap (lane 4 0) is_joined ∙ long_of part x y zeros (small_fraction i s.p s.q) long_x.small long_y.small ∙ ap (λ a. mixed_bytes 4 part a (lane 4 0 y)) long_x.lowest ∙ ap (mixed_bytes 4 part (element f c.memory s.base z)) long_y.lowest in
+                calm_then N C rest (push_code 4) refl e2 _
+                (run_map N C (push_code 4) e3 (λ u. At c u × Pushed 4 value (e3.xmm 0) (u.xmm 0)) _
+                  (push_long f count plan s c ready e3 value (record { memory = te.memory; stack = te.stack }) (subst AreBytes (sym same) small) lowest
+                    (λ i a b. ap (λ r. get_or r i 0) is_joined ∙ joined_high (words (λ j. blended part (byte_x j) (byte_y j))) zeros none i a b) (subst AreBytes (sym is_joined) (joined_small (words (λ j. blended part (byte_x j) (byte_y j))) zeros)))
+                  (λ u h. (h.0, subst (λ x. Pushed 4 value x (u.xmm 0)) same h.1))))))))
