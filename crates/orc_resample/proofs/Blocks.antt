@@ -1,32 +1,30 @@
 -- The code of one element of each far load, from a state that is ready on.
-use Rattle.std.proofs.Common.{◌≡◌, ℕ, zero, suc, ◌+◌, ◌-◌, ◌*◌, ◌/◌, ◌%◌, ◌^◌, ◌<◌, ◌≤◌, ℤ, pos, ◌+ℤ◌, ◌*ℤ◌, Bool, true, List, [], ◌∷◌, ◌++◌, get_or, Option, Some, Result, Ok, Err, refl, sym, ap, ◌∙◌, subst, arith, ◌⊎◌, inl, inr, mod-eq_of_lt, lit<, false, if◌then◌else◌}
+use Rattle.std.proofs.Common.{◌≡◌, ℕ, zero, suc, ◌+◌, ◌*◌, ◌/◌, ◌%◌, ◌^◌, ◌<◌, ◌≤◌, ℤ, pos, ◌*ℤ◌, true, List, [], ◌∷◌, ◌++◌, get_or, Some, refl, sym, ap, ◌∙◌, subst, arith, inl, inr, lit<, false, if◌then◌else◌}
 use Rattle.std.specs.Prelude.{nat_lt, cond}
 use Rattle.std.proofs.lemmas.Bool.Decides.{nat_tests}
 use Rattle.std.specs.Int.{int_shr}
 use Rattle.orc_bits.specs.Numbers.{wrap}
 use Rattle.orc_bits.specs.Lanes.{lane, from_bytes, byte_of, AreBytes}
-use Rattle.orc_bits.specs.Memory.{Memory, read, value, word, IsMapped}
+use Rattle.orc_bits.specs.Memory.{read, value, word}
 use Rattle.orc_bits.proofs.Memories.{AreMapped, read_there, read_bytes, value_small}
 use Rattle.orc_bits.proofs.LaneLaws.{lane_one, from_byte, AreBytes-from_bytes}
 use Rattle.x86_ins.specs.declared.ins.MoveOp.TheVariants as move
-use Rattle.x86_ins.specs.declared.ins.AluOp.TheVariants.{Add, Sub, And}
+use Rattle.x86_ins.specs.declared.ins.AluOp.TheVariants.{Add}
 use Rattle.x86_ins.specs.declared.ins.ShiftOp.TheVariants.{Shl, Shr, Sar}
-use Rattle.x86_ins.specs.declared.ins.VecOp.TheVariants.{Por}
-use Rattle.x86_ins.specs.declared.ins.VecImmOp.TheVariants.{Pslldq}
 use Rattle.x86_ins.specs.declared.ins.Ins.{Ins}
-use Rattle.x86_ins.specs.declared.ins.Ins.TheVariants.{Vec, VecImm, VecLoad, FromGpr, ToGpr, Move, Load, Load8, Alu, AluImm, Shift, Imul, Lea}
-use Rattle.x86_ins.specs.Vectors.{shl, shr, sar, add_wrap, sub_wrap, mul_low}
+use Rattle.x86_ins.specs.declared.ins.Ins.TheVariants.{VecLoad, Load, Load8, Alu, Shift, Imul, Lea}
+use Rattle.x86_ins.specs.Vectors.{shl, sar, add_wrap, mul_low}
 use Rattle.x86_ins.specs.Machine.{Core, with_gpr, with_xmm, moved, address}
 use Rattle.x86_flow.specs.Moves.{away}
 use Rattle.orc_ops.specs.declared.far.Far.{Far}
-use Rattle.orc_ops.specs.Far.{far_size, far_scalars, place, fraction}
+use Rattle.orc_ops.specs.Far.{far_size, far_scalars, place}
 use Rattle.orc_resample.specs.declared.plan.FarPlan.{FarPlan}
-use Rattle.orc_resample.specs.Code.{slot, scalar_at, index_code, half_code, element_code, place_code, push_code, push_gpr_code}
+use Rattle.orc_resample.specs.Code.{slot, scalar_at, half_code, element_code, place_code, push_code, push_gpr_code}
 use Rattle.orc_resample.specs.Ready.{Source, Ready, InPlan, InWord, AmongCells, InElement, cell, element, some_or_zero, is_pointer}
-use Rattle.orc_resample.proofs.Numbers.{moved_small, scaled_of, half_of, place_of, Fits, shifted_of, place_fits}
+use Rattle.orc_resample.proofs.Numbers.{moved_small, scaled_of, half_of, place_of, Fits, shifted_of}
 use Rattle.orc_resample.proofs.Bytes.{byte, digits, digits_same, value_is, read_byte, read_beyond, lane_is}
 use Rattle.orc_resample.proofs.Pushes.{pushed, pushed_first, pushed_next, pushed_small}
-use Rattle.orc_resample.proofs.Runs.{Run, after, run_then, run_map, calm_then, calm_run, slot_then, byte_then, vector_then}
+use Rattle.orc_resample.proofs.Runs.{Run, after, calm_then, calm_run, slot_then, byte_then, vector_then}
 
 -- memory and RSP are as they were
 pub record At (c v : Core) : Type 0 where

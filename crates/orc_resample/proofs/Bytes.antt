@@ -1,7 +1,7 @@
 -- Elements of an array in memory, and their bytes.
-use Rattle.std.proofs.Common.{◌≡◌, ℕ, zero, suc, ◌+◌, ◌*◌, ◌/◌, ◌%◌, ◌^◌, ◌<◌, ◌≤◌, List, [], ◌∷◌, get_or, Option, Some, None, refl, sym, ap, ◌∙◌, subst, arith, lit<, mod-eq_of_lt}
-use Rattle.orc_bits.specs.Lanes.{number_at, lane, AreBytes}
-use Rattle.orc_bits.specs.Memory.{Memory, bind, read, number, value, IsMapped}
+use Rattle.std.proofs.Common.{◌≡◌, ℕ, zero, suc, ◌+◌, ◌*◌, ◌%◌, ◌^◌, ◌<◌, ◌≤◌, List, [], ◌∷◌, get_or, Option, Some, None, refl, sym, ap, ◌∙◌, subst, arith, lit<}
+use Rattle.orc_bits.specs.Lanes.{number_at, lane}
+use Rattle.orc_bits.specs.Memory.{Memory, bind, read, number, value}
 use Rattle.orc_bits.proofs.Memories.{bind_some, some_one, AreMapped, read_there, Bytewide}
 use Rattle.orc_resample.specs.Ready.{some_or_zero}
 

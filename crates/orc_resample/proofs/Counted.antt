@@ -1,5 +1,5 @@
 -- How long the lists are.
-use Rattle.std.proofs.Common.{◌≡◌, ℕ, zero, suc, ◌+◌, ◌-◌, ◌*◌, ◌≤◌, ◌==◌, ◌&&◌, Bool, true, false, not, if◌then◌else◌, length, List, [], ◌∷◌, ◌++◌, Result, Ok, Err, IfOk, ap, ◌∙◌, refl, arith, length-append}
+use Rattle.std.proofs.Common.{◌≡◌, ℕ, zero, suc, ◌+◌, ◌-◌, ◌*◌, ◌≤◌, Bool, true, false, if◌then◌else◌, length, List, [], ◌∷◌, ◌++◌, Result, Ok, Err, IfOk, ap, ◌∙◌, refl, arith, length-append}
 use Rattle.x86_ins.specs.declared.ins.Ins.{Ins}
 use Rattle.x86_flow.specs.Moves.{IsWidth}
 use Rattle.x86_flow.specs.Touching.{touch_weight}
@@ -52,10 +52,18 @@ gather_short Ldresnearl count plan is = omega (arith, elements_size Ldresnearl p
 gather_short Ldreslinb count plan is = omega (arith, elements_size Ldreslinb plan count (scratch plan 0) (scratch plan 1) (scratch plan 2) count)
 gather_short Ldreslinl count plan is = omega (arith, elements_size Ldreslinl plan count (scratch plan 0) (scratch plan 1) (scratch plan 2) count)
 
+-- at most 16 bytes
+pub room_of : (width : ℕ) → IsWidth width → width ≤ 16
+room_of width is = each_width (λ w. w ≤ 16) (omega arith) (omega arith) (omega arith) (omega arith) (omega arith) width is
+
 -- from what holds of a list to what holds of an outcome
 pub ok_map : {A E : Type 0} (r : Result A E) (P Q : A → Type 0) → ((x : A) → P x → Q x) → IfOk r P → IfOk r Q
 ok_map (Ok x) P Q f h = f x h
 ok_map (Err e) P Q f h = tt
+
+pub ok_both : {A E : Type 0} (r : Result A E) (P Q R : A → Type 0) → ((x : A) → P x → Q x → R x) → IfOk r P → IfOk r Q → IfOk r R
+ok_both (Ok x) P Q R f h k = f x h k
+ok_both (Err e) P Q R f h k = tt
 
 -- ---- how many touch the array
 

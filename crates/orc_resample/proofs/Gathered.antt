@@ -1,5 +1,5 @@
 -- The whole list of a far load leads from every ready state to the values.
-use Rattle.std.proofs.Common.{◌≡◌, ◌≢◌, ℕ, zero, suc, ◌+◌, ◌-◌, ◌*◌, ◌^◌, ◌<◌, ◌≤◌, ℤ, pos, ◌+ℤ◌, Bool, true, false, ◌&&◌, List, [], ◌∷◌, ◌++◌, map, Result, Ok, refl, sym, ap, ◌∙◌, subst, arith}
+use Rattle.std.proofs.Common.{◌≡◌, ℕ, zero, suc, ◌+◌, ◌-◌, ◌*◌, ◌^◌, ◌<◌, ◌≤◌, pos, ◌+ℤ◌, Bool, true, false, ◌&&◌, List, [], ◌∷◌, ◌++◌, map, refl, sym, ap, ◌∙◌, subst, arith}
 use Rattle.std.proofs.lemmas.List.{map-append}
 use Rattle.std.specs.Prelude.{nat_lt}
 use Rattle.std.proofs.Math.Nat.{mul-le-mul_right}
@@ -7,7 +7,7 @@ use Rattle.orc_bits.specs.Lanes.{lane, AreBytes}
 use Rattle.x86_ins.specs.declared.ins.Ins.{Ins}
 use Rattle.x86_ins.specs.Spelling.{IsIns}
 use Rattle.x86_ins.specs.Way.{Each}
-use Rattle.x86_ins.specs.Machine.{Core, Bounded, work}
+use Rattle.x86_ins.specs.Machine.{Core, Bounded}
 use Rattle.x86_ins.proofs.Bounds.{work_bounded}
 use Rattle.x86_flow.specs.Does.{Line}
 use Rattle.x86_flow.specs.Moves.{IsWidth}
@@ -17,13 +17,14 @@ use Rattle.orc_ops.specs.declared.far.Far.{Far}
 use Rattle.orc_ops.specs.declared.far.Far.TheVariants.{Loadoffb, Loadoffw, Loadoffl, Loadupdb, Loadupib, Ldresnearb, Ldresnearl, Ldreslinb, Ldreslinl}
 use Rattle.orc_ops.specs.Far.{far_size, far_scalars, far_first, scalar}
 use Rattle.orc_resample.specs.declared.plan.FarPlan.{FarPlan}
-use Rattle.orc_resample.specs.Code.{scratch, element_of, elements_code, bits_of, row_code, start_code, offset_code, gather_with, gather_code}
-use Rattle.orc_resample.specs.Ready.{IsPlan, Source, Ready, IsScratch, Keeps, element, value_at, Gathered, OnTheWay, Sees, Gathers}
-use Rattle.orc_resample.proofs.Twins.{Names, Twin, Tamed, Looks, named, renamed, is_tame, all_tame, renamed_line}
+use Rattle.orc_resample.specs.Code.{scratch, element_of, elements_code, bits_of, row_code, start_code, offset_code, gather_code}
+use Rattle.orc_resample.specs.Ready.{IsPlan, Source, Ready, Keeps, element, value_at, Gathered, OnTheWay, Sees, Gathers}
+use Rattle.orc_resample.proofs.Twins.{Names, Twin, Tamed, named, renamed, is_tame, all_tame, renamed_line}
 use Rattle.orc_resample.proofs.Runs.{run_then, run_map, calm_run}
 use Rattle.orc_resample.proofs.Blocks.{At, Pushed, Near, Cells, Leads}
 use Rattle.orc_resample.proofs.Singles.{Adds, double_run, middle_run, near_byte_run, near_long_run, linear_byte_run, linear_long_run}
 use Rattle.orc_resample.proofs.Rows.{offset_run}
+use Rattle.orc_resample.proofs.Counted.{room_of}
 
 -- ---- registers stay below 2 ^ 64, and bytes below 256
 
@@ -162,22 +163,19 @@ module _ (far : Far) (count : ℕ) (plan : FarPlan) (is_plan : IsPlan far plan) 
         (λ d. At under d × ((j : ℕ) → j < count → lane (far_size far) j (d.xmm 0) ≡ element far c.memory s.base (far_first far (s.first + j) s.p s.q))) AreValues
         (offset_run far count plan s under ready_under (bits_of (far_size far)) under few size one firsts w at) (λ d h j l. h.1 j l ∙ values (s.first + j)))
 
-at_most_16 : (width : ℕ) → IsWidth width → width ≤ 16
-at_most_16 width is = each_width (λ w. w ≤ 16) (omega arith) (omega arith) (omega arith) (omega arith) (omega arith) width is
-
 pub gathers : (far : Far) (count : ℕ) (plan : FarPlan) → IsPlan far plan → IsWidth (count * far_size far) → Each IsIns (gather_code far count plan) → Gathers far count plan (gather_code far count plan)
 gathers Loadoffb count plan is w ranges s c ready = side_by_side Loadoffb count plan is s c ready refl refl (omega arith) (λ i. refl) (λ i. refl) w ranges
 gathers Loadupdb count plan is w ranges s c ready =
-    one_by_one Loadupdb count plan is s c ready (λ k a b e. refl) (λ k. refl) (at_most_16 (count * 1) w) (double_run count plan s (under Loadupdb count plan is s c ready) (ready_under Loadupdb count plan is s c ready)) ranges
+    one_by_one Loadupdb count plan is s c ready (λ k a b e. refl) (λ k. refl) (room_of (count * 1) w) (double_run count plan s (under Loadupdb count plan is s c ready) (ready_under Loadupdb count plan is s c ready)) ranges
 gathers Loadupib count plan is w ranges s c ready =
-    one_by_one Loadupib count plan is s c ready (λ k a b e. refl) (λ k. refl) (at_most_16 (count * 1) w) (middle_run count plan s (under Loadupib count plan is s c ready) (ready_under Loadupib count plan is s c ready)) ranges
+    one_by_one Loadupib count plan is s c ready (λ k a b e. refl) (λ k. refl) (room_of (count * 1) w) (middle_run count plan s (under Loadupib count plan is s c ready) (ready_under Loadupib count plan is s c ready)) ranges
 gathers Ldresnearb count plan is w ranges s c ready =
-    one_by_one Ldresnearb count plan is s c ready (λ k a b e. refl) (λ k. refl) (at_most_16 (count * 1) w) (near_byte_run count plan s (under Ldresnearb count plan is s c ready) (ready_under Ldresnearb count plan is s c ready)) ranges
+    one_by_one Ldresnearb count plan is s c ready (λ k a b e. refl) (λ k. refl) (room_of (count * 1) w) (near_byte_run count plan s (under Ldresnearb count plan is s c ready) (ready_under Ldresnearb count plan is s c ready)) ranges
 gathers Ldresnearl count plan is w ranges s c ready =
-    one_by_one Ldresnearl count plan is s c ready (λ k a b e. refl) (λ k. refl) (at_most_16 (count * 4) w) (near_long_run count plan s (under Ldresnearl count plan is s c ready) (ready_under Ldresnearl count plan is s c ready)) ranges
+    one_by_one Ldresnearl count plan is s c ready (λ k a b e. refl) (λ k. refl) (room_of (count * 4) w) (near_long_run count plan s (under Ldresnearl count plan is s c ready) (ready_under Ldresnearl count plan is s c ready)) ranges
 gathers Ldreslinb count plan is w ranges s c ready =
-    one_by_one Ldreslinb count plan is s c ready (λ k a b e. refl) (λ k. refl) (at_most_16 (count * 1) w) (linear_byte_run count plan s (under Ldreslinb count plan is s c ready) (ready_under Ldreslinb count plan is s c ready)) ranges
+    one_by_one Ldreslinb count plan is s c ready (λ k a b e. refl) (λ k. refl) (room_of (count * 1) w) (linear_byte_run count plan s (under Ldreslinb count plan is s c ready) (ready_under Ldreslinb count plan is s c ready)) ranges
 gathers Ldreslinl count plan is w ranges s c ready =
-    one_by_one Ldreslinl count plan is s c ready (λ k a b e. refl) (λ k. refl) (at_most_16 (count * 4) w) (linear_long_run count plan s (under Ldreslinl count plan is s c ready) (ready_under Ldreslinl count plan is s c ready)) ranges
+    one_by_one Ldreslinl count plan is s c ready (λ k a b e. refl) (λ k. refl) (room_of (count * 4) w) (linear_long_run count plan s (under Ldreslinl count plan is s c ready) (ready_under Ldreslinl count plan is s c ready)) ranges
 gathers Loadoffw count plan is w ranges s c ready = side_by_side Loadoffw count plan is s c ready refl refl (omega arith) (λ i. refl) (λ i. refl) w ranges
 gathers Loadoffl count plan is w ranges s c ready = side_by_side Loadoffl count plan is s c ready refl refl (omega arith) (λ i. refl) (λ i. refl) w ranges

@@ -1,13 +1,12 @@
 -- The mix of two elements of four bytes: all four bytes at once, as words of a general register.
-use Rattle.std.proofs.Common.{◌≡◌, ℕ, zero, suc, ◌+◌, ◌-◌, ◌*◌, ◌/◌, ◌%◌, ◌^◌, ◌<◌, ◌≤◌, ℤ, pos, ◌+ℤ◌, ◌*ℤ◌, Bool, true, false, if◌then◌else◌, List, [], ◌∷◌, ◌++◌, get_or, refl, sym, ap, ◌∙◌, subst, arith, ◌⊎◌, inl, inr, ⊎_elim}
-use Rattle.std.specs.Prelude.{nat_lt, nat_eq, cond, int_lt, bit_and, bit_xor, ◌-ℤ◌}
-use Rattle.std.specs.Int.{int_shr}
+use Rattle.std.proofs.Common.{◌≡◌, ℕ, zero, suc, ◌+◌, ◌-◌, ◌*◌, ◌/◌, ◌%◌, ◌^◌, ◌<◌, ◌≤◌, pos, true, false, if◌then◌else◌, List, get_or, refl, sym, ap, ◌∙◌, arith, ⊎_elim}
+use Rattle.std.specs.Prelude.{nat_lt, nat_eq, cond, bit_xor, ◌-ℤ◌}
 use Rattle.std.proofs.lemmas.Bool.Decides.{nat_tests}
 use Rattle.std.proofs.lemmas.Bool.{cases_lt}
 use Rattle.std.specs.Int.Bits.{xor_self}
 use Rattle.std.proofs.Math.Nat.{mul-le-mul_left}
-use Rattle.orc_bits.specs.Numbers.{wrap, signed, clamp_u}
-use Rattle.orc_bits.specs.Lanes.{lane, from_bytes, from_lanes, byte_of, AreBytes}
+use Rattle.orc_bits.specs.Numbers.{signed, clamp_u}
+use Rattle.orc_bits.specs.Lanes.{lane, from_bytes, byte_of, AreBytes}
 use Rattle.orc_bits.proofs.LaneLaws.{lane_one, from_byte, lane_of_digits, lane-from_lanes, AreBytes-from_lanes}
 use Rattle.x86_ins.specs.declared.ins.VecOp.TheVariants.{Pxor, Punpcklbw, Packuswb}
 use Rattle.x86_ins.specs.declared.ins.VecImmOp.TheVariants.{Psrlw}

@@ -1,9 +1,8 @@
 -- What puts an element below the values that are there.
-use Rattle.std.proofs.Common.{◌≡◌, ℕ, zero, suc, ◌+◌, ◌-◌, ◌*◌, ◌%◌, ◌/◌, ◌^◌, ◌<◌, ◌≤◌, true, false, List, get_or, refl, sym, ap, ◌∙◌, arith}
+use Rattle.std.proofs.Common.{◌≡◌, ℕ, zero, suc, ◌+◌, ◌-◌, ◌*◌, ◌%◌, ◌/◌, ◌^◌, ◌<◌, ◌≤◌, true, false, List, get_or, refl, ap, ◌∙◌, arith}
 use Rattle.std.specs.Prelude.{nat_lt, cond, bit_or}
 use Rattle.std.proofs.lemmas.Bool.Decides.{nat_tests}
-use Rattle.std.proofs.lemmas.Nat.{or_lt}
-use Rattle.orc_bits.specs.Lanes.{number_at, lane, from_lanes, from_bytes, byte_of, AreBytes}
+use Rattle.orc_bits.specs.Lanes.{number_at, lane, from_lanes, AreBytes}
 use Rattle.orc_bits.proofs.LaneLaws.{byte_is, lane_one, AreBytes-from_lanes}
 use Rattle.orc_bits.proofs.Bits.{or_zero_l, or_zero_r}
 use Rattle.x86_ins.specs.declared.ins.VecOp.TheVariants.{Por}

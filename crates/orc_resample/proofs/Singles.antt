@@ -1,5 +1,5 @@
 -- The code of one element puts its value below the values that are there, for each far load that goes element by element.
-use Rattle.std.proofs.Common.{◌≡◌, ◌≢◌, ℕ, zero, suc, ◌+◌, ◌-◌, ◌*◌, ◌/◌, ◌%◌, ◌^◌, ◌<◌, ◌≤◌, ◌==◌, ℤ, pos, ◌+ℤ◌, ◌*ℤ◌, Bool, true, false, if◌then◌else◌, List, [], ◌∷◌, ◌++◌, get_or, Option, Some, None, refl, sym, ap, ◌∙◌, subst, arith, ◌⊎◌, inl, inr, ⊎_elim}
+use Rattle.std.proofs.Common.{◌≡◌, ◌≢◌, ℕ, ◌+◌, ◌-◌, ◌*◌, ◌/◌, ◌%◌, ◌^◌, ◌<◌, ◌≤◌, ◌==◌, ℤ, pos, ◌+ℤ◌, ◌*ℤ◌, true, if◌then◌else◌, List, [], ◌∷◌, ◌++◌, get_or, Some, None, refl, sym, ap, ◌∙◌, subst, arith, ◌⊎◌, inl, inr, ⊎_elim}
 use Rattle.std.proofs.lemmas.Bool.{cases_eq}
 use Rattle.std.specs.Prelude.{bit_and}
 use Rattle.std.proofs.Math.Nat.{mul-le-mul_left}
@@ -7,10 +7,10 @@ use Rattle.std.specs.Int.{int_shr}
 use Rattle.orc_bits.specs.Numbers.{wrap}
 use Rattle.orc_bits.specs.Lanes.{lane, AreBytes}
 use Rattle.orc_bits.proofs.LaneLaws.{eq_false}
-use Rattle.x86_ins.specs.declared.ins.AluOp.TheVariants.{Add, Sub, And}
-use Rattle.x86_ins.specs.declared.ins.ShiftOp.TheVariants.{Shl, Shr, Sar}
+use Rattle.x86_ins.specs.declared.ins.AluOp.TheVariants.{Add}
+use Rattle.x86_ins.specs.declared.ins.ShiftOp.TheVariants.{Shr, Sar}
 use Rattle.x86_ins.specs.declared.ins.Ins.{Ins}
-use Rattle.x86_ins.specs.declared.ins.Ins.TheVariants.{Vec, ToGpr, Move, Alu, AluImm, Shift, Imul, Lea, Load8, VecLoad}
+use Rattle.x86_ins.specs.declared.ins.Ins.TheVariants.{Vec, ToGpr, Move, Alu, Shift, Lea, Load8, VecLoad}
 use Rattle.x86_ins.specs.declared.ins.VecOp.TheVariants.{Pxor, Punpcklbw}
 use Rattle.x86_ins.specs.declared.ins.MoveOp.TheVariants.{Movd}
 use Rattle.x86_ins.specs.Vectors.{shape, result_of, shl, shr, sar, add_wrap, sub_wrap, mul_low}
@@ -18,14 +18,14 @@ use Rattle.x86_ins.specs.Machine.{Core, with_gpr, with_xmm, moved, address}
 use Rattle.x86_flow.specs.Moves.{away}
 use Rattle.orc_ops.specs.declared.far.Far.{Far}
 use Rattle.orc_ops.specs.declared.far.Far.TheVariants.{Loadupdb, Loadupib, Ldresnearb, Ldresnearl, Ldreslinb, Ldreslinl}
-use Rattle.orc_ops.specs.Far.{far_size, far_scalars, far_first, far_second, far_part, far_blend, other, place, fraction, mixed, mixed_bytes}
+use Rattle.orc_ops.specs.Far.{far_size, far_first, far_second, other, place, fraction, mixed, mixed_bytes}
 use Rattle.orc_resample.specs.declared.plan.FarPlan.{FarPlan}
 use Rattle.orc_resample.specs.Code.{element_of, element_code, half_code, place_code, address_code, near_byte_code, near_long_code, mixed_byte_code, mix_code, join_code, spread_code, mixed_long_code, average_code, push_code, push_gpr_code}
 use Rattle.orc_resample.specs.Ready.{Source, Ready, IsRead, cell, element, value_at}
-use Rattle.orc_resample.proofs.Numbers.{element_on, moved_small, place_fits, fraction_of, small_fraction, mix_of}
-use Rattle.orc_resample.proofs.Runs.{run_then, run_map, after, calm_then, calm_run}
+use Rattle.orc_resample.proofs.Numbers.{element_on, place_fits, fraction_of, small_fraction, mix_of}
+use Rattle.orc_resample.proofs.Runs.{run_then, run_map, after, calm_then}
 use Rattle.orc_resample.proofs.Longs.{words, blended, blended_words, words_small, zeros_of, spread_of, joined, joined_high, joined_small, long_of}
-use Rattle.orc_resample.proofs.Blocks.{At, Kept, Pushed, Near, Cells, Leads, IsCell, IsLong, load_byte, load_long, byte_element, push_byte, push_long, plain, half_run, place_run, locate_run, kept_at}
+use Rattle.orc_resample.proofs.Blocks.{At, Kept, Pushed, Near, Cells, Leads, IsCell, load_byte, load_long, byte_element, push_byte, push_long, plain, half_run, place_run, locate_run, kept_at}
 
 module _ (far : Far) (count : ℕ) (plan : FarPlan) (s : Source) (c : Core) (ready : Ready far count plan s c) where
   -- the code for the element k puts its value below the values of v

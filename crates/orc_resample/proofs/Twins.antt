@@ -1,10 +1,10 @@
 -- A far load's code in any three scratch registers does what it does in the registers 0, 1 and 2: a state, and its twin under these names.
-use Rattle.std.proofs.Common.{◌≡◌, ◌≢◌, ℕ, zero, suc, ◌+◌, ◌%◌, ◌^◌, ◌⊎◌, inl, inr, ⊎_elim, ◌<◌, ◌≤◌, ◌==◌, Bool, true, false, not, ◌&&◌, if◌then◌else◌, List, [], ◌∷◌, get_or, map, Option, Some, Result, Ok, refl, sym, ap, ◌∙◌, subst, arith, true≢false}
+use Rattle.std.proofs.Common.{◌≡◌, ◌≢◌, ℕ, zero, suc, ◌+◌, ◌%◌, ◌^◌, ◌⊎◌, inl, inr, ⊎_elim, ◌<◌, ◌≤◌, ◌==◌, Bool, true, false, not, ◌&&◌, if◌then◌else◌, List, [], ◌∷◌, get_or, map, Some, Result, Ok, refl, sym, ap, ◌∙◌, subst, arith, true≢false}
 use Rattle.std.specs.Prelude.{nat_lt}
 use Rattle.std.proofs.lemmas.Bool.Decides.{nat_tests}
 use Rattle.orc_bits.specs.Numbers.{wrap}
 use Rattle.orc_bits.specs.Lanes.{lane, change, from_bytes, byte_of}
-use Rattle.orc_bits.specs.Memory.{Memory, read, value}
+use Rattle.orc_bits.specs.Memory.{read, value}
 use Rattle.orc_bits.proofs.LaneLaws.{eq_false, change_other, change_same}
 use Rattle.x86_ins.specs.declared.ins.Addr.{Addr}
 use Rattle.x86_ins.specs.declared.ins.MoveOp.{MoveOp}

@@ -3,12 +3,14 @@
 ghost use Rattle.std.specs.Prelude.{◌≡◌, ◌<◌, ◌≤◌, ◌*◌, ◌++◌, OnOk, IfOk, true, IsTrue, length, get_or};
 ghost use Rattle.orc_ops.specs.declared.far.Far.TheVariants as loads;
 ghost use Rattle.orc_ops.specs.Far.{far_size, far_scalars};
+ghost use Rattle.x86_ins.specs.Spelling.{IsIns};
+ghost use Rattle.x86_ins.specs.Way.{Each};
 ghost use Rattle.x86_flow.specs.Moves.{IsWidth};
 ghost use Rattle.orc_resample.specs.Code.{scratch, element_of, elements_code, offset_code, is_one_by_one, gather_with, gather_code};
-ghost use Rattle.orc_resample.specs.Ready.{IsPlan, weight, far_count};
+ghost use Rattle.orc_resample.specs.Ready.{IsPlan, Gathers, weight, far_count};
 
 use crate::pieces::{
-    bits_of, push_address, push_average, push_byte, push_half, push_mixed_byte,
+    bits_of, look_through, push_address, push_average, push_byte, push_half, push_mixed_byte,
     push_mixed_long, push_near_byte, push_near_long, push_offset, push_other_half, push_place,
     push_row, push_spread,
 };
@@ -240,27 +242,28 @@ fn gather_list(alloc: Global, far: Far, count: u8, plan: &FarPlan) -> Result<Ins
     requires few { count ≤ 16 }
     requires room { count * far_size far ≤ 16 }
     requires width { IsWidth (count * far_size far) }
-    ensures { IfOk result (λ list. list ≡ gather_code far count plan.now) }
+    ensures list { IfOk result (λ list. list ≡ gather_code far count plan.now) }
+    ensures ranges { IfOk result (λ list. Each IsIns list) }
 {
     let a = register(plan, 0);
     let b = register(plan, 1);
     let e = register(plan, 2);
     let mut list = InsList::new(alloc);
     push_values(&mut list, plan, far, usize::from(count), a, b, e)?;
+    look_through(list.as_slice());
     Ok(list)
 }
 
 /// The code that leaves the next `count` values of a far load side by side in XMM0, the first one lowest. `count` is 1, 2, 4, 8 or
-/// 16, and so many results have 1, 2, 4, 8 or 16 bytes. The code has no jumps, and writes nothing but the plan's scratch registers,
-/// XMM0 to XMM3 and the flags.
+/// 16, and so many results have 1, 2, 4, 8 or 16 bytes. The code has no jumps and writes no memory, and no registers but the plan's
+/// scratch registers, XMM0 to XMM5 and the flags.
 pub fn gather(alloc: Global, far: Far, count: u8, plan: &FarPlan) -> Result<InsList, AllocError>
     requires plan { IsPlan far plan.now }
-    requires few { count ≤ 16 }
-    requires room { count * far_size far ≤ 16 }
     requires width { IsWidth (count * far_size far) }
-    ensures list { IfOk result (λ list. list ≡ gather_code far count plan.now) }
+    ensures values { IfOk result (λ list. Gathers far count plan.now list) }
     ensures short { IfOk result (λ list. length list ≤ weight far count) }
     ensures touches { IfOk result (λ list. far_count list ≤ 2 * count) }
+    ensures ranges { IfOk result (λ list. Each IsIns list) }
 {
     gather_list(alloc, far, count, plan)
 }

@@ -6,13 +6,17 @@ ghost use Rattle.x86_ins.specs.declared.ins.ShiftOp.{ShiftOp};
 ghost use Rattle.x86_ins.specs.declared.ins.Ins.TheVariants as ins;
 ghost use Rattle.x86_ins.specs.declared.ins.MoveOp.TheVariants.{Movd};
 ghost use Rattle.x86_ins.specs.declared.ins.AluOp.TheVariants.{And};
+ghost use Rattle.x86_ins.specs.Spelling.{IsIns};
+ghost use Rattle.x86_ins.specs.Way.{Each};
 ghost use Rattle.x86_flow.specs.Moves.{away, IsWidth};
 ghost use Rattle.orc_resample.specs.Code.{slot, scalar_at, bits_of, start_code, row_code, push_gpr_code, half_code, average_code, place_code, near_byte_code, near_long_code, address_code, mixed_byte_code, spread_code, mixed_long_code};
 
 use crate::plan::FarPlan;
 use std::alloc::AllocError;
 use x86_flow::away;
-use x86_ins::{Addr, AluOp, Gpr, Ins, InsList, MoveOp, ShiftOp, VecImmOp, VecOp, Xmm};
+use x86_ins::{
+    Addr, AluOp, Gpr, Ins, InsList, MoveOp, ShiftOp, VecImmOp, VecOp, Xmm, allowed,
+};
 
 /// RSP.
 const STACK: Gpr = Gpr { number: 4 };
@@ -84,6 +88,22 @@ pub fn scalar_at(plan: &FarPlan, j: usize) -> i32
     ensures { result ≡ scalar_at plan.now j }
 {
     plan.scalars[j]
+}
+
+/// An instruction's fields are always in the ranges of their types, which is known where it is read.
+fn look(ins: &Ins)
+    ensures { IsIns ins.now }
+{
+    let _ = allowed(ins);
+}
+
+/// The same of each instruction of a list.
+pub fn look_through(list: &[Ins])
+    ensures { Each IsIns list.now }
+{
+    for ins in list {
+        look(ins);
+    }
 }
 
 /// Adds instructions.
