@@ -2,6 +2,7 @@
 
 ghost use Rattle.std.specs.Prelude.{◌≡◌};
 ghost use Rattle.orc_ops.specs.Far.{far_name, far_size, far_scalars};
+ghost use Rattle.orc_ops.specs.FarLines.{AreLines};
 
 /// A load that reads elements other than the one at the place of its result: at an offset (`Loadoff`), each element twice (`Loadupd`,
 /// `Loadupi`), or at places that are counted in parts of 2^16 (`Ldresnear`, `Ldreslin`). The letter at the end of a name tells
@@ -57,3 +58,8 @@ pub fn far_scalars(far: Far) -> u8
         _ => 2,
     }
 }
+
+/// The law that the values of far loads are those of the table's lines.
+pub fn far_lines()
+    ensures { AreLines }
+{}
