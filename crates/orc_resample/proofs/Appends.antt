@@ -1,5 +1,5 @@
 -- Lists that grow by one list.
-use Rattle.std.proofs.Common.{◌≡◌, ℕ, suc, ◌+◌, ◌-◌, List, ◌++◌, Result, Ok, Err, OnOk, sym, ap, ◌∙◌, arith, append-nil, append_assoc}
+use Rattle.std.proofs.Common.{◌≡◌, ℕ, suc, ◌+◌, ◌-◌, List, [], ◌++◌, Result, Ok, Err, OnOk, sym, ap, ◌∙◌, arith, append-nil, append_assoc}
 use Rattle.x86_ins.specs.declared.ins.Ins.{Ins}
 use Rattle.orc_ops.specs.declared.far.Far.{Far}
 use Rattle.orc_resample.specs.declared.plan.FarPlan.{FarPlan}
@@ -13,6 +13,10 @@ extended_3 base c d f x y z p q r = extended base c f x (y ++ z) p (extended c d
 
 pub extended_4 : (base c d f g x y z w : List Ins) → c ≡ base ++ x → d ≡ c ++ y → f ≡ d ++ z → g ≡ f ++ w → g ≡ base ++ (x ++ (y ++ (z ++ w)))
 extended_4 base c d f g x y z w p q r s = extended base c g x (y ++ (z ++ w)) p (extended_3 c d f g y z w q r s)
+
+-- a list of nothing more
+pub unscaled : (base : List Ins) → base ≡ base ++ []
+unscaled base = sym (append-nil base)
 
 pub elements_none : (base : List Ins) (far : Far) (plan : FarPlan) (count a b e : ℕ) → base ≡ base ++ elements_code far plan count a b e 0
 elements_none base far plan count a b e = sym (append-nil base)

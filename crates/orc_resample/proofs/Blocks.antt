@@ -1,5 +1,5 @@
 -- The code of one element of each far load, from a state that is ready on.
-use Rattle.std.proofs.Common.{◌≡◌, ℕ, zero, suc, ◌+◌, ◌*◌, ◌/◌, ◌%◌, ◌^◌, ◌<◌, ◌≤◌, ℤ, pos, ◌*ℤ◌, true, List, [], ◌∷◌, ◌++◌, get_or, Some, refl, sym, ap, ◌∙◌, subst, arith, inl, inr, lit<, false, if◌then◌else◌}
+use Rattle.std.proofs.Common.{◌≡◌, ℕ, zero, suc, ◌+◌, ◌*◌, ◌/◌, ◌%◌, ◌^◌, ◌<◌, ◌≤◌, ℤ, pos, negsuc, ◌*ℤ◌, true, List, [], ◌∷◌, ◌++◌, get_or, Some, refl, sym, ap, ◌∙◌, subst, arith, inl, inr, lit<, false, if◌then◌else◌}
 use Rattle.std.specs.Prelude.{nat_lt, cond}
 use Rattle.std.proofs.lemmas.Bool.Decides.{nat_tests}
 use Rattle.std.specs.Int.{int_shr}
@@ -19,12 +19,12 @@ use Rattle.x86_flow.specs.Moves.{away}
 use Rattle.orc_ops.specs.declared.far.Far.{Far}
 use Rattle.orc_ops.specs.Far.{far_size, far_scalars, place}
 use Rattle.orc_resample.specs.declared.plan.FarPlan.{FarPlan}
-use Rattle.orc_resample.specs.Code.{slot, scalar_at, half_code, element_code, place_code, push_code, push_gpr_code}
+use Rattle.orc_resample.specs.Code.{slot, scalar_at, half_code, scale_code, element_code, place_code, push_code, push_gpr_code}
 use Rattle.orc_resample.specs.Ready.{Source, Ready, InPlan, InWord, AmongCells, InElement, cell, element, some_or_zero, is_pointer}
 use Rattle.orc_resample.proofs.Numbers.{moved_small, scaled_of, half_of, place_of, Fits, shifted_of}
 use Rattle.orc_resample.proofs.Bytes.{byte, digits, digits_same, value_is, read_byte, read_beyond, lane_is}
 use Rattle.orc_resample.proofs.Pushes.{pushed, pushed_first, pushed_next, pushed_small}
-use Rattle.orc_resample.proofs.Runs.{Run, after, calm_then, calm_run, slot_then, byte_then, vector_then}
+use Rattle.orc_resample.proofs.Runs.{Run, after, all_calm, run_map, calm_then, calm_run, slot_then, byte_then, vector_then}
 
 -- memory and RSP are as they were
 pub record At (c v : Core) : Type 0 where
@@ -72,9 +72,29 @@ pushed_byte value x l small =
     pushed_on 1 value x y (omega arith) small (AreBytes-from_bytes (byte_of 4 value) (λ i m. byte_below value i l)) (lane_one 0 y ∙ from_byte (byte_of 4 value) 0 (omega arith) ∙ byte_first value l)
     (λ i m h. from_byte (byte_of 4 value) i h ∙ byte_above value i l m)
 
--- an address in a register
-pub shl_is : (x bits : ℕ) → nat_lt bits 64 ≡ true → shl 64 x bits ≡ x * 2 ^ bits % 2 ^ 64
-shl_is x bits t = ap (λ b. cond b (x * 2 ^ bits % 2 ^ 64) 0) t
+-- ---- numbers of elements in a register, scaled
+
+unscaled_at : (x base : ℕ) → (x + base) % 2 ^ 64 ≡ (x * 1 % 2 ^ 64 + base) % 2 ^ 64
+unscaled_at x base = omega arith
+
+wrap_small : (z : ℤ) → wrap 64 z < 2 ^ 64
+wrap_small (pos n) = omega arith
+wrap_small (negsuc n) = omega arith
+
+-- the code multiplies the first scratch register by 2 ^ bits, and does nothing else
+pub record Scales (bits : ℕ) : Type 0 where
+  pub calm : all_calm (scale_code bits 0) ≡ true
+  pub number : (v : Core) → v.gpr 0 < 2 ^ 64 → (after (scale_code bits 0) v).gpr 0 ≡ v.gpr 0 * 2 ^ bits % 2 ^ 64
+  pub kept : (v : Core) → Kept v (after (scale_code bits 0) v)
+
+pub scales_0 : Scales 0
+scales_0 = record { calm = refl; number = λ v l. let q : v.gpr 0 ≡ v.gpr 0 * 1 % 2 ^ 64 = omega (arith, l) in q; kept = λ v. record { memory = refl; stack = refl; third = refl; xmm = refl } }
+
+pub scales_1 : Scales 1
+scales_1 = record { calm = refl; number = λ v l. refl; kept = λ v. record { memory = refl; stack = refl; third = refl; xmm = refl } }
+
+pub scales_2 : Scales 2
+scales_2 = record { calm = refl; number = λ v l. refl; kept = λ v. record { memory = refl; stack = refl; third = refl; xmm = refl } }
 
 module _ (far : Far) (count : ℕ) (plan : FarPlan) (s : Source) (c : Core) (ready : Ready far count plan s c) where
   abbrev pub Near : ℕ → Type 0
@@ -183,12 +203,12 @@ module _ (far : Far) (count : ℕ) (plan : FarPlan) (s : Source) (c : Core) (rea
       let z : ℤ = pos ((s.first + k) / 2) in
       let P : Core → Type 0 = λ d. Kept v d × (d.gpr 0 ≡ element far c.memory s.base z) in
       let v1 : Core = with_gpr v 0 s.first in
-      let halve : List Ins = Lea 0 (away 0 k) ∷ Shift Shr 0 1 ∷ Shift Shl 0 0 ∷ [] in
+      let halve : List Ins = Lea 0 (away 0 k) ∷ Shift Shr 0 1 ∷ [] in
       let v2 = after halve v1 in
       let v3 : Core = with_gpr v2 1 s.base in
       let v4 = after (Alu Add 0 1 ∷ []) v3 in
       let v5 : Core = with_gpr v4 0 (element far c.memory s.base z) in
-      let at : v4.gpr 0 ≡ moved s.base (z *ℤ pos 1) = ap (λ x. add_wrap 64 (shl 64 x 0) s.base) (half_of (s.first + k) low) ∙ scaled_of z s.base 1 in
+      let at : v4.gpr 0 ≡ moved s.base (z *ℤ pos 1) = ap (λ x. add_wrap 64 x s.base) (half_of (s.first + k) low) ∙ unscaled_at (wrap 64 z) s.base ∙ scaled_of z s.base 1 in
       load_index 0 (halve ++ (Load 1 (slot plan.array) ∷ Alu Add 0 1 ∷ Load8 0 (away 0 0) ∷ [])) v P t
       (calm_then Near Cells halve (Load 1 (slot plan.array) ∷ Alu Add 0 1 ∷ Load8 0 (away 0 0) ∷ []) refl v1 P
         (load_array 1 (Alu Add 0 1 ∷ Load8 0 (away 0 0) ∷ []) v2 P (record { memory = t.memory; stack = t.stack })
@@ -216,19 +236,30 @@ module _ (far : Far) (count : ℕ) (plan : FarPlan) (s : Source) (c : Core) (rea
             (load_p 1 plus v4 P (omega (arith, two)) (record { memory = t.memory; stack = t.stack })
               (calm_run Near Cells plus refl v5 P (record { memory = refl; stack = refl; third = refl; xmm = refl }, is))))))
 
-  -- the address of the element at P >> 16
-  pub locate_run : (bits : ℕ) (z : ℤ) (v : Core) → nat_lt bits 64 ≡ true → Fits (2 ^ 63) z → At c v → v.gpr 0 ≡ wrap 64 z → Leads (Shift Sar 0 16 ∷ element_code plan bits 0 1) v (λ d. Kept v d × (d.gpr 0 ≡ moved s.base (int_shr z 16 *ℤ pos (2 ^ bits))))
-  locate_run bits z v few fits t h =
-      let P : Core → Type 0 = λ d. Kept v d × (d.gpr 0 ≡ moved s.base (int_shr z 16 *ℤ pos (2 ^ bits))) in
-      let scale : List Ins = Shift Sar 0 16 ∷ Shift Shl 0 bits ∷ [] in
-      let v1 = after scale v in
+  -- the address of the element whose number a register holds
+  pub element_run : (bits : ℕ) (z : ℤ) (v : Core) → Scales bits → At c v → v.gpr 0 ≡ wrap 64 z → Leads (element_code plan bits 0 1) v (λ d. Kept v d × (d.gpr 0 ≡ moved s.base (z *ℤ pos (2 ^ bits))))
+  element_run bits z v scales t h =
+      let P : Core → Type 0 = λ d. Kept v d × (d.gpr 0 ≡ moved s.base (z *ℤ pos (2 ^ bits))) in
+      let v1 = after (scale_code bits 0) v in
+      let k = scales.kept v in
       let v2 : Core = with_gpr v1 1 s.base in
-      let is : (after (Alu Add 0 1 ∷ []) v2).gpr 0 ≡ moved s.base (int_shr z 16 *ℤ pos (2 ^ bits)) =
-      ap (λ x. add_wrap 64 (shl 64 (sar 64 x 16) bits) s.base) h ∙ ap (λ x. add_wrap 64 (shl 64 x bits) s.base) (shifted_of z 16 (omega arith) fits)
-      ∙ ap (λ x. add_wrap 64 x s.base) (shl_is (wrap 64 (int_shr z 16)) bits few) ∙ scaled_of (int_shr z 16) s.base (2 ^ bits) in
-      calm_then Near Cells scale (Load 1 (slot plan.array) ∷ Alu Add 0 1 ∷ []) refl v P
-      (load_array 1 (Alu Add 0 1 ∷ []) v1 P (record { memory = t.memory; stack = t.stack })
-        (calm_run Near Cells (Alu Add 0 1 ∷ []) refl v2 P (record { memory = refl; stack = refl; third = refl; xmm = refl }, is)))
+      let low : v.gpr 0 < 2 ^ 64 = subst (λ x. x < 2 ^ 64) (sym h) (wrap_small z) in
+      let is : (after (Alu Add 0 1 ∷ []) v2).gpr 0 ≡ moved s.base (z *ℤ pos (2 ^ bits)) =
+      ap (λ x. add_wrap 64 x s.base) (scales.number v low) ∙ ap (λ x. add_wrap 64 (x * 2 ^ bits % 2 ^ 64) s.base) h ∙ scaled_of z s.base (2 ^ bits) in
+      calm_then Near Cells (scale_code bits 0) (Load 1 (slot plan.array) ∷ Alu Add 0 1 ∷ []) scales.calm v P
+      (load_array 1 (Alu Add 0 1 ∷ []) v1 P (record { memory = k.memory ∙ t.memory; stack = k.stack ∙ t.stack })
+        (calm_run Near Cells (Alu Add 0 1 ∷ []) refl v2 P (record { memory = k.memory; stack = k.stack; third = k.third; xmm = k.xmm }, is)))
+
+  -- the address of the element at P >> 16
+  pub locate_run : (bits : ℕ) (z : ℤ) (v : Core) → Scales bits → Fits (2 ^ 63) z → At c v → v.gpr 0 ≡ wrap 64 z → Leads (Shift Sar 0 16 ∷ element_code plan bits 0 1) v (λ d. Kept v d × (d.gpr 0 ≡ moved s.base (int_shr z 16 *ℤ pos (2 ^ bits))))
+  locate_run bits z v scales fits t h =
+      let P : Core → Type 0 = λ d. Kept v d × (d.gpr 0 ≡ moved s.base (int_shr z 16 *ℤ pos (2 ^ bits))) in
+      let v1 = after (Shift Sar 0 16 ∷ []) v in
+      let floor : v1.gpr 0 ≡ wrap 64 (int_shr z 16) = ap (λ x. sar 64 x 16) h ∙ shifted_of z 16 (omega arith) fits in
+      calm_then Near Cells (Shift Sar 0 16 ∷ []) (element_code plan bits 0 1) refl v P
+      (run_map Near Cells (element_code plan bits 0 1) v1 (λ d. Kept v1 d × (d.gpr 0 ≡ moved s.base (int_shr z 16 *ℤ pos (2 ^ bits)))) P
+        (element_run bits (int_shr z 16) v1 scales (record { memory = t.memory; stack = t.stack }) floor)
+        (λ d k. (record { memory = k.0.memory; stack = k.0.stack; third = k.0.third; xmm = k.0.xmm }, k.1)))
 
   pub kept_at : (v d : Core) → At c v → Kept v d → At c d
   kept_at v d t k = record { memory = k.memory ∙ t.memory; stack = k.stack ∙ t.stack }

@@ -13,11 +13,11 @@ use Rattle.orc_resample.specs.Ready.{weight, is_pointer, far_count}
 
 -- the instructions of one element
 abbrev each : Far → ℕ
-each Loadupdb = 10
-each Loadupib = 21
-each Ldresnearb = 18
+each Loadupdb = 9
+each Loadupib = 19
+each Ldresnearb = 17
 each Ldresnearl = 17
-each Ldreslinb = 27
+each Ldreslinb = 26
 each _ = 33
 
 element_size : (far : Far) (plan : FarPlan) (k a b e : ℕ) → length (element_of far plan k a b e) ≡ each far

@@ -21,7 +21,7 @@ use Rattle.orc_resample.specs.Code.{scratch, element_of, elements_code, bits_of,
 use Rattle.orc_resample.specs.Ready.{IsPlan, Source, Ready, Keeps, element, value_at, Gathered, OnTheWay, Sees, Gathers}
 use Rattle.orc_resample.proofs.Twins.{Names, Twin, Tamed, named, renamed, is_tame, all_tame, renamed_line}
 use Rattle.orc_resample.proofs.Runs.{run_then, run_map, calm_run}
-use Rattle.orc_resample.proofs.Blocks.{At, Pushed, Near, Cells, Leads}
+use Rattle.orc_resample.proofs.Blocks.{Scales, scales_0, scales_1, scales_2, At, Pushed, Near, Cells, Leads}
 use Rattle.orc_resample.proofs.Singles.{Adds, double_run, middle_run, near_byte_run, near_long_run, linear_byte_run, linear_long_run}
 use Rattle.orc_resample.proofs.Rows.{offset_run}
 use Rattle.orc_resample.proofs.Counted.{room_of}
@@ -150,21 +150,23 @@ module _ (far : Far) (count : ℕ) (plan : FarPlan) (is_plan : IsPlan far plan) 
       tame_all (suc n) = tame_append (elements_code far plan count 0 1 2 n) (element_of far plan (count - 1 - n) 0 1 2) (tame_all n) (tame (count - 1 - n))
 
   -- all at once
-  side_by_side : nat_lt (bits_of (far_size far)) 64 ≡ true → far_size far ≡ 2 ^ bits_of (far_size far) → 0 < far_scalars far → ((i : ℕ) → far_first far i s.p s.q ≡ pos i +ℤ scalar s.p) → ((i : ℕ) → element far c.memory s.base (far_first far i s.p s.q) ≡ value_at far s c.memory i)
+  side_by_side : Scales (bits_of (far_size far)) → ((a b e : ℕ) → map (renamed a b e) (start_code plan (bits_of (far_size far)) 0 1) ≡ start_code plan (bits_of (far_size far)) a b) → all_tame (start_code plan (bits_of (far_size far)) 0 1) ≡ true → far_size far ≡ 2 ^ bits_of (far_size far) → 0 < far_scalars far → ((i : ℕ) → far_first far i s.p s.q ≡ pos i +ℤ scalar s.p) → ((i : ℕ) → element far c.memory s.base (far_first far i s.p s.q) ≡ value_at far s c.memory i)
       → IsWidth (count * far_size far) → Each IsIns (offset_code plan (far_size far) count (scratch plan 0) (scratch plan 1)) → Leading (offset_code plan (far_size far) count (scratch plan 0) (scratch plan 1))
-  side_by_side few size one firsts values w ranges =
+  side_by_side scales each tame size one firsts values w ranges =
       let width = count * far_size far in
       let start : List Ins = start_code plan (bits_of (far_size far)) 0 1 in
       let at : At under under = record { memory = refl; stack = refl } in
       led (start ++ row_code width 0) (offset_code plan (far_size far) count (scratch plan 0) (scratch plan 1))
-      (ap (λ l. start_code plan (bits_of (far_size far)) (scratch plan 0) (scratch plan 1) ++ l) (row_named (scratch plan 0) (scratch plan 1) (scratch plan 2) width w))
-      (tame_append start (row_code width 0) refl (row_tame width w)) ranges
+      (map-append (renamed (scratch plan 0) (scratch plan 1) (scratch plan 2)) start (row_code width 0)
+        ∙ ap (λ l. l ++ map (renamed (scratch plan 0) (scratch plan 1) (scratch plan 2)) (row_code width 0)) (each (scratch plan 0) (scratch plan 1) (scratch plan 2))
+        ∙ ap (λ l. start_code plan (bits_of (far_size far)) (scratch plan 0) (scratch plan 1) ++ l) (row_named (scratch plan 0) (scratch plan 1) (scratch plan 2) width w))
+      (tame_append start (row_code width 0) tame (row_tame width w)) ranges
       (run_map (Near far count plan s under ready_under) (Cells far count plan s under ready_under) (start ++ row_code width 0) under
         (λ d. At under d × ((j : ℕ) → j < count → lane (far_size far) j (d.xmm 0) ≡ element far c.memory s.base (far_first far (s.first + j) s.p s.q))) AreValues
-        (offset_run far count plan s under ready_under (bits_of (far_size far)) under few size one firsts w at) (λ d h j l. h.1 j l ∙ values (s.first + j)))
+        (offset_run far count plan s under ready_under (bits_of (far_size far)) under scales size one firsts w at) (λ d h j l. h.1 j l ∙ values (s.first + j)))
 
 pub gathers : (far : Far) (count : ℕ) (plan : FarPlan) → IsPlan far plan → IsWidth (count * far_size far) → Each IsIns (gather_code far count plan) → Gathers far count plan (gather_code far count plan)
-gathers Loadoffb count plan is w ranges s c ready = side_by_side Loadoffb count plan is s c ready refl refl (omega arith) (λ i. refl) (λ i. refl) w ranges
+gathers Loadoffb count plan is w ranges s c ready = side_by_side Loadoffb count plan is s c ready scales_0 (λ a b e. refl) refl refl (omega arith) (λ i. refl) (λ i. refl) w ranges
 gathers Loadupdb count plan is w ranges s c ready =
     one_by_one Loadupdb count plan is s c ready (λ k a b e. refl) (λ k. refl) (room_of (count * 1) w) (double_run count plan s (under Loadupdb count plan is s c ready) (ready_under Loadupdb count plan is s c ready)) ranges
 gathers Loadupib count plan is w ranges s c ready =
@@ -177,5 +179,5 @@ gathers Ldreslinb count plan is w ranges s c ready =
     one_by_one Ldreslinb count plan is s c ready (λ k a b e. refl) (λ k. refl) (room_of (count * 1) w) (linear_byte_run count plan s (under Ldreslinb count plan is s c ready) (ready_under Ldreslinb count plan is s c ready)) ranges
 gathers Ldreslinl count plan is w ranges s c ready =
     one_by_one Ldreslinl count plan is s c ready (λ k a b e. refl) (λ k. refl) (room_of (count * 4) w) (linear_long_run count plan s (under Ldreslinl count plan is s c ready) (ready_under Ldreslinl count plan is s c ready)) ranges
-gathers Loadoffw count plan is w ranges s c ready = side_by_side Loadoffw count plan is s c ready refl refl (omega arith) (λ i. refl) (λ i. refl) w ranges
-gathers Loadoffl count plan is w ranges s c ready = side_by_side Loadoffl count plan is s c ready refl refl (omega arith) (λ i. refl) (λ i. refl) w ranges
+gathers Loadoffw count plan is w ranges s c ready = side_by_side Loadoffw count plan is s c ready scales_1 (λ a b e. refl) refl refl (omega arith) (λ i. refl) (λ i. refl) w ranges
+gathers Loadoffl count plan is w ranges s c ready = side_by_side Loadoffl count plan is s c ready scales_2 (λ a b e. refl) refl refl (omega arith) (λ i. refl) (λ i. refl) w ranges

@@ -23,12 +23,12 @@ use Rattle.x86_flow.proofs.Moves.{each_width}
 use Rattle.orc_ops.specs.declared.far.Far.{Far}
 use Rattle.orc_ops.specs.Far.{far_size, far_scalars, far_first, scalar}
 use Rattle.orc_resample.specs.declared.plan.FarPlan.{FarPlan}
-use Rattle.orc_resample.specs.Code.{slot, scalar_at, start_code, row_code}
+use Rattle.orc_resample.specs.Code.{slot, scalar_at, element_code, start_code, row_code}
 use Rattle.orc_resample.specs.Ready.{Source, Ready, AmongCells, cell, element}
 use Rattle.orc_resample.proofs.Numbers.{moved_small, scaled_of, scalar_of, sum_of, element_on}
 use Rattle.orc_resample.proofs.Bytes.{byte, byte_small, byte_at, digits, digits_same, value_is, read_byte, lane_is}
 use Rattle.orc_resample.proofs.Runs.{run_then, run_map, after, calm_then, calm_run, byte_then, pair_then, vector_then}
-use Rattle.orc_resample.proofs.Blocks.{At, Near, Cells, Leads, load_index, load_array, load_p, shl_is, element_digits}
+use Rattle.orc_resample.proofs.Blocks.{Scales, Kept, kept_at, element_run, At, Near, Cells, Leads, load_index, load_array, load_p, element_digits}
 
 -- the low bytes of x are those of memory from an address on
 pub record IsRow (width : ℕ) (mem : Memory) (a : ℕ) (x : List ℕ) : Type 0 where
@@ -91,22 +91,21 @@ module _ (far : Far) (count : ℕ) (plan : FarPlan) (s : Source) (c : Core) (rea
       each_width (λ n. Readable n a → Rows n a v) (row_one v a t at) (row_two v a t at) (row_vector move.Movd (λ x o. refl) (omega arith) v a t at) (row_vector move.Movq (λ x o. refl) (omega arith) v a t at) (row_vector move.Movdqu (λ x o. refl) (omega arith) v a t at) width is
 
   -- the address of the first element
-  start_run : (bits : ℕ) (v : Core) → nat_lt bits 64 ≡ true → 0 < far_scalars far → At c v → Leads far count plan s c ready (start_code plan bits 0 1) v (λ d. At c d × (d.gpr 0 ≡ moved s.base ((pos s.first +ℤ scalar s.p) *ℤ pos (2 ^ bits))))
-  start_run bits v few one t =
+  start_run : (bits : ℕ) (v : Core) → Scales bits → 0 < far_scalars far → At c v → Leads far count plan s c ready (start_code plan bits 0 1) v (λ d. At c d × (d.gpr 0 ≡ moved s.base ((pos s.first +ℤ scalar s.p) *ℤ pos (2 ^ bits))))
+  start_run bits v scales one t =
       let z : ℤ = pos s.first +ℤ scalar s.p in
       let P : Core → Type 0 = λ d. At c d × (d.gpr 0 ≡ moved s.base (z *ℤ pos (2 ^ bits))) in
-      let sums : List Ins = Shift Shl 1 32 ∷ Shift Sar 1 32 ∷ Alu Add 0 1 ∷ Shift Shl 0 bits ∷ [] in
+      let sums : List Ins = Shift Shl 1 32 ∷ Shift Sar 1 32 ∷ Alu Add 0 1 ∷ [] in
       let v1 : Core = with_gpr v 0 s.first in
       let v2 : Core = with_gpr v1 1 s.p in
       let v3 = after sums v2 in
-      let v4 : Core = with_gpr v3 1 s.base in
-      let is : (after (Alu Add 0 1 ∷ []) v4).gpr 0 ≡ moved s.base (z *ℤ pos (2 ^ bits)) =
-      ap (λ x. add_wrap 64 (shl 64 (add_wrap 64 s.first x) bits) s.base) (scalar_of s.p) ∙ ap (λ x. add_wrap 64 (shl 64 x bits) s.base) (sum_of s.first (scalar s.p)) ∙ ap (λ x. add_wrap 64 x s.base) (shl_is (wrap 64 z) bits few) ∙ scaled_of z s.base (2 ^ bits) in
-      load_index far count plan s c ready 0 (Load 1 (slot (scalar_at plan 0)) ∷ (sums ++ (Load 1 (slot plan.array) ∷ Alu Add 0 1 ∷ []))) v P t
-      (load_p far count plan s c ready 1 (sums ++ (Load 1 (slot plan.array) ∷ Alu Add 0 1 ∷ [])) v1 P one (record { memory = t.memory; stack = t.stack })
-        (calm_then (Near far count plan s c ready) (Cells far count plan s c ready) sums (Load 1 (slot plan.array) ∷ Alu Add 0 1 ∷ []) refl v2 P
-          (load_array far count plan s c ready 1 (Alu Add 0 1 ∷ []) v3 P (record { memory = t.memory; stack = t.stack })
-            (calm_run (Near far count plan s c ready) (Cells far count plan s c ready) (Alu Add 0 1 ∷ []) refl v4 P (record { memory = t.memory; stack = t.stack }, is)))))
+      let t3 : At c v3 = record { memory = t.memory; stack = t.stack } in
+      let is : v3.gpr 0 ≡ wrap 64 z = ap (add_wrap 64 s.first) (scalar_of s.p) ∙ sum_of s.first (scalar s.p) in
+      load_index far count plan s c ready 0 (Load 1 (slot (scalar_at plan 0)) ∷ (sums ++ element_code plan bits 0 1)) v P t
+      (load_p far count plan s c ready 1 (sums ++ element_code plan bits 0 1) v1 P one (record { memory = t.memory; stack = t.stack })
+        (calm_then (Near far count plan s c ready) (Cells far count plan s c ready) sums (element_code plan bits 0 1) refl v2 P
+          (run_map (Near far count plan s c ready) (Cells far count plan s c ready) (element_code plan bits 0 1) v3 (λ d. Kept v3 d × (d.gpr 0 ≡ moved s.base (z *ℤ pos (2 ^ bits)))) P (element_run far count plan s c ready bits z v3 scales t3 is)
+            (λ d k. (kept_at far count plan s c ready v3 d t3 k.0, k.1)))))
 
   -- the element so many behind the first
   nth : (j : ℕ) → pos (s.first + j) +ℤ scalar s.p ≡ (pos s.first +ℤ scalar s.p) +ℤ pos j
@@ -118,10 +117,10 @@ module _ (far : Far) (count : ℕ) (plan : FarPlan) (s : Source) (c : Core) (rea
   cell_on : (j : ℕ) → cell far s.base (pos (s.first + j) +ℤ scalar s.p) ≡ (cell far s.base (pos s.first +ℤ scalar s.p) + j * far_size far) % 2 ^ 64
   cell_on j = ap (cell far s.base) (nth j) ∙ element_on s.base (pos s.first +ℤ scalar s.p) j (far_size far)
 
-  pub offset_run : (bits : ℕ) (v : Core) → nat_lt bits 64 ≡ true → far_size far ≡ 2 ^ bits → 0 < far_scalars far → ((i : ℕ) → far_first far i s.p s.q ≡ pos i +ℤ scalar s.p) → IsWidth (count * far_size far) → At c v
+  pub offset_run : (bits : ℕ) (v : Core) → Scales bits → far_size far ≡ 2 ^ bits → 0 < far_scalars far → ((i : ℕ) → far_first far i s.p s.q ≡ pos i +ℤ scalar s.p) → IsWidth (count * far_size far) → At c v
       → Leads far count plan s c ready (start_code plan bits 0 1 ++ row_code (count * far_size far) 0) v
       (λ d. At c d × ((j : ℕ) → j < count → lane (far_size far) j (d.xmm 0) ≡ element far c.memory s.base (far_first far (s.first + j) s.p s.q)))
-  offset_run bits v few size one firsts is t =
+  offset_run bits v scales size one firsts is t =
       let n = far_size far in
       let z : ℤ = pos s.first +ℤ scalar s.p in
       let a = cell far s.base z in
@@ -132,7 +131,7 @@ module _ (far : Far) (count : ℕ) (plan : FarPlan) (s : Source) (c : Core) (rea
           let d = split i n count (positive n bits size) l in
           subst (AmongCells far count s) (ap (λ b. (b + i % n) % 2 ^ 64) (cell_on (i / n)) ∙ (let q : ((a + i / n * n) % 2 ^ 64 + i % n) % 2 ^ 64 ≡ (a + i) % 2 ^ 64 = omega (arith, d.2) in q)) (is_read (i / n) (i % n) d.0 d.1) in
       let ok : Readable (count * n) a = (λ j l. ready.mapped ((a + j) % 2 ^ 64) (among j l), among) in
-      run_then (Near far count plan s c ready) (Cells far count plan s c ready) (start_code plan bits 0 1) (row_code (count * n) 0) v (λ d. At c d × (d.gpr 0 ≡ moved s.base (z *ℤ pos (2 ^ bits)))) _ (start_run bits v few one t)
+      run_then (Near far count plan s c ready) (Cells far count plan s c ready) (start_code plan bits 0 1) (row_code (count * n) 0) v (λ d. At c d × (d.gpr 0 ≡ moved s.base (z *ℤ pos (2 ^ bits)))) _ (start_run bits v scales one t)
       (λ d h.
         let here : d.gpr 0 ≡ a = h.1 ∙ ap (λ m. moved s.base (z *ℤ pos m)) (sym size) in
         let l : d.gpr 0 < 2 ^ 64 = subst (λ m. m < 2 ^ 64) (sym here) (moved_small s.base (z *ℤ pos n)) in

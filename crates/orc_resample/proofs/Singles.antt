@@ -25,7 +25,7 @@ use Rattle.orc_resample.specs.Ready.{Source, Ready, IsRead, cell, element, value
 use Rattle.orc_resample.proofs.Numbers.{element_on, place_fits, fraction_of, small_fraction, mix_of}
 use Rattle.orc_resample.proofs.Runs.{run_then, run_map, after, calm_then}
 use Rattle.orc_resample.proofs.Longs.{words, blended, blended_words, words_small, zeros_of, spread_of, joined, joined_high, joined_small, long_of}
-use Rattle.orc_resample.proofs.Blocks.{At, Kept, Pushed, Near, Cells, Leads, IsCell, load_byte, load_long, byte_element, push_byte, push_long, plain, half_run, place_run, locate_run, kept_at}
+use Rattle.orc_resample.proofs.Blocks.{scales_0, scales_2, At, Kept, Pushed, Near, Cells, Leads, IsCell, load_byte, load_long, byte_element, push_byte, push_long, plain, half_run, place_run, locate_run, kept_at}
 
 module _ (far : Far) (count : ℕ) (plan : FarPlan) (s : Source) (c : Core) (ready : Ready far count plan s c) where
   -- the code for the element k puts its value below the values of v
@@ -76,7 +76,7 @@ module _ (count : ℕ) (plan : FarPlan) (s : Source) (c : Core) where
       (λ d h.
         let td = kept_at f count plan s c ready v d t h.0 in
         run_then N C (Shift Sar 0 16 ∷ element_code plan 0 0 1) (Load8 0 (away 0 0) ∷ push_gpr_code 1 0) d (λ e. Kept d e × (e.gpr 0 ≡ moved s.base (z *ℤ pos 1))) _
-        (locate_run f count plan s c ready 0 p d refl (place_fits (s.first + k) s.p s.q below) td h.1)
+        (locate_run f count plan s c ready 0 p d scales_0 (place_fits (s.first + k) s.p s.q below) td h.1)
         (λ e g.
           let te = kept_at f count plan s c ready d e td g.0 in
           load_byte f count plan s c ready 0 0 0 (push_gpr_code 1 0) e _ z refl te refl (plain f count plan s c ready (e.gpr 0) z 1 refl g.1) is
@@ -97,7 +97,7 @@ module _ (count : ℕ) (plan : FarPlan) (s : Source) (c : Core) where
       (λ d h.
         let td = kept_at f count plan s c ready v d t h.0 in
         run_then N C (Shift Sar 0 16 ∷ element_code plan 2 0 1) (VecLoad Movd 1 (away 0 0) ∷ push_code 4) d (λ e. Kept d e × (e.gpr 0 ≡ moved s.base (z *ℤ pos 4))) _
-        (locate_run f count plan s c ready 2 p d refl (place_fits (s.first + k) s.p s.q below) td h.1)
+        (locate_run f count plan s c ready 2 p d scales_2 (place_fits (s.first + k) s.p s.q below) td h.1)
         (λ e g.
           let te = kept_at f count plan s c ready d e td g.0 in
           let same : e.xmm 0 ≡ v.xmm 0 = ap (λ f. f 0) (g.0.xmm ∙ h.0.xmm) in
@@ -190,7 +190,7 @@ module _ (count : ℕ) (plan : FarPlan) (s : Source) (c : Core) where
         let t1 : At c d1 = record { memory = h.0.memory ∙ t.memory; stack = h.0.stack ∙ t.stack } in
         calm_then N C (Move 2 0 ∷ []) ((Shift Sar 0 16 ∷ element_code plan 0 0 1) ++ mixed_byte_code 0 1 2) refl d _
         (run_then N C (Shift Sar 0 16 ∷ element_code plan 0 0 1) (mixed_byte_code 0 1 2) d1 (λ e. Kept d1 e × (e.gpr 0 ≡ moved s.base (z *ℤ pos 1))) _
-          (locate_run f count plan s c ready 0 p d1 refl (place_fits i s.p s.q below) t1 h.1)
+          (locate_run f count plan s c ready 0 p d1 scales_0 (place_fits i s.p s.q below) t1 h.1)
           (λ e g.
             let te : At c e = record { memory = g.0.memory ∙ t1.memory; stack = g.0.stack ∙ t1.stack } in
             let next : address e (away 0 1) ≡ cell f s.base w = ap (λ a. (a + 1) % 2 ^ 64) g.1 ∙ sym (element_on s.base z 1 1) in
@@ -250,7 +250,7 @@ module _ (count : ℕ) (plan : FarPlan) (s : Source) (c : Core) where
         let t1 : At c d1 = record { memory = h.0.memory ∙ t.memory; stack = h.0.stack ∙ t.stack } in
         calm_then N C (Move 2 0 ∷ []) ((Shift Sar 0 16 ∷ element_code plan 2 0 1) ++ (spread_code 0 1 ++ mixed_long_code 0 1 2)) refl d _
         (run_then N C (Shift Sar 0 16 ∷ element_code plan 2 0 1) (spread_code 0 1 ++ mixed_long_code 0 1 2) d1 (λ e. Kept d1 e × (e.gpr 0 ≡ moved s.base (z *ℤ pos 4))) _
-          (locate_run f count plan s c ready 2 p d1 refl (place_fits i s.p s.q below) t1 h.1)
+          (locate_run f count plan s c ready 2 p d1 scales_2 (place_fits i s.p s.q below) t1 h.1)
           (λ e g.
             let te : At c e = record { memory = g.0.memory ∙ t1.memory; stack = g.0.stack ∙ t1.stack } in
             let next : address e (away 0 4) ≡ cell f s.base w = ap (λ a. (a + 4) % 2 ^ 64) g.1 ∙ sym (element_on s.base z 1 4) in

@@ -39,9 +39,13 @@ index_code plan k a = Load a (slot plan.index) ∷ Lea a (away a k) ∷ []
 abbrev pub bits_of : ℕ → ℕ
 bits_of size = if size == 1 then 0 else if size == 2 then 1 else 2
 
+-- a becomes a * 2 ^ bits
+abbrev pub scale_code : ℕ → ℕ → List Ins
+scale_code bits a = if bits == 0 then [] else Shift Shl a bits ∷ []
+
 -- the number of an element of 2 ^ bits bytes in a becomes its address
 abbrev pub element_code : FarPlan → ℕ → ℕ → ℕ → List Ins
-element_code plan bits a b = Shift Shl a bits ∷ Load b (slot plan.array) ∷ Alu Add a b ∷ []
+element_code plan bits a b = scale_code bits a ++ (Load b (slot plan.array) ∷ Alu Add a b ∷ [])
 
 -- a becomes P of the first i plus k
 abbrev pub place_code : FarPlan → ℕ → ℕ → ℕ → List Ins
@@ -63,9 +67,12 @@ half_code plan k a b = index_code plan k a ++ (Shift Shr a 1 ∷ (element_code p
 abbrev pub mix_code : ℕ → ℕ → ℕ → List Ins
 mix_code a b e = Shift Sar e 8 ∷ AluImm And e (pos 255) ∷ Alu Sub b a ∷ Imul b e ∷ Shift Shl a 8 ∷ Alu Add a b ∷ []
 
--- e becomes P from a, and a the address of the element there
+-- e becomes P from a, and a the number of the element there, and then its address
+abbrev pub floor_code : ℕ → ℕ → List Ins
+floor_code a e = Move e a ∷ Shift Sar a 16 ∷ []
+
 abbrev pub address_code : FarPlan → ℕ → ℕ → ℕ → ℕ → List Ins
-address_code plan bits a b e = Move e a ∷ Shift Sar a 16 ∷ element_code plan bits a b
+address_code plan bits a b e = floor_code a e ++ element_code plan bits a b
 
 -- the bytes of both longs as words of a and b
 abbrev pub spread_code : ℕ → ℕ → List Ins
@@ -120,9 +127,12 @@ row_code width a =
     else if width == 8 then VecLoad Movq 0 (away a 0) ∷ []
     else VecLoad Movdqu 0 (away a 0) ∷ []
 
--- a becomes the address of the element at the first i plus the offset
+-- a becomes the first i plus the offset, and then the address of the element there
+abbrev pub sum_code : FarPlan → ℕ → ℕ → List Ins
+sum_code plan a b = Load a (slot plan.index) ∷ (scalar_code b (scalar_at plan 0) ++ Alu Add a b ∷ [])
+
 abbrev pub start_code : FarPlan → ℕ → ℕ → ℕ → List Ins
-start_code plan bits a b = Load a (slot plan.index) ∷ (scalar_code b (scalar_at plan 0) ++ (Alu Add a b ∷ element_code plan bits a b))
+start_code plan bits a b = sum_code plan a b ++ element_code plan bits a b
 
 abbrev pub offset_code : FarPlan → ℕ → ℕ → ℕ → ℕ → List Ins
 offset_code plan size count a b = start_code plan (bits_of size) a b ++ row_code (count * size) a

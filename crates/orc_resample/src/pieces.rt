@@ -9,7 +9,7 @@ ghost use Rattle.x86_ins.specs.declared.ins.AluOp.TheVariants.{And};
 ghost use Rattle.x86_ins.specs.Spelling.{IsIns};
 ghost use Rattle.x86_ins.specs.Way.{Each};
 ghost use Rattle.x86_flow.specs.Moves.{away, IsWidth};
-ghost use Rattle.orc_resample.specs.Code.{slot, scalar_at, bits_of, start_code, row_code, push_gpr_code, half_code, average_code, place_code, near_byte_code, near_long_code, address_code, mixed_byte_code, spread_code, mixed_long_code};
+ghost use Rattle.orc_resample.specs.Code.{slot, scalar_at, bits_of, scale_code, element_code, sum_code, start_code, floor_code, row_code, push_gpr_code, half_code, average_code, place_code, near_byte_code, near_long_code, address_code, mixed_byte_code, spread_code, mixed_long_code};
 
 use crate::plan::FarPlan;
 use std::alloc::AllocError;
@@ -116,7 +116,35 @@ pub fn push_each(list: &mut InsList, more: &[Ins]) -> Result<(), AllocError>
     Ok(())
 }
 
-/// Adds what makes the address of the elements from the first one plus an offset of a register. Elements have 2^bits bytes.
+/// Adds what multiplies a register by 2^bits.
+#[tactic(auto, using(crate::proofs::Appends::unscaled))]
+fn push_scale(list: &mut InsList, bits: u8, a: Gpr) -> Result<(), AllocError>
+    ensures { OnOk result (list.new ≡ list.old ++ scale_code bits a) }
+{
+    if bits == 0 {
+        Ok(())
+    } else {
+        list.push(shift(ShiftOp::Shl, a, bits))
+    }
+}
+
+/// Adds what makes the address of the element whose number is in `a`. Elements have 2^bits bytes.
+#[tactic(auto, using(crate::proofs::Appends::extended))]
+fn push_element(
+    list: &mut InsList,
+    plan: &FarPlan,
+    bits: u8,
+    a: Gpr,
+    b: Gpr,
+) -> Result<(), AllocError>
+    ensures { OnOk result (list.new ≡ list.old ++ element_code plan.now bits a b) }
+{
+    push_scale(list, bits, a)?;
+    push_each(list, &[load(b, plan.array), alu(AluOp::Add, a, b)])
+}
+
+/// Adds what makes the address of the elements from the first one plus an offset on.
+#[tactic(auto, using(crate::proofs::Appends::extended))]
 pub fn push_offset(
     list: &mut InsList,
     plan: &FarPlan,
@@ -127,6 +155,15 @@ pub fn push_offset(
     requires { length plan.now.scalars.items ≡ 1 }
     ensures { OnOk result (list.new ≡ list.old ++ start_code plan.now bits a b) }
 {
+    push_sum(list, plan, a, b)?;
+    push_element(list, plan, bits, a, b)
+}
+
+/// Adds what makes the first element's number plus the offset of `a`.
+fn push_sum(list: &mut InsList, plan: &FarPlan, a: Gpr, b: Gpr) -> Result<(), AllocError>
+    requires { length plan.now.scalars.items ≡ 1 }
+    ensures { OnOk result (list.new ≡ list.old ++ sum_code plan.now a b) }
+{
     push_each(
         list,
         &[
@@ -134,9 +171,6 @@ pub fn push_offset(
             load(b, scalar_at(plan, 0)),
             shift(ShiftOp::Shl, b, 32),
             shift(ShiftOp::Sar, b, 32),
-            alu(AluOp::Add, a, b),
-            shift(ShiftOp::Shl, a, bits),
-            load(b, plan.array),
             alu(AluOp::Add, a, b),
         ],
     )
@@ -289,7 +323,6 @@ pub fn push_half(
             load(a, plan.index),
             lea(a, a, k),
             shift(ShiftOp::Shr, a, 1),
-            shift(ShiftOp::Shl, a, 0),
             load(b, plan.array),
             alu(AluOp::Add, a, b),
             load_byte(a, a, 0),
@@ -316,7 +349,6 @@ pub fn push_other_half(
             load(a, plan.index),
             lea(a, a, k),
             shift(ShiftOp::Shr, a, 1),
-            shift(ShiftOp::Shl, a, 0),
             load(b, plan.array),
             alu(AluOp::Add, a, b),
             load_byte(a, a, 0),
@@ -378,7 +410,6 @@ pub fn push_near_byte(list: &mut InsList, plan: &FarPlan, a: Gpr, b: Gpr) -> Res
         list,
         &[
             shift(ShiftOp::Sar, a, 16),
-            shift(ShiftOp::Shl, a, 0),
             load(b, plan.array),
             alu(AluOp::Add, a, b),
             load_byte(a, a, 0),
@@ -407,7 +438,15 @@ pub fn push_near_long(list: &mut InsList, plan: &FarPlan, a: Gpr, b: Gpr) -> Res
     )
 }
 
-/// Adds what keeps the place in `a` in `e`, and makes the address of the element there of `a`.
+/// Adds what keeps the place in `a` in `e`, and makes the number of the element there of `a`.
+fn push_floor(list: &mut InsList, a: Gpr, e: Gpr) -> Result<(), AllocError>
+    ensures { OnOk result (list.new ≡ list.old ++ floor_code a e) }
+{
+    push_each(list, &[copy(e, a), shift(ShiftOp::Sar, a, 16)])
+}
+
+/// Adds the same, and then what makes the address of that element.
+#[tactic(auto, using(crate::proofs::Appends::extended))]
 pub fn push_address(
     list: &mut InsList,
     plan: &FarPlan,
@@ -418,16 +457,8 @@ pub fn push_address(
 ) -> Result<(), AllocError>
     ensures { OnOk result (list.new ≡ list.old ++ address_code plan.now bits a b e) }
 {
-    push_each(
-        list,
-        &[
-            copy(e, a),
-            shift(ShiftOp::Sar, a, 16),
-            shift(ShiftOp::Shl, a, bits),
-            load(b, plan.array),
-            alu(AluOp::Add, a, b),
-        ],
-    )
+    push_floor(list, a, e)?;
+    push_element(list, plan, bits, a, b)
 }
 
 /// Adds what puts both bytes from the address in `a`, mixed by the place in `e`, below the values.
