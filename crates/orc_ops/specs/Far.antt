@@ -35,6 +35,15 @@ far_scalars Loadupdb = 0
 far_scalars Loadupib = 0
 far_scalars _ = 2
 
+-- w: the greatest number of instructions that bring the values for n elements to a register
+abbrev pub far_weight : Far → ℕ → ℕ
+far_weight Loadoffb n = 16
+far_weight Loadoffw n = 16
+far_weight Loadoffl n = 16
+far_weight Ldreslinb n = 16 + 32 * n
+far_weight Ldreslinl n = 16 + 64 * n
+far_weight _ n = 16 + 24 * n
+
 -- ---- which elements of the array the element i reads; p and q are the scalars, of which the low 32 bits count, and p is the offset of loadoff
 
 -- o, p or q: a signed 32-bit number

@@ -4,18 +4,22 @@ ghost use Rattle.std.specs.Prelude.{◌≡◌};
 ghost use Rattle.orc_ops.specs.Far.{far_name, far_size, far_scalars};
 ghost use Rattle.orc_ops.specs.FarLines.{AreLines};
 
-/// A load that reads elements other than the one at the place of its result: at an offset (`Loadoff`), each element twice (`Loadupd`,
-/// `Loadupi`), or at places that are counted in parts of 2^16 (`Ldresnear`, `Ldreslin`). The letter at the end of a name tells
-/// the width of the array and of the result.
+/// A load that reads elements other than the one at the place of its result. The letter at the end of a name tells the size of
+/// the array's elements and of the result: 1, 2 or 4 bytes.
 #[derive(Clone, Copy, Debug, PartialEq, Eq)]
 pub enum Far {
+    /// The element at an offset.
     Loadoffb,
     Loadoffw,
     Loadoffl,
+    /// Each element twice.
     Loadupdb,
+    /// Each element, and between two of them their average.
     Loadupib,
+    /// The element before a place, which is counted in parts of 2^16 of an element.
     Ldresnearb,
     Ldresnearl,
+    /// The elements before and behind such a place, mixed byte by byte.
     Ldreslinb,
     Ldreslinl,
 }

@@ -211,10 +211,10 @@ module _ (far : Far) (count : ℕ) (plan : FarPlan) (s : Source) (c : Core) (rea
       let at : v4.gpr 0 ≡ moved s.base (z *ℤ pos 1) = ap (λ x. add_wrap 64 x s.base) (half_of (s.first + k) low) ∙ unscaled_at (wrap 64 z) s.base ∙ scaled_of z s.base 1 in
       load_index 0 (halve ++ (Load 1 (slot plan.array) ∷ Alu Add 0 1 ∷ Load8 0 (away 0 0) ∷ [])) v P t
       (calm_then Near Cells halve (Load 1 (slot plan.array) ∷ Alu Add 0 1 ∷ Load8 0 (away 0 0) ∷ []) refl v1 P
-        (load_array 1 (Alu Add 0 1 ∷ Load8 0 (away 0 0) ∷ []) v2 P (record { memory = t.memory; stack = t.stack })
-          (calm_then Near Cells (Alu Add 0 1 ∷ []) (Load8 0 (away 0 0) ∷ []) refl v3 P
-            (load_byte 0 0 0 [] v4 P z one (record { memory = t.memory; stack = t.stack }) refl (plain (v4.gpr 0) z 1 one at) is
-              (calm_run Near Cells [] refl v5 P (record { memory = refl; stack = refl; third = refl; xmm = refl }, refl))))))
+      (load_array 1 (Alu Add 0 1 ∷ Load8 0 (away 0 0) ∷ []) v2 P (record { memory = t.memory; stack = t.stack })
+      (calm_then Near Cells (Alu Add 0 1 ∷ []) (Load8 0 (away 0 0) ∷ []) refl v3 P
+      (load_byte 0 0 0 [] v4 P z one (record { memory = t.memory; stack = t.stack }) refl (plain (v4.gpr 0) z 1 one at) is
+      (calm_run Near Cells [] refl v5 P (record { memory = refl; stack = refl; third = refl; xmm = refl }, refl))))))
 
   -- P
   pub place_run : (k : ℕ) (v : Core) → 1 < far_scalars far → s.first + k < 2 ^ 31 → At c v → Leads (place_code plan k 0 1) v (λ d. Kept v d × (d.gpr 0 ≡ wrap 64 (place (s.first + k) s.p s.q)))
@@ -231,10 +231,10 @@ module _ (far : Far) (count : ℕ) (plan : FarPlan) (s : Source) (c : Core) (rea
       let is : (after plus v5).gpr 0 ≡ wrap 64 (place (s.first + k) s.p s.q) = ap (λ x. add_wrap 64 (mul_low 64 x (sar 64 (shl 64 s.q 32) 32)) (sar 64 (shl 64 s.p 32) 32)) i ∙ place_of (s.first + k) s.p s.q in
       load_index 0 (Lea 0 (away 0 k) ∷ Load 1 (slot (scalar_at plan 1)) ∷ (times ++ (Load 1 (slot (scalar_at plan 0)) ∷ plus))) v P t
       (calm_then Near Cells (Lea 0 (away 0 k) ∷ []) (Load 1 (slot (scalar_at plan 1)) ∷ (times ++ (Load 1 (slot (scalar_at plan 0)) ∷ plus))) refl v1 P
-        (load_q 1 (times ++ (Load 1 (slot (scalar_at plan 0)) ∷ plus)) v2 P two (record { memory = t.memory; stack = t.stack })
-          (calm_then Near Cells times (Load 1 (slot (scalar_at plan 0)) ∷ plus) refl v3 P
-            (load_p 1 plus v4 P (omega (arith, two)) (record { memory = t.memory; stack = t.stack })
-              (calm_run Near Cells plus refl v5 P (record { memory = refl; stack = refl; third = refl; xmm = refl }, is))))))
+      (load_q 1 (times ++ (Load 1 (slot (scalar_at plan 0)) ∷ plus)) v2 P two (record { memory = t.memory; stack = t.stack })
+      (calm_then Near Cells times (Load 1 (slot (scalar_at plan 0)) ∷ plus) refl v3 P
+      (load_p 1 plus v4 P (omega (arith, two)) (record { memory = t.memory; stack = t.stack })
+      (calm_run Near Cells plus refl v5 P (record { memory = refl; stack = refl; third = refl; xmm = refl }, is))))))
 
   -- the address of the element whose number a register holds
   pub element_run : (bits : ℕ) (z : ℤ) (v : Core) → Scales bits → At c v → v.gpr 0 ≡ wrap 64 z → Leads (element_code plan bits 0 1) v (λ d. Kept v d × (d.gpr 0 ≡ moved s.base (z *ℤ pos (2 ^ bits))))
@@ -248,7 +248,7 @@ module _ (far : Far) (count : ℕ) (plan : FarPlan) (s : Source) (c : Core) (rea
       ap (λ x. add_wrap 64 x s.base) (scales.number v low) ∙ ap (λ x. add_wrap 64 (x * 2 ^ bits % 2 ^ 64) s.base) h ∙ scaled_of z s.base (2 ^ bits) in
       calm_then Near Cells (scale_code bits 0) (Load 1 (slot plan.array) ∷ Alu Add 0 1 ∷ []) scales.calm v P
       (load_array 1 (Alu Add 0 1 ∷ []) v1 P (record { memory = k.memory ∙ t.memory; stack = k.stack ∙ t.stack })
-        (calm_run Near Cells (Alu Add 0 1 ∷ []) refl v2 P (record { memory = k.memory; stack = k.stack; third = k.third; xmm = k.xmm }, is)))
+      (calm_run Near Cells (Alu Add 0 1 ∷ []) refl v2 P (record { memory = k.memory; stack = k.stack; third = k.third; xmm = k.xmm }, is)))
 
   -- the address of the element at P >> 16
   pub locate_run : (bits : ℕ) (z : ℤ) (v : Core) → Scales bits → Fits (2 ^ 63) z → At c v → v.gpr 0 ≡ wrap 64 z → Leads (Shift Sar 0 16 ∷ element_code plan bits 0 1) v (λ d. Kept v d × (d.gpr 0 ≡ moved s.base (int_shr z 16 *ℤ pos (2 ^ bits))))
@@ -258,8 +258,8 @@ module _ (far : Far) (count : ℕ) (plan : FarPlan) (s : Source) (c : Core) (rea
       let floor : v1.gpr 0 ≡ wrap 64 (int_shr z 16) = ap (λ x. sar 64 x 16) h ∙ shifted_of z 16 (omega arith) fits in
       calm_then Near Cells (Shift Sar 0 16 ∷ []) (element_code plan bits 0 1) refl v P
       (run_map Near Cells (element_code plan bits 0 1) v1 (λ d. Kept v1 d × (d.gpr 0 ≡ moved s.base (int_shr z 16 *ℤ pos (2 ^ bits)))) P
-        (element_run bits (int_shr z 16) v1 scales (record { memory = t.memory; stack = t.stack }) floor)
-        (λ d k. (record { memory = k.0.memory; stack = k.0.stack; third = k.0.third; xmm = k.0.xmm }, k.1)))
+      (element_run bits (int_shr z 16) v1 scales (record { memory = t.memory; stack = t.stack }) floor)
+      (λ d k. (record { memory = k.0.memory; stack = k.0.stack; third = k.0.third; xmm = k.0.xmm }, k.1)))
 
   pub kept_at : (v d : Core) → At c v → Kept v d → At c d
   kept_at v d t k = record { memory = k.memory ∙ t.memory; stack = k.stack ∙ t.stack }

@@ -27,9 +27,6 @@ byte_small mem h x = go (mem (x % 2 ^ 64)) refl
     go None e = lit< tt
     go (Some v) e = h (x % 2 ^ 64) v e
 
-
-
-
 -- the address may be taken modulo 2 ^ 64
 pub byte_at : (mem : Memory) (x y : ℕ) → byte mem (x % 2 ^ 64 + y) ≡ byte mem (x + y)
 byte_at mem x y = ap (λ a. some_or_zero (mem a)) (let e : (x % 2 ^ 64 + y) % 2 ^ 64 ≡ (x + y) % 2 ^ 64 = omega arith in e)
@@ -69,7 +66,7 @@ number_is (suc n) mem a bs e =
     let y = bind_some (read n mem (a + 1)) _ bs x.2 in
     subst (λ l. number l ≡ digits (suc n) (λ j. byte mem (a + j))) (some_one (x.0 ∷ y.0) bs y.2)
     (ap (λ v. v + 256 * number y.0) (sym (ap some_or_zero x.1) ∙ first_byte mem a)
-      ∙ ap (λ v. byte mem (a + 0) + 256 * v) (number_is n mem (a + 1) y.0 y.1 ∙ digits_same n (λ j. byte mem (a + 1 + j)) (λ j. byte mem (a + suc j)) (λ j l. next_byte mem a j)))
+    ∙ ap (λ v. byte mem (a + 0) + 256 * v) (number_is n mem (a + 1) y.0 y.1 ∙ digits_same n (λ j. byte mem (a + 1 + j)) (λ j. byte mem (a + suc j)) (λ j l. next_byte mem a j)))
 
 -- mapped bytes are read as the number that they spell
 pub value_is : (n : ℕ) (mem : Memory) (a : ℕ) → AreMapped n mem a → value n mem a ≡ Some (digits n (λ j. byte mem (a + j)))

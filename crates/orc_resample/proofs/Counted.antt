@@ -6,10 +6,10 @@ use Rattle.x86_flow.specs.Touching.{touch_weight}
 use Rattle.x86_flow.proofs.Moves.{each_width}
 use Rattle.orc_ops.specs.declared.far.Far.{Far}
 use Rattle.orc_ops.specs.declared.far.Far.TheVariants.{Loadoffb, Loadoffw, Loadoffl, Loadupdb, Loadupib, Ldresnearb, Ldresnearl, Ldreslinb, Ldreslinl}
-use Rattle.orc_ops.specs.Far.{far_size}
+use Rattle.orc_ops.specs.Far.{far_size, far_weight}
 use Rattle.orc_resample.specs.declared.plan.FarPlan.{FarPlan}
 use Rattle.orc_resample.specs.Code.{element_of, elements_code, row_code, gather_code, scratch}
-use Rattle.orc_resample.specs.Ready.{weight, is_pointer, far_count}
+use Rattle.orc_resample.specs.Ready.{is_pointer, far_count}
 
 -- the instructions of one element
 abbrev each : Far → ℕ
@@ -41,7 +41,7 @@ elements_size far plan count a b e (suc n) =
 row_size : (width a : ℕ) → IsWidth width → length (row_code width a) ≤ 2
 row_size width a is = each_width (λ w. length (row_code w a) ≤ 2) (omega arith) (omega arith) (omega arith) (omega arith) (omega arith) width is
 
-pub gather_short : (far : Far) (count : ℕ) (plan : FarPlan) → IsWidth (count * far_size far) → length (gather_code far count plan) ≤ weight far count
+pub gather_short : (far : Far) (count : ℕ) (plan : FarPlan) → IsWidth (count * far_size far) → length (gather_code far count plan) ≤ far_weight far count
 gather_short Loadoffb count plan is = omega (arith, row_size (count * 1) (scratch plan 0) is)
 gather_short Loadoffw count plan is = omega (arith, row_size (count * 2) (scratch plan 0) is)
 gather_short Loadoffl count plan is = omega (arith, row_size (count * 4) (scratch plan 0) is)

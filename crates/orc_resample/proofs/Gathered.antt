@@ -50,9 +50,9 @@ module _ (far : Far) (count : ℕ) (plan : FarPlan) (s : Source) (c : Core) (rea
   elements_run (suc n) l =
       run_then (Near far count plan s c ready) (Cells far count plan s c ready) (elements_code far plan count 0 1 2 n) (element_of far plan (count - 1 - n) 0 1 2) c (Holds n) (Holds (suc n)) (elements_run n (omega (arith, l)))
       (λ d h.
-        run_map (Near far count plan s c ready) (Cells far count plan s c ready) (element_of far plan (count - 1 - n) 0 1 2) d
-        (λ u. At c u × Pushed (far_size far) (value_at far s c.memory (s.first + (count - 1 - n))) (d.xmm 0) (u.xmm 0)) (Holds (suc n)) (adds (count - 1 - n) (omega (arith, l)) d h.at h.small)
-        (λ u g. record { at = g.0; small = g.1.small; values = values d u h g.1 }))
+      run_map (Near far count plan s c ready) (Cells far count plan s c ready) (element_of far plan (count - 1 - n) 0 1 2) d
+      (λ u. At c u × Pushed (far_size far) (value_at far s c.memory (s.first + (count - 1 - n))) (d.xmm 0) (u.xmm 0)) (Holds (suc n)) (adds (count - 1 - n) (omega (arith, l)) d h.at h.small)
+      (λ u g. record { at = g.0; small = g.1.small; values = values d u h g.1 }))
     where
       values : (d u : Core) → Holds n d → Pushed (far_size far) (value_at far s c.memory (s.first + (count - 1 - n))) (d.xmm 0) (u.xmm 0) → (q : ℕ) → q < suc n → lane (far_size far) q (u.xmm 0) ≡ value_at far s c.memory (s.first + (count - suc n + q))
       values d u h g zero m = g.lowest ∙ ap (λ i. value_at far s c.memory (s.first + i)) (let e : count - 1 - n ≡ count - suc n + 0 = omega arith in e)
@@ -122,12 +122,15 @@ module _ (far : Far) (count : ℕ) (plan : FarPlan) (is_plan : IsPlan far plan) 
       let d = r.0 in
       let line : Line (OnTheWay far count plan s c) code' c d = line_map (λ x i. Tamed (scratch plan 0) (scratch plan 1) (scratch plan 2) c x × Sees far count plan s (c.gpr 4) x i) (OnTheWay far count plan s c) on_the_way code' c d r.1 in
       let keeps : Keeps plan c d = record { memory = r.3.memory; gpr = λ q no. r.3.gpr q (λ e. no (0, omega arith, e)) (λ e. no (1, omega arith, e)) (λ e. no (2, omega arith, e)); xmm = r.3.xmm } in
-      subst Leading e
-      (d, line, record {
-        values = λ j l. ap (lane (far_size far) j) (r.2.xmm 0) ∙ h.2 j l;
-        keeps = keeps;
-        bounded = line_bounded (OnTheWay far count plan s c) code' c d (subst (Each IsIns) (sym e) ranges) ready.bounded line;
-      })
+      subst Leading e (
+        d,
+        line,
+        record {
+          values = λ j l. ap (lane (far_size far) j) (r.2.xmm 0) ∙ h.2 j l;
+          keeps = keeps;
+          bounded = line_bounded (OnTheWay far count plan s c) code' c d (subst (Each IsIns) (sym e) ranges) ready.bounded line;
+        },
+      )
 
   -- element after element
   one_by_one : ((k : ℕ) (a b e : ℕ) → map (renamed a b e) (element_of far plan k 0 1 2) ≡ element_of far plan k a b e) → ((k : ℕ) → all_tame (element_of far plan k 0 1 2) ≡ true) → count * far_size far ≤ 16
@@ -135,8 +138,8 @@ module _ (far : Far) (count : ℕ) (plan : FarPlan) (is_plan : IsPlan far plan) 
   one_by_one each tame room adds ranges =
       led (elements_code far plan count 0 1 2 count) (elements_code far plan count (scratch plan 0) (scratch plan 1) (scratch plan 2) count) (all_named count) (tame_all count) ranges
       (run_map (Near far count plan s under ready_under) (Cells far count plan s under ready_under) (elements_code far plan count 0 1 2 count) under (Holds far count plan s under ready_under adds room count) AreValues
-        (elements_run far count plan s under ready_under adds room count (omega arith))
-        (λ d h j l. h.values j l ∙ ap (λ i. value_at far s c.memory (s.first + i)) (let e : count - count + j ≡ j = omega arith in e)))
+      (elements_run far count plan s under ready_under adds room count (omega arith))
+      (λ d h j l. h.values j l ∙ ap (λ i. value_at far s c.memory (s.first + i)) (let e : count - count + j ≡ j = omega arith in e)))
     where
       all_named : (n : ℕ) → map (renamed (scratch plan 0) (scratch plan 1) (scratch plan 2)) (elements_code far plan count 0 1 2 n) ≡ elements_code far plan count (scratch plan 0) (scratch plan 1) (scratch plan 2) n
       all_named zero = refl
@@ -158,12 +161,12 @@ module _ (far : Far) (count : ℕ) (plan : FarPlan) (is_plan : IsPlan far plan) 
       let at : At under under = record { memory = refl; stack = refl } in
       led (start ++ row_code width 0) (offset_code plan (far_size far) count (scratch plan 0) (scratch plan 1))
       (map-append (renamed (scratch plan 0) (scratch plan 1) (scratch plan 2)) start (row_code width 0)
-        ∙ ap (λ l. l ++ map (renamed (scratch plan 0) (scratch plan 1) (scratch plan 2)) (row_code width 0)) (each (scratch plan 0) (scratch plan 1) (scratch plan 2))
-        ∙ ap (λ l. start_code plan (bits_of (far_size far)) (scratch plan 0) (scratch plan 1) ++ l) (row_named (scratch plan 0) (scratch plan 1) (scratch plan 2) width w))
+      ∙ ap (λ l. l ++ map (renamed (scratch plan 0) (scratch plan 1) (scratch plan 2)) (row_code width 0)) (each (scratch plan 0) (scratch plan 1) (scratch plan 2))
+      ∙ ap (λ l. start_code plan (bits_of (far_size far)) (scratch plan 0) (scratch plan 1) ++ l) (row_named (scratch plan 0) (scratch plan 1) (scratch plan 2) width w))
       (tame_append start (row_code width 0) tame (row_tame width w)) ranges
       (run_map (Near far count plan s under ready_under) (Cells far count plan s under ready_under) (start ++ row_code width 0) under
-        (λ d. At under d × ((j : ℕ) → j < count → lane (far_size far) j (d.xmm 0) ≡ element far c.memory s.base (far_first far (s.first + j) s.p s.q))) AreValues
-        (offset_run far count plan s under ready_under (bits_of (far_size far)) under scales size one firsts w at) (λ d h j l. h.1 j l ∙ values (s.first + j)))
+      (λ d. At under d × ((j : ℕ) → j < count → lane (far_size far) j (d.xmm 0) ≡ element far c.memory s.base (far_first far (s.first + j) s.p s.q))) AreValues
+      (offset_run far count plan s under ready_under (bits_of (far_size far)) under scales size one firsts w at) (λ d h j l. h.1 j l ∙ values (s.first + j)))
 
 pub gathers : (far : Far) (count : ℕ) (plan : FarPlan) → IsPlan far plan → IsWidth (count * far_size far) → Each IsIns (gather_code far count plan) → Gathers far count plan (gather_code far count plan)
 gathers Loadoffb count plan is w ranges s c ready = side_by_side Loadoffb count plan is s c ready scales_0 (λ a b e. refl) refl refl (omega arith) (λ i. refl) (λ i. refl) w ranges

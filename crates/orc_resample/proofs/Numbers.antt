@@ -174,9 +174,9 @@ fits_sum (pos a) (negsuc b) h k =
 fits_sum (negsuc a) (pos b) h k =
     subst (Fits (2 ^ 63)) (turned_sum (negsuc a) b)
     (⊎_elim
-      (λ l. subst (Fits (2 ^ 63)) (sym (above b a l)) (let q : b - 1 - a < 2 ^ 63 = omega (arith, k, l) in q))
-      (λ l. subst (Fits (2 ^ 63)) (sym (below b a l)) (let q : a - b < 2 ^ 63 = omega (arith, h, l) in q))
-      (lt_or_le a b))
+    (λ l. subst (Fits (2 ^ 63)) (sym (above b a l)) (let q : b - 1 - a < 2 ^ 63 = omega (arith, k, l) in q))
+    (λ l. subst (Fits (2 ^ 63)) (sym (below b a l)) (let q : a - b < 2 ^ 63 = omega (arith, h, l) in q))
+    (lt_or_le a b))
 
 fits_product : (i : ℕ) (z : ℤ) → i < 2 ^ 31 → Fits (2 ^ 31) z → Fits (2 ^ 62) (pos i *ℤ z)
 fits_product i (pos n) l h = subst (Fits (2 ^ 62)) (sym (pos-*ℤ-pos i n)) (let m : i * n ≤ i * 2 ^ 31 = mul-le-mul_left i (omega (arith, h)) in let q : i * n < 2 ^ 62 = omega (arith, m, l) in q)

@@ -69,9 +69,9 @@ pushed_next n x y h none q room =
     let e : suc q * n ≡ q * n + n = grind arith in
     number_moved (pushed n x y) x (suc q * n) (q * n) n
     (λ k l.
-      let i = suc q * n + k in
-      pushed_high n x y h i (omega (arith, room, l)) (omega (arith, e)) (none i (omega (arith, e)) (omega (arith, room, l)))
-      ∙ ap (λ j. get_or x j 0) (let p : suc q * n + k - n ≡ q * n + k = omega (arith, e) in p))
+    let i = suc q * n + k in
+    pushed_high n x y h i (omega (arith, room, l)) (omega (arith, e)) (none i (omega (arith, e)) (omega (arith, room, l)))
+    ∙ ap (λ j. get_or x j 0) (let p : suc q * n + k - n ≡ q * n + k = omega (arith, e) in p))
 
 pub pushed_small : (n : ℕ) (x y : List ℕ) → AreBytes (pushed n x y)
 pushed_small n x y = AreBytes-from_lanes 1 (λ q. bit_or (lane 1 q (imm_result (imm_shape Pslldq) n x)) (lane 1 q y))

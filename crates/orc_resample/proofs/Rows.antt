@@ -62,7 +62,7 @@ module _ (far : Far) (count : ℕ) (plan : FarPlan) (s : Source) (c : Core) (rea
       vector_then (Near far count plan s c ready) (Cells far count plan s c ready) op free 0 0 0 [] v bs P refl (ap (read (move_size op) v.memory) at ∙ ap (λ m. read (move_size op) m a) t.memory ∙ bytes.1)
       (λ j l. subst (λ b. AmongCells far count s ((b + j) % 2 ^ 64)) (sym at) (ok.1 j l))
       (calm_run (Near far count plan s c ready) (Cells far count plan s c ready) [] refl w P
-        (record { memory = t.memory; stack = t.stack }, record { bytes = λ i l. from_byte (λ j. get_or bs j 0) i (omega (arith, l, few)) ∙ read_byte (move_size op) c.memory a bs bytes.1 i l }))
+      (record { memory = t.memory; stack = t.stack }, record { bytes = λ i l. from_byte (λ j. get_or bs j 0) i (omega (arith, l, few)) ∙ read_byte (move_size op) c.memory a bs bytes.1 i l }))
 
   row_one : (v : Core) (a : ℕ) → At c v → address v (away 0 0) ≡ a → Readable 1 a → Rows 1 a v
   row_one v a t at ok =
@@ -73,7 +73,7 @@ module _ (far : Far) (count : ℕ) (plan : FarPlan) (s : Source) (c : Core) (rea
       byte_then (Near far count plan s c ready) (Cells far count plan s c ready) 0 0 0 (FromGpr false 0 0 ∷ []) v x P refl (ap (value 1 v.memory) at ∙ ap (λ m. value 1 m a) t.memory ∙ value_is 1 c.memory a ok.0)
       (λ j l. subst (λ b. AmongCells far count s ((b + j) % 2 ^ 64)) (sym at) (ok.1 j l))
       (calm_run (Near far count plan s c ready) (Cells far count plan s c ready) (FromGpr false 0 0 ∷ []) refl w P
-        (record { memory = t.memory; stack = t.stack }, record { bytes = λ i l. from_byte (byte_of 4 x) i (omega (arith, l)) ∙ one_digit f (λ j. byte_small c.memory ready.bounded.memory (a + j)) i l }))
+      (record { memory = t.memory; stack = t.stack }, record { bytes = λ i l. from_byte (byte_of 4 x) i (omega (arith, l)) ∙ one_digit f (λ j. byte_small c.memory ready.bounded.memory (a + j)) i l }))
 
   row_two : (v : Core) (a : ℕ) → At c v → address v (away 0 0) ≡ a → Readable 2 a → Rows 2 a v
   row_two v a t at ok =
@@ -84,7 +84,7 @@ module _ (far : Far) (count : ℕ) (plan : FarPlan) (s : Source) (c : Core) (rea
       pair_then (Near far count plan s c ready) (Cells far count plan s c ready) 0 0 0 (FromGpr false 0 0 ∷ []) v x P refl (ap (value 2 v.memory) at ∙ ap (λ m. value 2 m a) t.memory ∙ value_is 2 c.memory a ok.0)
       (λ j l. subst (λ b. AmongCells far count s ((b + j) % 2 ^ 64)) (sym at) (ok.1 j l))
       (calm_run (Near far count plan s c ready) (Cells far count plan s c ready) (FromGpr false 0 0 ∷ []) refl w P
-        (record { memory = t.memory; stack = t.stack }, record { bytes = λ i l. from_byte (byte_of 4 x) i (omega (arith, l)) ∙ two_digits f (λ j. byte_small c.memory ready.bounded.memory (a + j)) i l }))
+      (record { memory = t.memory; stack = t.stack }, record { bytes = λ i l. from_byte (byte_of 4 x) i (omega (arith, l)) ∙ two_digits f (λ j. byte_small c.memory ready.bounded.memory (a + j)) i l }))
 
   row_run : (width : ℕ) → IsWidth width → (v : Core) (a : ℕ) → At c v → address v (away 0 0) ≡ a → Readable width a → Rows width a v
   row_run width is v a t at =
@@ -103,9 +103,9 @@ module _ (far : Far) (count : ℕ) (plan : FarPlan) (s : Source) (c : Core) (rea
       let is : v3.gpr 0 ≡ wrap 64 z = ap (add_wrap 64 s.first) (scalar_of s.p) ∙ sum_of s.first (scalar s.p) in
       load_index far count plan s c ready 0 (Load 1 (slot (scalar_at plan 0)) ∷ (sums ++ element_code plan bits 0 1)) v P t
       (load_p far count plan s c ready 1 (sums ++ element_code plan bits 0 1) v1 P one (record { memory = t.memory; stack = t.stack })
-        (calm_then (Near far count plan s c ready) (Cells far count plan s c ready) sums (element_code plan bits 0 1) refl v2 P
-          (run_map (Near far count plan s c ready) (Cells far count plan s c ready) (element_code plan bits 0 1) v3 (λ d. Kept v3 d × (d.gpr 0 ≡ moved s.base (z *ℤ pos (2 ^ bits)))) P (element_run far count plan s c ready bits z v3 scales t3 is)
-            (λ d k. (kept_at far count plan s c ready v3 d t3 k.0, k.1)))))
+      (calm_then (Near far count plan s c ready) (Cells far count plan s c ready) sums (element_code plan bits 0 1) refl v2 P
+      (run_map (Near far count plan s c ready) (Cells far count plan s c ready) (element_code plan bits 0 1) v3 (λ d. Kept v3 d × (d.gpr 0 ≡ moved s.base (z *ℤ pos (2 ^ bits)))) P (element_run far count plan s c ready bits z v3 scales t3 is)
+      (λ d k. (kept_at far count plan s c ready v3 d t3 k.0, k.1)))))
 
   -- the element so many behind the first
   nth : (j : ℕ) → pos (s.first + j) +ℤ scalar s.p ≡ (pos s.first +ℤ scalar s.p) +ℤ pos j
@@ -128,23 +128,24 @@ module _ (far : Far) (count : ℕ) (plan : FarPlan) (s : Source) (c : Core) (rea
       λ j o l m. (j, l, (pos (s.first + j) +ℤ scalar s.p, inl (sym (firsts (s.first + j))), (o, m, refl))) in
       let among : (i : ℕ) → i < count * n → AmongCells far count s ((a + i) % 2 ^ 64) =
       λ i l.
-          let d = split i n count (positive n bits size) l in
-          subst (AmongCells far count s) (ap (λ b. (b + i % n) % 2 ^ 64) (cell_on (i / n)) ∙ (let q : ((a + i / n * n) % 2 ^ 64 + i % n) % 2 ^ 64 ≡ (a + i) % 2 ^ 64 = omega (arith, d.2) in q)) (is_read (i / n) (i % n) d.0 d.1) in
+      let d = split i n count (positive n bits size) l in
+      subst (AmongCells far count s) (ap (λ b. (b + i % n) % 2 ^ 64) (cell_on (i / n)) ∙ (let q : ((a + i / n * n) % 2 ^ 64 + i % n) % 2 ^ 64 ≡ (a + i) % 2 ^ 64 = omega (arith, d.2) in q)) (is_read (i / n) (i % n) d.0 d.1) in
       let ok : Readable (count * n) a = (λ j l. ready.mapped ((a + j) % 2 ^ 64) (among j l), among) in
       run_then (Near far count plan s c ready) (Cells far count plan s c ready) (start_code plan bits 0 1) (row_code (count * n) 0) v (λ d. At c d × (d.gpr 0 ≡ moved s.base (z *ℤ pos (2 ^ bits)))) _ (start_run bits v scales one t)
       (λ d h.
-        let here : d.gpr 0 ≡ a = h.1 ∙ ap (λ m. moved s.base (z *ℤ pos m)) (sym size) in
-        let l : d.gpr 0 < 2 ^ 64 = subst (λ m. m < 2 ^ 64) (sym here) (moved_small s.base (z *ℤ pos n)) in
-        let at : address d (away 0 0) ≡ a = (let q : (d.gpr 0 + 0) % 2 ^ 64 ≡ d.gpr 0 = omega (arith, l) in q) ∙ here in
-        run_map (Near far count plan s c ready) (Cells far count plan s c ready) (row_code (count * n) 0) d (λ e. At c e × IsRow (count * n) c.memory a (e.xmm 0)) _ (row_run (count * n) is d a h.0 at ok)
-        (λ e g. (
-          g.0,
-          λ j l.
-              lane_is n j (e.xmm 0)
-              ∙ digits_same n (λ o. get_or (e.xmm 0) (j * n + o) 0) (λ o. byte c.memory (cell far s.base (pos (s.first + j) +ℤ scalar s.p) + o))
-              (λ o m. g.1.bytes (j * n + o) (inside j o n count l m) ∙ ap (byte c.memory) (let q : a + (j * n + o) ≡ a + j * n + o = omega arith in q) ∙ sym (byte_at c.memory (a + j * n) o) ∙ ap (λ b. byte c.memory (b + o)) (sym (cell_on j)))
-              ∙ sym (element_digits far count plan s c ready (pos (s.first + j) +ℤ scalar s.p) (λ x i. (j, l, (pos (s.first + j) +ℤ scalar s.p, inl (sym (firsts (s.first + j))), i))))
-              ∙ ap (element far c.memory s.base) (sym (firsts (s.first + j))))))
+      let here : d.gpr 0 ≡ a = h.1 ∙ ap (λ m. moved s.base (z *ℤ pos m)) (sym size) in
+      let l : d.gpr 0 < 2 ^ 64 = subst (λ m. m < 2 ^ 64) (sym here) (moved_small s.base (z *ℤ pos n)) in
+      let at : address d (away 0 0) ≡ a = (let q : (d.gpr 0 + 0) % 2 ^ 64 ≡ d.gpr 0 = omega (arith, l) in q) ∙ here in
+      run_map (Near far count plan s c ready) (Cells far count plan s c ready) (row_code (count * n) 0) d (λ e. At c e × IsRow (count * n) c.memory a (e.xmm 0)) _ (row_run (count * n) is d a h.0 at ok)
+      (λ e g. (
+        g.0,
+        λ j l.
+            lane_is n j (e.xmm 0)
+            ∙ digits_same n (λ o. get_or (e.xmm 0) (j * n + o) 0) (λ o. byte c.memory (cell far s.base (pos (s.first + j) +ℤ scalar s.p) + o))
+            (λ o m. g.1.bytes (j * n + o) (inside j o n count l m) ∙ ap (byte c.memory) (let q : a + (j * n + o) ≡ a + j * n + o = omega arith in q) ∙ sym (byte_at c.memory (a + j * n) o) ∙ ap (λ b. byte c.memory (b + o)) (sym (cell_on j)))
+            ∙ sym (element_digits far count plan s c ready (pos (s.first + j) +ℤ scalar s.p) (λ x i. (j, l, (pos (s.first + j) +ℤ scalar s.p, inl (sym (firsts (s.first + j))), i))))
+            ∙ ap (element far c.memory s.base) (sym (firsts (s.first + j))),
+      )))
     where
       positive : (n bits : ℕ) → n ≡ 2 ^ bits → 0 < n
       positive n bits e = subst (λ m. 0 < m) (sym e) (pow_pos bits)

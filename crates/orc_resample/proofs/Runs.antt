@@ -138,19 +138,19 @@ module _ (Near Far : ℕ → Type 0) where
   -- a word of the frame, and what follows
   pub slot_then : (r : ℕ) (z : ℤ) (js : List Ins) (v : Core) (x : ℕ) (P : Core → Type 0) → word v.memory (moved (v.gpr 4) z) ≡ Some x → ((y : ℕ) → InWord (moved (v.gpr 4) z) y → Near y) → Run js (with_gpr v r x) P → Run (Load r (slot z) ∷ js) v P
   slot_then r z js v x P e near k = (
-      k.0,
-      (λ y t. inl (near y t), (with_gpr v r x, ap (λ o. access 8 v.memory (moved (v.gpr 4) z) o (λ w. with_gpr v r w)) e, k.1)),
-      k.2,
-    )
+    k.0,
+    (λ y t. inl (refl, near y t), (with_gpr v r x, ap (λ o. access 8 v.memory (moved (v.gpr 4) z) o (λ w. with_gpr v r w)) e, k.1)),
+    k.2,
+  )
 
   -- bytes by another register as a number, and what follows
   load_then : (i : Ins) (n r a : ℕ) (js : List Ins) (v : Core) (x : ℕ) (P : Core → Type 0) → touch_weight is_pointer i ≡ 1 → span i v ≡ (a, n) → work i v ≡ access n v.memory a (value n v.memory a) (λ w. with_gpr v r w)
       → value n v.memory a ≡ Some x → ((j : ℕ) → j < n → Far ((a + j) % 2 ^ 64)) → Run js (with_gpr v r x) P → Run (i ∷ js) v P
   load_then i n r a js v x P by s w e far k = (
-      k.0,
-      (λ y t. inr (by, touched i n a v s far y t), (with_gpr v r x, w ∙ ap (λ o. access n v.memory a o (λ w. with_gpr v r w)) e, k.1)),
-      k.2,
-    )
+    k.0,
+    (λ y t. inr (by, touched i n a v s far y t), (with_gpr v r x, w ∙ ap (λ o. access n v.memory a o (λ w. with_gpr v r w)) e, k.1)),
+    k.2,
+  )
 
   pub byte_then : (r b d : ℕ) (js : List Ins) (v : Core) (x : ℕ) (P : Core → Type 0) → is_pointer b ≡ true → value 1 v.memory (address v (away b d)) ≡ Some x → ((j : ℕ) → j < 1 → Far ((address v (away b d) + j) % 2 ^ 64)) → Run js (with_gpr v r x) P → Run (Load8 r (away b d) ∷ js) v P
   byte_then r b d js v x P by = load_then (Load8 r (away b d)) 1 r (address v (away b d)) js v x P (ap (λ z. if z then 1 else 0) by) refl refl

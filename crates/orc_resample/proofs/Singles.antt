@@ -74,13 +74,13 @@ module _ (count : ℕ) (plan : FarPlan) (s : Source) (c : Core) where
       let below = low f count plan s c ready k l in
       run_then N C (place_code plan k 0 1) (near_byte_code plan 0 1) v (λ d. Kept v d × (d.gpr 0 ≡ wrap 64 p)) _ (place_run f count plan s c ready k v (omega arith) below t)
       (λ d h.
-        let td = kept_at f count plan s c ready v d t h.0 in
-        run_then N C (Shift Sar 0 16 ∷ element_code plan 0 0 1) (Load8 0 (away 0 0) ∷ push_gpr_code 1 0) d (λ e. Kept d e × (e.gpr 0 ≡ moved s.base (z *ℤ pos 1))) _
-        (locate_run f count plan s c ready 0 p d scales_0 (place_fits (s.first + k) s.p s.q below) td h.1)
-        (λ e g.
-          let te = kept_at f count plan s c ready d e td g.0 in
-          load_byte f count plan s c ready 0 0 0 (push_gpr_code 1 0) e _ z refl te refl (plain f count plan s c ready (e.gpr 0) z 1 refl g.1) is
-          (push_value f count plan s c ready v (with_gpr e 0 x) x t (record { memory = g.0.memory ∙ h.0.memory; stack = g.0.stack ∙ h.0.stack; third = g.0.third ∙ h.0.third; xmm = g.0.xmm ∙ h.0.xmm }) small refl (byte_element f count plan s c ready z refl is))))
+      let td = kept_at f count plan s c ready v d t h.0 in
+      run_then N C (Shift Sar 0 16 ∷ element_code plan 0 0 1) (Load8 0 (away 0 0) ∷ push_gpr_code 1 0) d (λ e. Kept d e × (e.gpr 0 ≡ moved s.base (z *ℤ pos 1))) _
+      (locate_run f count plan s c ready 0 p d scales_0 (place_fits (s.first + k) s.p s.q below) td h.1)
+      (λ e g.
+      let te = kept_at f count plan s c ready d e td g.0 in
+      load_byte f count plan s c ready 0 0 0 (push_gpr_code 1 0) e _ z refl te refl (plain f count plan s c ready (e.gpr 0) z 1 refl g.1) is
+      (push_value f count plan s c ready v (with_gpr e 0 x) x t (record { memory = g.0.memory ∙ h.0.memory; stack = g.0.stack ∙ h.0.stack; third = g.0.third ∙ h.0.third; xmm = g.0.xmm ∙ h.0.xmm }) small refl (byte_element f count plan s c ready z refl is))))
 
   -- the long at a place
   pub near_long_run : (ready : Ready Ldresnearl count plan s c) (k : ℕ) → k < count → (v : Core) → At c v → AreBytes (v.xmm 0) → Adds Ldresnearl count plan s c ready k v
@@ -95,17 +95,17 @@ module _ (count : ℕ) (plan : FarPlan) (s : Source) (c : Core) where
       let below = low f count plan s c ready k l in
       run_then N C (place_code plan k 0 1) (near_long_code plan 0 1) v (λ d. Kept v d × (d.gpr 0 ≡ wrap 64 p)) _ (place_run f count plan s c ready k v (omega arith) below t)
       (λ d h.
-        let td = kept_at f count plan s c ready v d t h.0 in
-        run_then N C (Shift Sar 0 16 ∷ element_code plan 2 0 1) (VecLoad Movd 1 (away 0 0) ∷ push_code 4) d (λ e. Kept d e × (e.gpr 0 ≡ moved s.base (z *ℤ pos 4))) _
-        (locate_run f count plan s c ready 2 p d scales_2 (place_fits (s.first + k) s.p s.q below) td h.1)
-        (λ e g.
-          let te = kept_at f count plan s c ready d e td g.0 in
-          let same : e.xmm 0 ≡ v.xmm 0 = ap (λ f. f 0) (g.0.xmm ∙ h.0.xmm) in
-          load_long f count plan s c ready 1 0 0 (push_code 4) e _ z refl te refl (plain f count plan s c ready (e.gpr 0) z 4 refl g.1) is
-          (λ x long.
-            run_map N C (push_code 4) (with_xmm e 1 x) (λ u. At c u × Pushed 4 value (e.xmm 0) (u.xmm 0)) _
-            (push_long f count plan s c ready (with_xmm e 1 x) value (record { memory = te.memory; stack = te.stack }) (subst AreBytes (sym same) small) long.lowest long.above long.small)
-            (λ u w. (w.0, subst (λ x. Pushed 4 value x (u.xmm 0)) same w.1)))))
+      let td = kept_at f count plan s c ready v d t h.0 in
+      run_then N C (Shift Sar 0 16 ∷ element_code plan 2 0 1) (VecLoad Movd 1 (away 0 0) ∷ push_code 4) d (λ e. Kept d e × (e.gpr 0 ≡ moved s.base (z *ℤ pos 4))) _
+      (locate_run f count plan s c ready 2 p d scales_2 (place_fits (s.first + k) s.p s.q below) td h.1)
+      (λ e g.
+      let te = kept_at f count plan s c ready d e td g.0 in
+      let same : e.xmm 0 ≡ v.xmm 0 = ap (λ f. f 0) (g.0.xmm ∙ h.0.xmm) in
+      load_long f count plan s c ready 1 0 0 (push_code 4) e _ z refl te refl (plain f count plan s c ready (e.gpr 0) z 4 refl g.1) is
+      (λ x long.
+      run_map N C (push_code 4) (with_xmm e 1 x) (λ u. At c u × Pushed 4 value (e.xmm 0) (u.xmm 0)) _
+      (push_long f count plan s c ready (with_xmm e 1 x) value (record { memory = te.memory; stack = te.stack }) (subst AreBytes (sym same) small) long.lowest long.above long.small)
+      (λ u w. (w.0, subst (λ x. Pushed 4 value x (u.xmm 0)) same w.1)))))
 
   -- ---- the average of two bytes
 
@@ -144,22 +144,22 @@ module _ (count : ℕ) (plan : FarPlan) (s : Source) (c : Core) where
       run_then N C (half_code plan (k + 1) 0 1) ((Move 2 0 ∷ half_code plan k 0 1) ++ average_code 0 2) v (λ d. Kept v d × (d.gpr 0 ≡ y)) _
       (half_run f count plan s c ready (k + 1) v (omega (arith, below)) refl t is_w)
       (λ d h.
-        let d1 = after (Move 2 0 ∷ []) d in
-        let t1 : At c d1 = record { memory = h.0.memory ∙ t.memory; stack = h.0.stack ∙ t.stack } in
-        calm_then N C (Move 2 0 ∷ []) (half_code plan k 0 1 ++ average_code 0 2) refl d _
-        (run_then N C (half_code plan k 0 1) (average_code 0 2) d1 (λ e. Kept d1 e × (e.gpr 0 ≡ x)) _ (half_run f count plan s c ready k d1 (omega (arith, below)) refl t1 is)
-          (λ e g.
-            let sums : List Ins = Alu Add 0 2 ∷ Lea 0 (away 0 1) ∷ Shift Shr 0 1 ∷ [] in
-            let e1 = after sums e in
-            let third : e.gpr 2 ≡ y = g.0.third ∙ h.1 in
-            let is_value : e1.gpr 0 ≡ value =
-            ap (λ a. shr 64 (moved (add_wrap 64 a (e.gpr 2)) (pos 1)) 1) g.1 ∙ ap (λ b. shr 64 (moved (add_wrap 64 x b) (pos 1)) 1) third ∙ (let q : ((x + y) % 2 ^ 64 + 1) % 2 ^ 64 / 2 ≡ value = omega (arith, low_x, low_y) in q) in
-            let same : e1.xmm 0 ≡ v.xmm 0 = ap (λ f. f 0) (g.0.xmm ∙ h.0.xmm) in
-            let te : At c e1 = record { memory = g.0.memory ∙ t1.memory; stack = g.0.stack ∙ t1.stack } in
-            calm_then N C sums (push_gpr_code 1 0) refl e _
-            (run_map N C (push_gpr_code 1 0) e1 (λ u. At c u × Pushed 1 (e1.gpr 0) (e1.xmm 0) (u.xmm 0)) _
-              (push_byte f count plan s c ready e1 te (subst AreBytes (sym same) small) (subst (λ n. n < 256) (sym is_value) fits))
-              (λ u h. (h.0, subst (λ x. Pushed 1 (value_at f s c.memory i) x (u.xmm 0)) same (subst (λ n. Pushed 1 n (e1.xmm 0) (u.xmm 0)) (is_value ∙ meant) h.1)))))))
+      let d1 = after (Move 2 0 ∷ []) d in
+      let t1 : At c d1 = record { memory = h.0.memory ∙ t.memory; stack = h.0.stack ∙ t.stack } in
+      calm_then N C (Move 2 0 ∷ []) (half_code plan k 0 1 ++ average_code 0 2) refl d _
+      (run_then N C (half_code plan k 0 1) (average_code 0 2) d1 (λ e. Kept d1 e × (e.gpr 0 ≡ x)) _ (half_run f count plan s c ready k d1 (omega (arith, below)) refl t1 is)
+      (λ e g.
+      let sums : List Ins = Alu Add 0 2 ∷ Lea 0 (away 0 1) ∷ Shift Shr 0 1 ∷ [] in
+      let e1 = after sums e in
+      let third : e.gpr 2 ≡ y = g.0.third ∙ h.1 in
+      let is_value : e1.gpr 0 ≡ value =
+      ap (λ a. shr 64 (moved (add_wrap 64 a (e.gpr 2)) (pos 1)) 1) g.1 ∙ ap (λ b. shr 64 (moved (add_wrap 64 x b) (pos 1)) 1) third ∙ (let q : ((x + y) % 2 ^ 64 + 1) % 2 ^ 64 / 2 ≡ value = omega (arith, low_x, low_y) in q) in
+      let same : e1.xmm 0 ≡ v.xmm 0 = ap (λ f. f 0) (g.0.xmm ∙ h.0.xmm) in
+      let te : At c e1 = record { memory = g.0.memory ∙ t1.memory; stack = g.0.stack ∙ t1.stack } in
+      calm_then N C sums (push_gpr_code 1 0) refl e _
+      (run_map N C (push_gpr_code 1 0) e1 (λ u. At c u × Pushed 1 (e1.gpr 0) (e1.xmm 0) (u.xmm 0)) _
+      (push_byte f count plan s c ready e1 te (subst AreBytes (sym same) small) (subst (λ n. n < 256) (sym is_value) fits))
+      (λ u h. (h.0, subst (λ x. Pushed 1 (value_at f s c.memory i) x (u.xmm 0)) same (subst (λ n. Pushed 1 n (e1.xmm 0) (u.xmm 0)) (is_value ∙ meant) h.1)))))))
 
   -- ---- the mix of two bytes
 
@@ -186,30 +186,30 @@ module _ (count : ℕ) (plan : FarPlan) (s : Source) (c : Core) where
       let meant : value ≡ value_at f s c.memory i = same_mixed part x y low_x low_y in
       run_then N C (place_code plan k 0 1) (address_code plan 0 0 1 2 ++ mixed_byte_code 0 1 2) v (λ d. Kept v d × (d.gpr 0 ≡ wrap 64 p)) _ (place_run f count plan s c ready k v (omega arith) below t)
       (λ d h.
-        let d1 = after (Move 2 0 ∷ []) d in
-        let t1 : At c d1 = record { memory = h.0.memory ∙ t.memory; stack = h.0.stack ∙ t.stack } in
-        calm_then N C (Move 2 0 ∷ []) ((Shift Sar 0 16 ∷ element_code plan 0 0 1) ++ mixed_byte_code 0 1 2) refl d _
-        (run_then N C (Shift Sar 0 16 ∷ element_code plan 0 0 1) (mixed_byte_code 0 1 2) d1 (λ e. Kept d1 e × (e.gpr 0 ≡ moved s.base (z *ℤ pos 1))) _
-          (locate_run f count plan s c ready 0 p d1 scales_0 (place_fits i s.p s.q below) t1 h.1)
-          (λ e g.
-            let te : At c e = record { memory = g.0.memory ∙ t1.memory; stack = g.0.stack ∙ t1.stack } in
-            let next : address e (away 0 1) ≡ cell f s.base w = ap (λ a. (a + 1) % 2 ^ 64) g.1 ∙ sym (element_on s.base z 1 1) in
-            let e1 : Core = with_gpr e 1 y in
-            let e2 : Core = with_gpr e1 0 x in
-            let rest : List Ins = mix_code 0 1 2 ++ (Shift Shr 0 8 ∷ []) in
-            let e3 = after rest e2 in
-            let third : e.gpr 2 ≡ wrap 64 p = g.0.third ∙ h.1 in
-            let share : bit_and (sar 64 (e.gpr 2) 8) (wrap 64 (pos 255)) ≡ part = ap (λ a. bit_and (sar 64 a 8) (wrap 64 (pos 255))) third ∙ fraction_of i s.p s.q below in
-            let is_value : e3.gpr 0 ≡ value =
-            ap (λ a. shr 64 (add_wrap 64 (shl 64 x 8) (mul_low 64 (sub_wrap 64 y x) a)) 8) share
-            ∙ ap (λ a. shr 64 a 8) (mix_of part x y (small_fraction i s.p s.q) (omega (arith, low_x)) (omega (arith, low_y))) in
-            let same : e3.xmm 0 ≡ v.xmm 0 = ap (λ f. f 0) (g.0.xmm ∙ h.0.xmm) in
-            load_byte f count plan s c ready 1 0 1 (Load8 0 (away 0 0) ∷ (rest ++ push_gpr_code 1 0)) e _ w refl te refl next is_w
-            (load_byte f count plan s c ready 0 0 0 (rest ++ push_gpr_code 1 0) e1 _ z refl (record { memory = te.memory; stack = te.stack }) refl (plain f count plan s c ready (e.gpr 0) z 1 refl g.1) is
-              (calm_then N C rest (push_gpr_code 1 0) refl e2 _
-                (run_map N C (push_gpr_code 1 0) e3 (λ u. At c u × Pushed 1 (e3.gpr 0) (e3.xmm 0) (u.xmm 0)) _
-                  (push_byte f count plan s c ready e3 (record { memory = te.memory; stack = te.stack }) (subst AreBytes (sym same) small) (subst (λ n. n < 256) (sym is_value) (omega (arith, fits))))
-                  (λ u h. (h.0, subst (λ x. Pushed 1 (value_at f s c.memory i) x (u.xmm 0)) same (subst (λ n. Pushed 1 n (e3.xmm 0) (u.xmm 0)) (is_value ∙ meant) h.1)))))))))
+      let d1 = after (Move 2 0 ∷ []) d in
+      let t1 : At c d1 = record { memory = h.0.memory ∙ t.memory; stack = h.0.stack ∙ t.stack } in
+      calm_then N C (Move 2 0 ∷ []) ((Shift Sar 0 16 ∷ element_code plan 0 0 1) ++ mixed_byte_code 0 1 2) refl d _
+      (run_then N C (Shift Sar 0 16 ∷ element_code plan 0 0 1) (mixed_byte_code 0 1 2) d1 (λ e. Kept d1 e × (e.gpr 0 ≡ moved s.base (z *ℤ pos 1))) _
+      (locate_run f count plan s c ready 0 p d1 scales_0 (place_fits i s.p s.q below) t1 h.1)
+      (λ e g.
+      let te : At c e = record { memory = g.0.memory ∙ t1.memory; stack = g.0.stack ∙ t1.stack } in
+      let next : address e (away 0 1) ≡ cell f s.base w = ap (λ a. (a + 1) % 2 ^ 64) g.1 ∙ sym (element_on s.base z 1 1) in
+      let e1 : Core = with_gpr e 1 y in
+      let e2 : Core = with_gpr e1 0 x in
+      let rest : List Ins = mix_code 0 1 2 ++ (Shift Shr 0 8 ∷ []) in
+      let e3 = after rest e2 in
+      let third : e.gpr 2 ≡ wrap 64 p = g.0.third ∙ h.1 in
+      let share : bit_and (sar 64 (e.gpr 2) 8) (wrap 64 (pos 255)) ≡ part = ap (λ a. bit_and (sar 64 a 8) (wrap 64 (pos 255))) third ∙ fraction_of i s.p s.q below in
+      let is_value : e3.gpr 0 ≡ value =
+      ap (λ a. shr 64 (add_wrap 64 (shl 64 x 8) (mul_low 64 (sub_wrap 64 y x) a)) 8) share
+      ∙ ap (λ a. shr 64 a 8) (mix_of part x y (small_fraction i s.p s.q) (omega (arith, low_x)) (omega (arith, low_y))) in
+      let same : e3.xmm 0 ≡ v.xmm 0 = ap (λ f. f 0) (g.0.xmm ∙ h.0.xmm) in
+      load_byte f count plan s c ready 1 0 1 (Load8 0 (away 0 0) ∷ (rest ++ push_gpr_code 1 0)) e _ w refl te refl next is_w
+      (load_byte f count plan s c ready 0 0 0 (rest ++ push_gpr_code 1 0) e1 _ z refl (record { memory = te.memory; stack = te.stack }) refl (plain f count plan s c ready (e.gpr 0) z 1 refl g.1) is
+      (calm_then N C rest (push_gpr_code 1 0) refl e2 _
+      (run_map N C (push_gpr_code 1 0) e3 (λ u. At c u × Pushed 1 (e3.gpr 0) (e3.xmm 0) (u.xmm 0)) _
+      (push_byte f count plan s c ready e3 (record { memory = te.memory; stack = te.stack }) (subst AreBytes (sym same) small) (subst (λ n. n < 256) (sym is_value) (omega (arith, fits))))
+      (λ u h. (h.0, subst (λ x. Pushed 1 (value_at f s c.memory i) x (u.xmm 0)) same (subst (λ n. Pushed 1 n (e3.xmm 0) (u.xmm 0)) (is_value ∙ meant) h.1)))))))))
     where
       mixed_small : (part x y : ℕ) → part < 256 → x < 256 → y < 256 → (256 - part) * x + part * y < 2 ^ 16
       mixed_small part x y a b d =
@@ -246,40 +246,40 @@ module _ (count : ℕ) (plan : FarPlan) (s : Source) (c : Core) where
       let value = value_at f s c.memory i in
       run_then N C (place_code plan k 0 1) (address_code plan 2 0 1 2 ++ (spread_code 0 1 ++ mixed_long_code 0 1 2)) v (λ d. Kept v d × (d.gpr 0 ≡ wrap 64 p)) _ (place_run f count plan s c ready k v (omega arith) below t)
       (λ d h.
-        let d1 = after (Move 2 0 ∷ []) d in
-        let t1 : At c d1 = record { memory = h.0.memory ∙ t.memory; stack = h.0.stack ∙ t.stack } in
-        calm_then N C (Move 2 0 ∷ []) ((Shift Sar 0 16 ∷ element_code plan 2 0 1) ++ (spread_code 0 1 ++ mixed_long_code 0 1 2)) refl d _
-        (run_then N C (Shift Sar 0 16 ∷ element_code plan 2 0 1) (spread_code 0 1 ++ mixed_long_code 0 1 2) d1 (λ e. Kept d1 e × (e.gpr 0 ≡ moved s.base (z *ℤ pos 4))) _
-          (locate_run f count plan s c ready 2 p d1 scales_2 (place_fits i s.p s.q below) t1 h.1)
-          (λ e g.
-            let te : At c e = record { memory = g.0.memory ∙ t1.memory; stack = g.0.stack ∙ t1.stack } in
-            let next : address e (away 0 4) ≡ cell f s.base w = ap (λ a. (a + 4) % 2 ^ 64) g.1 ∙ sym (element_on s.base z 1 4) in
-            let third : e.gpr 2 ≡ wrap 64 p = g.0.third ∙ h.1 in
-            let share : bit_and (sar 64 (e.gpr 2) 8) (wrap 64 (pos 255)) ≡ part = ap (λ a. bit_and (sar 64 a 8) (wrap 64 (pos 255))) third ∙ fraction_of i s.p s.q below in
-            let same : e.xmm 0 ≡ v.xmm 0 = ap (λ f. f 0) (g.0.xmm ∙ h.0.xmm) in
-            let rest : List Ins = Vec Pxor 3 3 ∷ Vec Punpcklbw 1 3 ∷ Vec Punpcklbw 2 3 ∷ ToGpr true 0 1 ∷ ToGpr true 1 2 ∷ (mix_code 0 1 2 ++ join_code 0) in
-            load_long f count plan s c ready 1 0 0 (VecLoad Movd 2 (away 0 4) ∷ (rest ++ push_code 4)) e _ z refl te refl (plain f count plan s c ready (e.gpr 0) z 4 refl g.1) is
-            (λ x long_x.
-              let e1 : Core = with_xmm e 1 x in
-              load_long f count plan s c ready 2 0 4 (rest ++ push_code 4) e1 _ w refl (record { memory = te.memory; stack = te.stack }) refl next is_w
-              (λ y long_y.
-                let e2 : Core = with_xmm e1 2 y in
-                let e3 = after rest e2 in
-                let zeros : List ℕ = result_of (shape Pxor) (e.xmm 3) (e.xmm 3) in
-                let none = zeros_of (e.xmm 3) in
-                let byte_x : ℕ → ℕ = λ j. get_or x j 0 in
-                let byte_y : ℕ → ℕ = λ j. get_or y j 0 in
-                let mix : ℕ → ℕ → ℕ → ℕ = λ a b f. add_wrap 64 (shl 64 a 8) (mul_low 64 (sub_wrap 64 b a) f) in
-                let spread_x = lane 8 0 (result_of (shape Punpcklbw) x zeros) in
-                let spread_y = lane 8 0 (result_of (shape Punpcklbw) y zeros) in
-                let is_mix : mix spread_x spread_y (bit_and (sar 64 (e.gpr 2) 8) (wrap 64 (pos 255))) ≡ words (λ j. blended part (byte_x j) (byte_y j)) =
-                ap (mix spread_x spread_y) share ∙ ap (λ a. mix a spread_y part) (spread_of x zeros long_x.small none) ∙ ap (λ b. mix (words byte_x) b part) (spread_of y zeros long_y.small none)
-                ∙ mix_of part (words byte_x) (words byte_y) (small_fraction i s.p s.q) (words_small byte_x long_x.small) (words_small byte_y long_y.small) ∙ blended_words part byte_x byte_y in
-                let is_joined : e3.xmm 1 ≡ joined (words (λ j. blended part (byte_x j) (byte_y j))) zeros = ap (λ m. joined m zeros) is_mix in
-                let lowest : lane 4 0 (e3.xmm 1) ≡ value =
-                ap (lane 4 0) is_joined ∙ long_of part x y zeros (small_fraction i s.p s.q) long_x.small long_y.small ∙ ap (λ a. mixed_bytes 4 part a (lane 4 0 y)) long_x.lowest ∙ ap (mixed_bytes 4 part (element f c.memory s.base z)) long_y.lowest in
-                calm_then N C rest (push_code 4) refl e2 _
-                (run_map N C (push_code 4) e3 (λ u. At c u × Pushed 4 value (e3.xmm 0) (u.xmm 0)) _
-                  (push_long f count plan s c ready e3 value (record { memory = te.memory; stack = te.stack }) (subst AreBytes (sym same) small) lowest
-                    (λ i a b. ap (λ r. get_or r i 0) is_joined ∙ joined_high (words (λ j. blended part (byte_x j) (byte_y j))) zeros none i a b) (subst AreBytes (sym is_joined) (joined_small (words (λ j. blended part (byte_x j) (byte_y j))) zeros)))
-                  (λ u h. (h.0, subst (λ x. Pushed 4 value x (u.xmm 0)) same h.1))))))))
+      let d1 = after (Move 2 0 ∷ []) d in
+      let t1 : At c d1 = record { memory = h.0.memory ∙ t.memory; stack = h.0.stack ∙ t.stack } in
+      calm_then N C (Move 2 0 ∷ []) ((Shift Sar 0 16 ∷ element_code plan 2 0 1) ++ (spread_code 0 1 ++ mixed_long_code 0 1 2)) refl d _
+      (run_then N C (Shift Sar 0 16 ∷ element_code plan 2 0 1) (spread_code 0 1 ++ mixed_long_code 0 1 2) d1 (λ e. Kept d1 e × (e.gpr 0 ≡ moved s.base (z *ℤ pos 4))) _
+      (locate_run f count plan s c ready 2 p d1 scales_2 (place_fits i s.p s.q below) t1 h.1)
+      (λ e g.
+      let te : At c e = record { memory = g.0.memory ∙ t1.memory; stack = g.0.stack ∙ t1.stack } in
+      let next : address e (away 0 4) ≡ cell f s.base w = ap (λ a. (a + 4) % 2 ^ 64) g.1 ∙ sym (element_on s.base z 1 4) in
+      let third : e.gpr 2 ≡ wrap 64 p = g.0.third ∙ h.1 in
+      let share : bit_and (sar 64 (e.gpr 2) 8) (wrap 64 (pos 255)) ≡ part = ap (λ a. bit_and (sar 64 a 8) (wrap 64 (pos 255))) third ∙ fraction_of i s.p s.q below in
+      let same : e.xmm 0 ≡ v.xmm 0 = ap (λ f. f 0) (g.0.xmm ∙ h.0.xmm) in
+      let rest : List Ins = Vec Pxor 3 3 ∷ Vec Punpcklbw 1 3 ∷ Vec Punpcklbw 2 3 ∷ ToGpr true 0 1 ∷ ToGpr true 1 2 ∷ (mix_code 0 1 2 ++ join_code 0) in
+      load_long f count plan s c ready 1 0 0 (VecLoad Movd 2 (away 0 4) ∷ (rest ++ push_code 4)) e _ z refl te refl (plain f count plan s c ready (e.gpr 0) z 4 refl g.1) is
+      (λ x long_x.
+      let e1 : Core = with_xmm e 1 x in
+      load_long f count plan s c ready 2 0 4 (rest ++ push_code 4) e1 _ w refl (record { memory = te.memory; stack = te.stack }) refl next is_w
+      (λ y long_y.
+      let e2 : Core = with_xmm e1 2 y in
+      let e3 = after rest e2 in
+      let zeros : List ℕ = result_of (shape Pxor) (e.xmm 3) (e.xmm 3) in
+      let none = zeros_of (e.xmm 3) in
+      let byte_x : ℕ → ℕ = λ j. get_or x j 0 in
+      let byte_y : ℕ → ℕ = λ j. get_or y j 0 in
+      let mix : ℕ → ℕ → ℕ → ℕ = λ a b f. add_wrap 64 (shl 64 a 8) (mul_low 64 (sub_wrap 64 b a) f) in
+      let spread_x = lane 8 0 (result_of (shape Punpcklbw) x zeros) in
+      let spread_y = lane 8 0 (result_of (shape Punpcklbw) y zeros) in
+      let is_mix : mix spread_x spread_y (bit_and (sar 64 (e.gpr 2) 8) (wrap 64 (pos 255))) ≡ words (λ j. blended part (byte_x j) (byte_y j)) =
+      ap (mix spread_x spread_y) share ∙ ap (λ a. mix a spread_y part) (spread_of x zeros long_x.small none) ∙ ap (λ b. mix (words byte_x) b part) (spread_of y zeros long_y.small none)
+      ∙ mix_of part (words byte_x) (words byte_y) (small_fraction i s.p s.q) (words_small byte_x long_x.small) (words_small byte_y long_y.small) ∙ blended_words part byte_x byte_y in
+      let is_joined : e3.xmm 1 ≡ joined (words (λ j. blended part (byte_x j) (byte_y j))) zeros = ap (λ m. joined m zeros) is_mix in
+      let lowest : lane 4 0 (e3.xmm 1) ≡ value =
+      ap (lane 4 0) is_joined ∙ long_of part x y zeros (small_fraction i s.p s.q) long_x.small long_y.small ∙ ap (λ a. mixed_bytes 4 part a (lane 4 0 y)) long_x.lowest ∙ ap (mixed_bytes 4 part (element f c.memory s.base z)) long_y.lowest in
+      calm_then N C rest (push_code 4) refl e2 _
+      (run_map N C (push_code 4) e3 (λ u. At c u × Pushed 4 value (e3.xmm 0) (u.xmm 0)) _
+      (push_long f count plan s c ready e3 value (record { memory = te.memory; stack = te.stack }) (subst AreBytes (sym same) small) lowest
+      (λ i a b. ap (λ r. get_or r i 0) is_joined ∙ joined_high (words (λ j. blended part (byte_x j) (byte_y j))) zeros none i a b) (subst AreBytes (sym is_joined) (joined_small (words (λ j. blended part (byte_x j) (byte_y j))) zeros)))
+      (λ u h. (h.0, subst (λ x. Pushed 4 value x (u.xmm 0)) same h.1))))))))

@@ -111,7 +111,7 @@ both false t h = absurd (true≢false (sym h))
 
 -- what may be touched: by RSP what is near, and by another register what is far
 abbrev pub Looks : (ℕ → Type 0) → (ℕ → Type 0) → Core → Ins → Type 0
-Looks Near Far u i = (x : ℕ) → Touches i u x → Near x ⊎ ((touch_weight is_pointer i ≡ 1) × Far x)
+Looks Near Far u i = (x : ℕ) → Touches i u x → ((touch_weight is_pointer i ≡ 0) × Near x) ⊎ ((touch_weight is_pointer i ≡ 1) × Far x)
 
 -- ---- twins
 
@@ -165,38 +165,38 @@ module _ (a b e : ℕ) (n : Names a b e) where
   -- a register is written; the rest of w is that of u
   set_gpr : (u v w : Core) → Twin a b e u v → (j x y : ℕ) → is_scratch j ≡ true → x ≡ y → w.gpr ≡ change u.gpr (named a b e j) x → w.xmm ≡ u.xmm → w.memory ≡ u.memory → (d : Core) → d.gpr ≡ change v.gpr j y → d.xmm ≡ v.xmm → d.memory ≡ v.memory → Twin a b e w d × Tamed a b e u w
   set_gpr u v w t zero x y h p wg wx wm d dg dx dm = (
-      record {
-        first = ap (λ f. f a) wg ∙ change_same u.gpr a x ∙ p ∙ ap (λ f. f 0) (sym dg);
-        second = ap (λ f. f b) wg ∙ change_other u.gpr a x b (λ q. n.ab (sym q)) ∙ t.second ∙ ap (λ f. f 1) (sym dg);
-        third = ap (λ f. f e) wg ∙ change_other u.gpr a x e (λ q. n.ae (sym q)) ∙ t.third ∙ ap (λ f. f 2) (sym dg);
-        stack = ap (λ f. f 4) wg ∙ change_other u.gpr a x 4 (λ q. n.a4 (sym q)) ∙ t.stack ∙ ap (λ f. f 4) (sym dg);
-        xmm = λ r. ap (λ f. f r) wx ∙ t.xmm r ∙ ap (λ f. f r) (sym dx);
-        memory = wm ∙ t.memory ∙ sym dm;
-      },
-      record { memory = wm; gpr = λ r ra rb re. ap (λ f. f r) wg ∙ change_other u.gpr a x r ra; xmm = λ r l. ap (λ f. f r) wx },
-    )
+    record {
+      first = ap (λ f. f a) wg ∙ change_same u.gpr a x ∙ p ∙ ap (λ f. f 0) (sym dg);
+      second = ap (λ f. f b) wg ∙ change_other u.gpr a x b (λ q. n.ab (sym q)) ∙ t.second ∙ ap (λ f. f 1) (sym dg);
+      third = ap (λ f. f e) wg ∙ change_other u.gpr a x e (λ q. n.ae (sym q)) ∙ t.third ∙ ap (λ f. f 2) (sym dg);
+      stack = ap (λ f. f 4) wg ∙ change_other u.gpr a x 4 (λ q. n.a4 (sym q)) ∙ t.stack ∙ ap (λ f. f 4) (sym dg);
+      xmm = λ r. ap (λ f. f r) wx ∙ t.xmm r ∙ ap (λ f. f r) (sym dx);
+      memory = wm ∙ t.memory ∙ sym dm;
+    },
+    record { memory = wm; gpr = λ r ra rb re. ap (λ f. f r) wg ∙ change_other u.gpr a x r ra; xmm = λ r l. ap (λ f. f r) wx },
+  )
   set_gpr u v w t (suc zero) x y h p wg wx wm d dg dx dm = (
-      record {
-        first = ap (λ f. f a) wg ∙ change_other u.gpr b x a n.ab ∙ t.first ∙ ap (λ f. f 0) (sym dg);
-        second = ap (λ f. f b) wg ∙ change_same u.gpr b x ∙ p ∙ ap (λ f. f 1) (sym dg);
-        third = ap (λ f. f e) wg ∙ change_other u.gpr b x e (λ q. n.be (sym q)) ∙ t.third ∙ ap (λ f. f 2) (sym dg);
-        stack = ap (λ f. f 4) wg ∙ change_other u.gpr b x 4 (λ q. n.b4 (sym q)) ∙ t.stack ∙ ap (λ f. f 4) (sym dg);
-        xmm = λ r. ap (λ f. f r) wx ∙ t.xmm r ∙ ap (λ f. f r) (sym dx);
-        memory = wm ∙ t.memory ∙ sym dm;
-      },
-      record { memory = wm; gpr = λ r ra rb re. ap (λ f. f r) wg ∙ change_other u.gpr b x r rb; xmm = λ r l. ap (λ f. f r) wx },
-    )
+    record {
+      first = ap (λ f. f a) wg ∙ change_other u.gpr b x a n.ab ∙ t.first ∙ ap (λ f. f 0) (sym dg);
+      second = ap (λ f. f b) wg ∙ change_same u.gpr b x ∙ p ∙ ap (λ f. f 1) (sym dg);
+      third = ap (λ f. f e) wg ∙ change_other u.gpr b x e (λ q. n.be (sym q)) ∙ t.third ∙ ap (λ f. f 2) (sym dg);
+      stack = ap (λ f. f 4) wg ∙ change_other u.gpr b x 4 (λ q. n.b4 (sym q)) ∙ t.stack ∙ ap (λ f. f 4) (sym dg);
+      xmm = λ r. ap (λ f. f r) wx ∙ t.xmm r ∙ ap (λ f. f r) (sym dx);
+      memory = wm ∙ t.memory ∙ sym dm;
+    },
+    record { memory = wm; gpr = λ r ra rb re. ap (λ f. f r) wg ∙ change_other u.gpr b x r rb; xmm = λ r l. ap (λ f. f r) wx },
+  )
   set_gpr u v w t (suc (suc zero)) x y h p wg wx wm d dg dx dm = (
-      record {
-        first = ap (λ f. f a) wg ∙ change_other u.gpr e x a n.ae ∙ t.first ∙ ap (λ f. f 0) (sym dg);
-        second = ap (λ f. f b) wg ∙ change_other u.gpr e x b n.be ∙ t.second ∙ ap (λ f. f 1) (sym dg);
-        third = ap (λ f. f e) wg ∙ change_same u.gpr e x ∙ p ∙ ap (λ f. f 2) (sym dg);
-        stack = ap (λ f. f 4) wg ∙ change_other u.gpr e x 4 (λ q. n.e4 (sym q)) ∙ t.stack ∙ ap (λ f. f 4) (sym dg);
-        xmm = λ r. ap (λ f. f r) wx ∙ t.xmm r ∙ ap (λ f. f r) (sym dx);
-        memory = wm ∙ t.memory ∙ sym dm;
-      },
-      record { memory = wm; gpr = λ r ra rb re. ap (λ f. f r) wg ∙ change_other u.gpr e x r re; xmm = λ r l. ap (λ f. f r) wx },
-    )
+    record {
+      first = ap (λ f. f a) wg ∙ change_other u.gpr e x a n.ae ∙ t.first ∙ ap (λ f. f 0) (sym dg);
+      second = ap (λ f. f b) wg ∙ change_other u.gpr e x b n.be ∙ t.second ∙ ap (λ f. f 1) (sym dg);
+      third = ap (λ f. f e) wg ∙ change_same u.gpr e x ∙ p ∙ ap (λ f. f 2) (sym dg);
+      stack = ap (λ f. f 4) wg ∙ change_other u.gpr e x 4 (λ q. n.e4 (sym q)) ∙ t.stack ∙ ap (λ f. f 4) (sym dg);
+      xmm = λ r. ap (λ f. f r) wx ∙ t.xmm r ∙ ap (λ f. f r) (sym dx);
+      memory = wm ∙ t.memory ∙ sym dm;
+    },
+    record { memory = wm; gpr = λ r ra rb re. ap (λ f. f r) wg ∙ change_other u.gpr e x r re; xmm = λ r l. ap (λ f. f r) wx },
+  )
   set_gpr u v w t (suc (suc (suc j))) x y h p wg wx wm d dg dx dm = absurd (true≢false (sym h))
 
   change_like : (f g : ℕ → List ℕ) (r : ℕ) (x y : List ℕ) (q : ℕ) → x ≡ y → f q ≡ g q → change f r x q ≡ change g r y q
@@ -204,9 +204,9 @@ module _ (a b e : ℕ) (n : Names a b e) where
 
   set_xmm : (u v : Core) → Twin a b e u v → (r : ℕ) (x y : List ℕ) → nat_lt r 6 ≡ true → x ≡ y → Twin a b e (with_xmm u r x) (with_xmm v r y) × Tamed a b e u (with_xmm u r x)
   set_xmm u v t r x y low p = (
-      record { first = t.first; second = t.second; third = t.third; stack = t.stack; xmm = λ q. change_like u.xmm v.xmm r x y q p (t.xmm q); memory = t.memory },
-      record { memory = refl; gpr = λ r ra rb re. refl; xmm = λ q l. change_other u.xmm r x q (λ z. let f : r < 6 = grind (arith, nat_tests) in omega (arith, z, l, f)) },
-    )
+    record { first = t.first; second = t.second; third = t.third; stack = t.stack; xmm = λ q. change_like u.xmm v.xmm r x y q p (t.xmm q); memory = t.memory },
+    record { memory = refl; gpr = λ r ra rb re. refl; xmm = λ q l. change_other u.xmm r x q (λ z. let f : r < 6 = grind (arith, nat_tests) in omega (arith, z, l, f)) },
+  )
 
   -- a load of a number into a register
   load_steps : (i j : Ins) (u v d : Core) → Twin a b e u v → (k r : ℕ) (at : Addr) → is_scratch r ≡ true → is_base at.base ≡ true
@@ -366,7 +366,7 @@ module _ (a b e : ℕ) (n : Names a b e) where
     looks : (i : Ins) (u v : Core) → Twin a b e u v → is_tame i ≡ true → Looks Near Far v i → Looks Near Far u (renamed a b e i)
     looks i u v t h see x (j, l, p) =
         let s = spans i u v t h in
-        ⊎_elim (λ q. inl q) (λ q. inr (weights i h ∙ q.0, q.1)) (see x (j, subst (λ k. j < k) (ap (λ z. z.1) s) l, p ∙ ap (λ z. (z.0 + j) % 2 ^ 64) s))
+        ⊎_elim (λ q. inl (weights i h ∙ q.0, q.1)) (λ q. inr (weights i h ∙ q.0, q.1)) (see x (j, subst (λ k. j < k) (ap (λ z. z.1) s) l, p ∙ ap (λ z. (z.0 + j) % 2 ^ 64) s))
 
     -- from what the names' list does to what the list itself does
     pub renamed_line : (is : List Ins) → all_tame is ≡ true → (c u v d : Core) → Tamed a b e c u → Twin a b e u v → Line (Looks Near Far) is v d

@@ -7,20 +7,11 @@ use Rattle.x86_ins.specs.Machine.{Core, Bounded, Touches, moved}
 use Rattle.x86_flow.specs.Does.{Line}
 use Rattle.x86_flow.specs.Touching.{touch_weight}
 use Rattle.orc_ops.specs.declared.far.Far.{Far}
-use Rattle.orc_ops.specs.declared.far.Far.TheVariants.{Loadoffb, Loadoffw, Loadoffl, Ldreslinb, Ldreslinl}
 use Rattle.orc_ops.specs.Far.{far_size, far_scalars, far_first, far_second, far_value}
 use Rattle.orc_resample.specs.declared.plan.FarPlan.{FarPlan}
 use Rattle.orc_resample.specs.Code.{scratch, scalar_at}
 
 -- ---- plans
-
--- the bytes of an element
-abbrev pub IsSize : ℕ → Type 0
-IsSize n = (n ≡ 1) ⊎ ((n ≡ 2) ⊎ (n ≡ 4))
-
--- so many elements at once
-abbrev pub IsCount : ℕ → Type 0
-IsCount n = (n ≡ 1) ⊎ ((n ≡ 2) ⊎ ((n ≡ 4) ⊎ ((n ≡ 8) ⊎ (n ≡ 16))))
 
 -- the scratch registers are three different ones, none of them RSP, and each scalar has its pattern
 pub record IsPlan (far : Far) (plan : FarPlan) : Type 0 where
@@ -57,7 +48,7 @@ InElement far base k x = (j : ℕ) × (j < far_size far) × (x ≡ (cell far bas
 abbrev pub IsRead : Far → Source → ℕ → ℤ → Type 0
 IsRead far s i k = (k ≡ far_first far i s.p s.q) ⊎ (Some k ≡ far_second far i s.p s.q)
 
--- one that is read for some of `count` elements
+-- an address is a byte of one that is read for some of `count` elements
 abbrev pub AmongCells : Far → ℕ → Source → ℕ → Type 0
 AmongCells far count s x = (j : ℕ) × (j < count) × ((k : ℤ) × IsRead far s (s.first + j) k × InElement far s.base k x)
 
@@ -112,7 +103,7 @@ InPlan far plan stack x =
 
 -- what an instruction touches: by RSP the plan's words and patterns alone, and by another register the elements that are read
 abbrev pub Sees : Far → ℕ → FarPlan → Source → ℕ → Core → Ins → Type 0
-Sees far count plan s stack u i = (x : ℕ) → Touches i u x → InPlan far plan stack x ⊎ ((touch_weight is_pointer i ≡ 1) × AmongCells far count s x)
+Sees far count plan s stack u i = (x : ℕ) → Touches i u x → ((touch_weight is_pointer i ≡ 0) × InPlan far plan stack x) ⊎ ((touch_weight is_pointer i ≡ 1) × AmongCells far count s x)
 
 -- what holds before each instruction on the way from c
 abbrev pub OnTheWay : Far → ℕ → FarPlan → Source → Core → Core → Ins → Type 0
@@ -121,12 +112,3 @@ OnTheWay far count plan s c u i = Keeps plan c u × Sees far count plan s (c.gpr
 -- from every state that is ready, the list leads to the values
 abbrev pub Gathers : Far → ℕ → FarPlan → List Ins → Type 0
 Gathers far count plan list = (s : Source) (c : Core) → Ready far count plan s c → (d : Core) × Line (OnTheWay far count plan s c) list c d × Gathered far count plan s c d
-
--- w: the greatest length of the list for so many elements
-abbrev pub weight : Far → ℕ → ℕ
-weight Loadoffb n = 16
-weight Loadoffw n = 16
-weight Loadoffl n = 16
-weight Ldreslinb n = 16 + 32 * n
-weight Ldreslinl n = 16 + 64 * n
-weight _ n = 16 + 24 * n

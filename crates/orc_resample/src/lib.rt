@@ -11,3 +11,6 @@ pub use assembly::gather;
 pub use elements::Reach;
 pub use plan::FarPlan;
 pub use values::{blend, reach};
+
+#[cfg(test)]
+mod tests;

@@ -14,9 +14,7 @@ ghost use Rattle.orc_resample.specs.Code.{slot, scalar_at, bits_of, scale_code, 
 use crate::plan::FarPlan;
 use std::alloc::AllocError;
 use x86_flow::away;
-use x86_ins::{
-    Addr, AluOp, Gpr, Ins, InsList, MoveOp, ShiftOp, VecImmOp, VecOp, Xmm, allowed,
-};
+use x86_ins::{Addr, AluOp, Gpr, Ins, InsList, MoveOp, ShiftOp, VecImmOp, VecOp, Xmm, allowed};
 
 /// RSP.
 const STACK: Gpr = Gpr { number: 4 };

@@ -1,7 +1,8 @@
 use Rattle.std.proofs.Common.{◌≤◌, ◌*◌, length, subst, sym}
 use Rattle.x86_ins.specs.Spelling.{IsIns}
 use Rattle.x86_ins.specs.Way.{Each}
-use Rattle.orc_resample.specs.Ready.{weight, far_count, Gathers}
+use Rattle.orc_ops.specs.Far.{far_weight}
+use Rattle.orc_resample.specs.Ready.{far_count, Gathers}
 use Rattle.orc_resample.proofs.Counted.{ok_map, ok_both, gather_short, gather_far}
 use Rattle.orc_resample.proofs.Gathered.{gathers}
 use Rattle.orc_resample.proofs.assembly.gather.Goals as goal
@@ -13,7 +14,7 @@ returns-clause-values c =
     c.gather_list.ensures.list c.gather_list.ensures.ranges
 
 pub returns-clause-short : goal.returns-clause-short
-returns-clause-short c = ok_map c.gather_list.result _ _ (λ list e. subst (λ l. length l ≤ weight c.args.far c.args.count) (sym e) (gather_short c.args.far c.args.count c.args.plan.now c.requires.width)) c.gather_list.ensures.list
+returns-clause-short c = ok_map c.gather_list.result _ _ (λ list e. subst (λ l. length l ≤ far_weight c.args.far c.args.count) (sym e) (gather_short c.args.far c.args.count c.args.plan.now c.requires.width)) c.gather_list.ensures.list
 
 pub returns-clause-touches : goal.returns-clause-touches
 returns-clause-touches c = ok_map c.gather_list.result _ _ (λ list e. subst (λ l. far_count l ≤ 2 * c.args.count) (sym e) (gather_far c.args.far c.args.count c.args.plan.now c.requires.width)) c.gather_list.ensures.list
