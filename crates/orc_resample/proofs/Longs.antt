@@ -19,9 +19,6 @@ use Rattle.orc_resample.proofs.Pushes.{by_bytes}
 abbrev pub words : (ℕ → ℕ) → ℕ
 words f = f 0 + 2 ^ 16 * (f 1 + 2 ^ 16 * (f 2 + 2 ^ 16 * f 3))
 
-AreZeros : List ℕ → Type 0
-AreZeros z = (i : ℕ) → i < 16 → get_or z i 0 ≡ 0
-
 pub zeros_of : (x : List ℕ) → (i : ℕ) → i < 16 → get_or (result_of (shape Pxor) x x) i 0 ≡ 0
 zeros_of x i l = by_bytes (λ q. bit_xor (lane 1 q x) (lane 1 q x)) i l ∙ ap (λ v. v % 256) (xor_self (lane 1 i x))
 

@@ -94,11 +94,6 @@ pub moved_is : (base : ℕ) (z : ℤ) → moved base z ≡ (base + wrap 64 z) % 
 moved_is base (pos n) = omega arith
 moved_is base (negsuc n) = refl
 
-pub moved_on : (base : ℕ) (z : ℤ) (n : ℕ) → moved base (z +ℤ pos n) ≡ (moved base z + n) % 2 ^ 64
-moved_on base z n =
-    moved_is base (z +ℤ pos n) ∙ ap (λ x. (base + x) % 2 ^ 64) (sym (add_of z (pos n)))
-    ∙ (let q : (base + (wrap 64 z + n % 2 ^ 64) % 2 ^ 64) % 2 ^ 64 ≡ ((base + wrap 64 z) % 2 ^ 64 + n) % 2 ^ 64 = omega arith in q) ∙ ap (λ x. (x + n) % 2 ^ 64) (sym (moved_is base z))
-
 turned_product : (z : ℤ) (n : ℕ) → pos n *ℤ z ≡ z *ℤ pos n
 turned_product (pos m) n = pos-*ℤ-pos n m ∙ ap pos (let e : n * m ≡ m * n = omega arith in e) ∙ sym (pos-*ℤ-pos m n)
 turned_product (negsuc m) n = pos-*ℤ-negsuc n m ∙ ap (λ x. neg_ℤ (pos x)) (let e : n * suc m ≡ suc m * n = omega arith in e) ∙ sym (negsuc-*ℤ-pos m n)

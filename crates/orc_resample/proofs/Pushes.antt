@@ -20,9 +20,6 @@ by_bytes g i l =
     ∙ ap (λ k. g i / 256 ^ k % 256) (let e : i % 1 ≡ 0 = omega arith in e)
     ∙ (let q : g i / 1 % 256 ≡ g i % 256 = omega arith in q)
 
-up : ℕ → List ℕ → ℕ → ℕ
-up n x q = cond (nat_lt q n) 0 (lane 1 (q - n) x)
-
 moved_low : (n : ℕ) (x : List ℕ) (i : ℕ) → i < 16 → i < n → lane 1 i (imm_result (imm_shape Pslldq) n x) ≡ 0
 moved_low n x i l m =
     let t : nat_lt i n ≡ true = grind (arith, nat_tests) in

@@ -1,6 +1,5 @@
 -- The code of an offset load takes all its elements at once.
-use Rattle.std.proofs.Common.{◌≡◌, ℕ, zero, suc, ◌+◌, ◌*◌, ◌/◌, ◌%◌, ◌^◌, ◌<◌, ◌≤◌, ℤ, pos, ◌+ℤ◌, ◌*ℤ◌, true, false, List, [], ◌∷◌, ◌++◌, get_or, Result, refl, sym, ap, ◌∙◌, subst, arith, inl, ⊎_elim}
-use Rattle.std.specs.Prelude.{nat_lt}
+use Rattle.std.proofs.Common.{◌≡◌, ℕ, zero, suc, ◌+◌, ◌*◌, ◌/◌, ◌%◌, ◌^◌, ◌<◌, ◌≤◌, ℤ, pos, ◌+ℤ◌, ◌*ℤ◌, false, List, [], ◌∷◌, ◌++◌, get_or, Result, refl, sym, ap, ◌∙◌, subst, arith, inl, ⊎_elim}
 use Rattle.std.proofs.lemmas.Bool.{cases_lt}
 use Rattle.std.proofs.lemmas.Nat.{pow_pos}
 use Rattle.std.proofs.Math.Nat.{mod-add-div, mod-lt, mul-le-mul_right}
@@ -16,7 +15,7 @@ use Rattle.x86_ins.specs.declared.ins.ShiftOp.TheVariants.{Shl, Sar}
 use Rattle.x86_ins.specs.declared.ins.Ins.{Ins}
 use Rattle.x86_ins.specs.declared.ins.Ins.TheVariants.{VecLoad, FromGpr, Load, Alu, Shift}
 use Rattle.x86_ins.specs.declared.state.Trap.{Trap}
-use Rattle.x86_ins.specs.Vectors.{shl, add_wrap}
+use Rattle.x86_ins.specs.Vectors.{add_wrap}
 use Rattle.x86_ins.specs.Machine.{Core, with_gpr, with_xmm, moved, address, aligned, move_size}
 use Rattle.x86_flow.specs.Moves.{away, IsWidth}
 use Rattle.x86_flow.proofs.Moves.{each_width}
@@ -25,10 +24,10 @@ use Rattle.orc_ops.specs.Far.{far_size, far_scalars, far_first, scalar}
 use Rattle.orc_resample.specs.declared.plan.FarPlan.{FarPlan}
 use Rattle.orc_resample.specs.Code.{slot, scalar_at, element_code, start_code, row_code}
 use Rattle.orc_resample.specs.Ready.{Source, Ready, AmongCells, cell, element}
-use Rattle.orc_resample.proofs.Numbers.{moved_small, scaled_of, scalar_of, sum_of, element_on}
+use Rattle.orc_resample.proofs.Numbers.{moved_small, scalar_of, sum_of, element_on}
 use Rattle.orc_resample.proofs.Bytes.{byte, byte_small, byte_at, digits, digits_same, value_is, read_byte, lane_is}
 use Rattle.orc_resample.proofs.Runs.{run_then, run_map, after, calm_then, calm_run, byte_then, pair_then, vector_then}
-use Rattle.orc_resample.proofs.Blocks.{Scales, Kept, kept_at, element_run, At, Near, Cells, Leads, load_index, load_array, load_p, element_digits}
+use Rattle.orc_resample.proofs.Blocks.{Scales, Kept, kept_at, element_run, At, Near, Cells, Leads, load_index, load_p, element_digits}
 
 -- the low bytes of x are those of memory from an address on
 pub record IsRow (width : ℕ) (mem : Memory) (a : ℕ) (x : List ℕ) : Type 0 where

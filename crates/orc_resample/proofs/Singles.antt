@@ -49,9 +49,6 @@ module _ (far : Far) (count : ℕ) (plan : FarPlan) (s : Source) (c : Core) (rea
       (push_byte far count plan s c ready d (kept_at far count plan s c ready v d t k) (subst AreBytes (sym same) small) (subst (λ n. n < 256) (sym e) l))
       (λ u h. (h.0, subst (λ x. Pushed 1 value x (u.xmm 0)) same (subst (λ n. Pushed 1 n (d.xmm 0) (u.xmm 0)) e h.1)))
 
-  kept_on : (u v d : Core) → Kept u v → Kept v d → Kept u d
-  kept_on u v d h k = record { memory = k.memory ∙ h.memory; stack = k.stack ∙ h.stack; third = k.third ∙ h.third; xmm = k.xmm ∙ h.xmm }
-
 module _ (count : ℕ) (plan : FarPlan) (s : Source) (c : Core) where
   pub double_run : (ready : Ready Loadupdb count plan s c) (k : ℕ) → k < count → (v : Core) → At c v → AreBytes (v.xmm 0) → Adds Loadupdb count plan s c ready k v
   double_run ready k l v t small =

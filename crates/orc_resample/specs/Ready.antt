@@ -1,5 +1,5 @@
 -- What a far load's code needs of a state, and what it leaves.
-use Rattle.std.specs.Prelude.{◌≡◌, ◌≢◌, ℕ, ◌+◌, ◌*◌, ◌%◌, ◌^◌, ◌<◌, ◌≤◌, ◌⊎◌, ◌==◌, ℤ, pos, ◌*ℤ◌, Bool, not, List, [], ◌∷◌, length, Option, Some, None}
+use Rattle.std.specs.Prelude.{◌≡◌, ◌≢◌, ℕ, ◌+◌, ◌%◌, ◌^◌, ◌<◌, ◌≤◌, ◌⊎◌, ◌==◌, ℤ, pos, ◌*ℤ◌, Bool, not, List, [], ◌∷◌, length, Option, Some, None}
 use Rattle.orc_bits.specs.Lanes.{lane}
 use Rattle.orc_bits.specs.Memory.{Memory, word, value, IsMapped}
 use Rattle.x86_ins.specs.declared.ins.Ins.{Ins}
