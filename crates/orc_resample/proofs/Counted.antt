@@ -1,6 +1,8 @@
--- How long the lists are.
-use Rattle.std.proofs.Common.{◌≡◌, ℕ, zero, suc, ◌+◌, ◌-◌, ◌*◌, ◌≤◌, Bool, true, false, if◌then◌else◌, length, List, [], ◌∷◌, ◌++◌, Result, Ok, Err, IfOk, ap, ◌∙◌, refl, arith, length-append}
+-- How long the lists are, how many of their instructions read the array, and that all are allowed.
+use Rattle.std.proofs.Common.{◌≡◌, ℕ, zero, suc, ◌+◌, ◌-◌, ◌*◌, ◌≤◌, ◌&&◌, Bool, true, false, true≢false, if◌then◌else◌, length, List, [], ◌∷◌, ◌++◌, Result, Ok, Err, IfOk, sym, ap, ◌∙◌, refl, arith, length-append}
 use Rattle.x86_ins.specs.declared.ins.Ins.{Ins}
+use Rattle.x86_ins.specs.Spelling.{IsIns, IsAllowed, has_spelling}
+use Rattle.x86_ins.specs.Way.{Each}
 use Rattle.x86_flow.specs.Moves.{IsWidth}
 use Rattle.x86_flow.specs.Touching.{touch_weight}
 use Rattle.x86_flow.proofs.Moves.{each_width}
@@ -109,3 +111,53 @@ gather_far Ldresnearb count plan is = omega (arith, elements_far Ldresnearb plan
 gather_far Ldresnearl count plan is = omega (arith, elements_far Ldresnearl plan count (scratch plan 0) (scratch plan 1) (scratch plan 2) count)
 gather_far Ldreslinb count plan is = omega (arith, elements_far Ldreslinb plan count (scratch plan 0) (scratch plan 1) (scratch plan 2) count)
 gather_far Ldreslinl count plan is = omega (arith, elements_far Ldreslinl plan count (scratch plan 0) (scratch plan 1) (scratch plan 2) count)
+
+-- ---- all are allowed
+
+abbrev all_spelled : List Ins → Bool
+all_spelled [] = true
+all_spelled (i ∷ is) = has_spelling i && all_spelled is
+
+both : (s t : Bool) → (s && t) ≡ true → (s ≡ true) × (t ≡ true)
+both true t h = (refl, h)
+both false t h = absurd (true≢false (sym h))
+
+spelled_append : (x y : List Ins) → all_spelled x ≡ true → all_spelled y ≡ true → all_spelled (x ++ y) ≡ true
+spelled_append [] y p q = q
+spelled_append (i ∷ x) y p q = let h = both (has_spelling i) (all_spelled x) p in ap (λ b. b && all_spelled (x ++ y)) h.0 ∙ spelled_append x y h.1 q
+
+element_spelled : (far : Far) (plan : FarPlan) (k a b e : ℕ) → all_spelled (element_of far plan k a b e) ≡ true
+element_spelled Loadoffb plan k a b e = refl
+element_spelled Loadoffw plan k a b e = refl
+element_spelled Loadoffl plan k a b e = refl
+element_spelled Loadupdb plan k a b e = refl
+element_spelled Loadupib plan k a b e = refl
+element_spelled Ldresnearb plan k a b e = refl
+element_spelled Ldresnearl plan k a b e = refl
+element_spelled Ldreslinb plan k a b e = refl
+element_spelled Ldreslinl plan k a b e = refl
+
+elements_spelled : (far : Far) (plan : FarPlan) (count a b e n : ℕ) → all_spelled (elements_code far plan count a b e n) ≡ true
+elements_spelled far plan count a b e zero = refl
+elements_spelled far plan count a b e (suc n) = spelled_append (elements_code far plan count a b e n) (element_of far plan (count - 1 - n) a b e) (elements_spelled far plan count a b e n) (element_spelled far plan (count - 1 - n) a b e)
+
+row_spelled : (width a : ℕ) → IsWidth width → all_spelled (row_code width a) ≡ true
+row_spelled width a is = each_width (λ w. all_spelled (row_code w a) ≡ true) refl refl refl refl refl width is
+
+gather_spelled : (far : Far) (count : ℕ) (plan : FarPlan) → IsWidth (count * far_size far) → all_spelled (gather_code far count plan) ≡ true
+gather_spelled Loadoffb count plan is = row_spelled (count * 1) (scratch plan 0) is
+gather_spelled Loadoffw count plan is = row_spelled (count * 2) (scratch plan 0) is
+gather_spelled Loadoffl count plan is = row_spelled (count * 4) (scratch plan 0) is
+gather_spelled Loadupdb count plan is = elements_spelled Loadupdb plan count (scratch plan 0) (scratch plan 1) (scratch plan 2) count
+gather_spelled Loadupib count plan is = elements_spelled Loadupib plan count (scratch plan 0) (scratch plan 1) (scratch plan 2) count
+gather_spelled Ldresnearb count plan is = elements_spelled Ldresnearb plan count (scratch plan 0) (scratch plan 1) (scratch plan 2) count
+gather_spelled Ldresnearl count plan is = elements_spelled Ldresnearl plan count (scratch plan 0) (scratch plan 1) (scratch plan 2) count
+gather_spelled Ldreslinb count plan is = elements_spelled Ldreslinb plan count (scratch plan 0) (scratch plan 1) (scratch plan 2) count
+gather_spelled Ldreslinl count plan is = elements_spelled Ldreslinl plan count (scratch plan 0) (scratch plan 1) (scratch plan 2) count
+
+allowed : (list : List Ins) → all_spelled list ≡ true → Each IsIns list → Each IsAllowed list
+allowed [] h r = r
+allowed (i ∷ list) h r = let s = both (has_spelling i) (all_spelled list) h in ((r.0, s.0), allowed list s.1 r.1)
+
+pub gather_allowed : (far : Far) (count : ℕ) (plan : FarPlan) → IsWidth (count * far_size far) → Each IsIns (gather_code far count plan) → Each IsAllowed (gather_code far count plan)
+gather_allowed far count plan is = allowed (gather_code far count plan) (gather_spelled far count plan is)

@@ -3,7 +3,7 @@
 ghost use Rattle.std.specs.Prelude.{◌≡◌, ◌<◌, ◌≤◌, ◌*◌, ◌++◌, OnOk, IfOk, true, IsTrue, length, get_or};
 ghost use Rattle.orc_ops.specs.declared.far.Far.TheVariants as loads;
 ghost use Rattle.orc_ops.specs.Far.{far_size, far_scalars, far_weight};
-ghost use Rattle.x86_ins.specs.Spelling.{IsIns};
+ghost use Rattle.x86_ins.specs.Spelling.{IsIns, IsAllowed};
 ghost use Rattle.x86_ins.specs.Way.{Each};
 ghost use Rattle.x86_flow.specs.Moves.{IsWidth};
 ghost use Rattle.orc_resample.specs.Code.{scratch, element_of, elements_code, offset_code, is_one_by_one, gather_with, gather_code};
@@ -263,7 +263,7 @@ pub fn gather(alloc: Global, far: Far, count: u8, plan: &FarPlan) -> Result<InsL
     ensures values { IfOk result (λ list. Gathers far count plan.now list) }
     ensures short { IfOk result (λ list. length list ≤ far_weight far count) }
     ensures touches { IfOk result (λ list. far_count list ≤ 2 * count) }
-    ensures ranges { IfOk result (λ list. Each IsIns list) }
+    ensures allowed { IfOk result (λ list. Each IsAllowed list) }
 {
     gather_list(alloc, far, count, plan)
 }

@@ -19,7 +19,7 @@ use x86_ins::{Addr, AluOp, Gpr, Ins, InsList, MoveOp, ShiftOp, VecImmOp, VecOp, 
 /// RSP.
 const STACK: Gpr = Gpr { number: 4 };
 /// Takes the values: XMM0.
-pub const VALUES: Xmm = Xmm { number: 0 };
+const VALUES: Xmm = Xmm { number: 0 };
 /// Takes an element: XMM1.
 const FIRST: Xmm = Xmm { number: 1 };
 /// Takes the element behind it: XMM2.
@@ -35,21 +35,21 @@ fn slot(disp: i32) -> Addr
 }
 
 /// `op dst, src`.
-pub fn alu(op: AluOp, dst: Gpr, src: Gpr) -> Ins
+fn alu(op: AluOp, dst: Gpr, src: Gpr) -> Ins
     ensures { result ≡ ins.Alu op dst src }
 {
     Ins::Alu { op, dst, src }
 }
 
 /// `op dst, count`.
-pub fn shift(op: ShiftOp, dst: Gpr, count: u8) -> Ins
+fn shift(op: ShiftOp, dst: Gpr, count: u8) -> Ins
     ensures { result ≡ ins.Shift op dst count }
 {
     Ins::Shift { op, dst, count }
 }
 
 /// `mov dst, [rsp + disp]`.
-pub fn load(dst: Gpr, disp: i32) -> Ins
+fn load(dst: Gpr, disp: i32) -> Ins
     ensures { result ≡ ins.Load dst (slot disp) }
 {
     Ins::Load {
@@ -59,7 +59,7 @@ pub fn load(dst: Gpr, disp: i32) -> Ins
 }
 
 /// `movzx dst, byte [base + by]`.
-pub fn load_byte(dst: Gpr, base: Gpr, by: usize) -> Ins
+fn load_byte(dst: Gpr, base: Gpr, by: usize) -> Ins
     requires { by < 2 ^ 31 }
     ensures { result ≡ ins.Load8 dst (away base by) }
 {
@@ -81,7 +81,7 @@ pub fn bits_of(size: usize) -> u8
 }
 
 /// The displacement of a scalar's pattern.
-pub fn scalar_at(plan: &FarPlan, j: usize) -> i32
+fn scalar_at(plan: &FarPlan, j: usize) -> i32
     requires { j < length plan.now.scalars.items }
     ensures { result ≡ scalar_at plan.now j }
 {
@@ -105,7 +105,7 @@ pub fn look_through(list: &[Ins])
 }
 
 /// Adds instructions.
-pub fn push_each(list: &mut InsList, more: &[Ins]) -> Result<(), AllocError>
+fn push_each(list: &mut InsList, more: &[Ins]) -> Result<(), AllocError>
     ensures { OnOk result (list.new ≡ list.old ++ more.now) }
 {
     for ins in more {

@@ -1,9 +1,9 @@
 use Rattle.std.proofs.Common.{◌≤◌, ◌*◌, length, subst, sym}
-use Rattle.x86_ins.specs.Spelling.{IsIns}
+use Rattle.x86_ins.specs.Spelling.{IsIns, IsAllowed}
 use Rattle.x86_ins.specs.Way.{Each}
 use Rattle.orc_ops.specs.Far.{far_weight}
 use Rattle.orc_resample.specs.Ready.{far_count, Gathers}
-use Rattle.orc_resample.proofs.Counted.{ok_map, ok_both, gather_short, gather_far}
+use Rattle.orc_resample.proofs.Counted.{ok_map, ok_both, gather_short, gather_far, gather_allowed}
 use Rattle.orc_resample.proofs.Gathered.{gathers}
 use Rattle.orc_resample.proofs.assembly.gather.Goals as goal
 
@@ -18,3 +18,7 @@ returns-clause-short c = ok_map c.gather_list.result _ _ (λ list e. subst (λ l
 
 pub returns-clause-touches : goal.returns-clause-touches
 returns-clause-touches c = ok_map c.gather_list.result _ _ (λ list e. subst (λ l. far_count l ≤ 2 * c.args.count) (sym e) (gather_far c.args.far c.args.count c.args.plan.now c.requires.width)) c.gather_list.ensures.list
+
+pub returns-clause-allowed : goal.returns-clause-allowed
+returns-clause-allowed c =
+    ok_both c.gather_list.result _ _ _ (λ list e ranges. subst (Each IsAllowed) (sym e) (gather_allowed c.args.far c.args.count c.args.plan.now c.requires.width (subst (Each IsIns) e ranges))) c.gather_list.ensures.list c.gather_list.ensures.ranges
