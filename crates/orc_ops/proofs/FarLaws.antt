@@ -5,9 +5,9 @@ use Rattle.std.specs.Int.{int_shr}
 use Rattle.std.proofs.lemmas.Nat.{and_mask}
 use Rattle.std.proofs.Math.Nat.{mul-le-mul_left, div-div-eq-div-mul}
 use Rattle.orc_bits.specs.Numbers.{wrap}
-use Rattle.orc_ops.specs.declared.far.Far.TheVariants.{Loadupib, Ldreslinb, Ldreslinl}
+use Rattle.orc_ops.specs.declared.far.Far.TheVariants.{Loadupib}
 use Rattle.orc_ops.specs.Far.{far_value, other, place, fraction, mixed, mixed_bytes}
-use Rattle.orc_ops.specs.FarLines.{byte, IsLinear, AreLines}
+use Rattle.orc_ops.specs.FarLines.{byte, AreLines}
 
 -- ---- the fraction
 
