@@ -2,6 +2,7 @@
 #![tactic(auto)]
 
 mod evaluation;
+mod far;
 mod formulas;
 mod lookup;
 mod opcode;
@@ -9,6 +10,7 @@ mod stem;
 mod target;
 
 pub use evaluation::{eval, to_of, wide_of};
+pub use far::{Far, far_lines, far_name, far_scalars, far_size};
 pub use lookup::{Found, find};
 pub use opcode::{Kind, Op, OpInfo, info, kind_of, name, results, sources, stem_of};
 pub use stem::Stem;

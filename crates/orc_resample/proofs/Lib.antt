@@ -1,0 +1,12 @@
+pub mod Appends
+pub mod Counted
+pub mod Numbers
+pub mod Twins
+pub mod Runs
+pub mod Pushes
+pub mod Bytes
+pub mod Blocks
+pub mod Singles
+pub mod Longs
+pub mod Rows
+pub mod Gathered
