@@ -52,6 +52,7 @@ fn block_list(
 {
     let mut list = InsList::new(alloc);
     push_actions(
+        alloc,
         &mut list,
         places,
         &core.sizes,
@@ -84,6 +85,7 @@ fn blocks_list(
             ..span
         };
         push_actions(
+            alloc,
             &mut list,
             places,
             &core.sizes,

@@ -139,7 +139,7 @@ module _ (f : FunctionValue) (at : List ℕ) where
   meant_from count temps [] (a ∷ rest) d is = absurd is
   meant_from count temps (insn ∷ insns) [] d is = absurd is
   meant_from count temps (insn ∷ insns) (a ∷ rest) d is =
-      ((temps ++ made_by f.vars insn, steps_from f (temps ++ made_by f.vars insn) insns), meant_one count temps insn insns a d.0 is.0, meant_from count (temps ++ made_by f.vars insn) insns rest d.1 is.1)
+      ((temps ++ made_by f.vars insn, steps_from f (temps ++ made_by f.vars insn) insns), meant_one count temps insn insns a d.0 is.0.0, meant_from count (temps ++ made_by f.vars insn) insns rest d.1 is.1)
 
 -- a function's actions do what its instructions do, from the view before the first one, in which nothing stands (`nothing_stands`)
 pub all_meant : (f : FunctionValue) → is_function f ≡ true → (at : List ℕ) → AllPlaced f at → (count : ℕ) (actions : List Action) → AreActions at count (steps_of f) actions
@@ -306,7 +306,7 @@ module _ (f : FunctionValue) (at : List ℕ) (call : Call) (n : ℕ) (base : ℕ
   known_from count live temps [] (a ∷ rest) sizes d is = absurd is
   known_from count live temps (insn ∷ insns) [] sizes d is = absurd is
   known_from count live temps (insn ∷ insns) (a ∷ rest) sizes d is =
-      (known_one count live temps insn insns a sizes d.0 is.0, known_from count (live_act live a) (temps ++ made_by f.vars insn) insns rest (sizes_on count live temps insn insns a sizes d.0 is.0) d.1 is.1)
+      (known_one count live temps insn insns a sizes d.0 is.0.0, known_from count (live_act live a) (temps ++ made_by f.vars insn) insns rest (sizes_on count live temps insn insns a sizes d.0 is.0.0) d.1 is.1)
 
   pub all_known : is_function f ≡ true → AllPlaced f at → (count : ℕ) (actions : List Action) → AreActions at count (steps_of f) actions → AllKnown n base (size_of_slot f.vars) P Of no_values actions
   unfolding steps_of
@@ -501,7 +501,7 @@ module _ (f : FunctionValue) (h : is_function f ≡ true) (at : List ℕ) (count
   movable_from temps [] [] d is = tt
   movable_from temps [] (a ∷ rest) d is = absurd is
   movable_from temps (insn ∷ insns) [] d is = absurd is
-  movable_from temps (insn ∷ insns) (a ∷ rest) d is = (movable_one temps insn insns a d.0 is.0, movable_from (temps ++ made_by f.vars insn) insns rest d.1 is.1)
+  movable_from temps (insn ∷ insns) (a ∷ rest) d is = (movable_one temps insn insns a d.0 is.0.0, movable_from (temps ++ made_by f.vars insn) insns rest d.1 is.1)
 
   fit_one : (temps : List ℕ) (insn : Insn) (rest : List Insn) (a : Action) → IsPlanned f at temps insn rest → FitsIn count insn → IsAction at count (step_at f temps insn) a → IsFit count (size_of_slot f.vars) a
   fit_one temps insn rest a d fits is =
@@ -518,7 +518,7 @@ module _ (f : FunctionValue) (h : is_function f ≡ true) (at : List ℕ) (count
   fit_from temps [] [] d fits is = tt
   fit_from temps [] (a ∷ rest) d fits is = absurd is
   fit_from temps (insn ∷ insns) [] d fits is = absurd is
-  fit_from temps (insn ∷ insns) (a ∷ rest) d fits is = (fit_one temps insn insns a d.0 fits.0 is.0, fit_from (temps ++ made_by f.vars insn) insns rest d.1 fits.1 is.1)
+  fit_from temps (insn ∷ insns) (a ∷ rest) d fits is = (fit_one temps insn insns a d.0 fits.0 is.0.0, fit_from (temps ++ made_by f.vars insn) insns rest d.1 fits.1 is.1)
 
   weight_within : (temps : List ℕ) (insn : Insn) (rest : List Insn) (a : Action) → IsPlanned f at temps insn rest → IsAction at count (step_at f temps insn) a → weight a ≤ insn_cost (spills f) f.vars insn
   weight_within temps insn rest a d is =
@@ -531,7 +531,7 @@ module _ (f : FunctionValue) (h : is_function f ≡ true) (at : List ℕ) (count
   weights_from temps [] [] d is = omega arith
   weights_from temps [] (a ∷ rest) d is = absurd is
   weights_from temps (insn ∷ insns) [] d is = absurd is
-  weights_from temps (insn ∷ insns) (a ∷ rest) d is = omega (arith, weight_within temps insn insns a d.0 is.0, weights_from (temps ++ made_by f.vars insn) insns rest d.1 is.1, sum_by-cons (insn_cost (spills f) f.vars) insn insns)
+  weights_from temps (insn ∷ insns) (a ∷ rest) d is = omega (arith, weight_within temps insn insns a d.0 is.0.0, weights_from (temps ++ made_by f.vars insn) insns rest d.1 is.1, sum_by-cons (insn_cost (spills f) f.vars) insn insns)
 
   -- ---- what is asked of a step whose code is to be given
 
@@ -559,7 +559,7 @@ module _ (f : FunctionValue) (h : is_function f ≡ true) (at : List ℕ) (count
   same_from temps [] [] d is = tt
   same_from temps [] (a ∷ rest) d is = absurd is
   same_from temps (insn ∷ insns) [] d is = absurd is
-  same_from temps (insn ∷ insns) (a ∷ rest) d is = (same_one temps insn insns a d.0 is.0, same_from (temps ++ made_by f.vars insn) insns rest d.1 is.1)
+  same_from temps (insn ∷ insns) (a ∷ rest) d is = (same_one temps insn insns a d.0 is.0.0, same_from (temps ++ made_by f.vars insn) insns rest d.1 is.1)
 
 -- ---- of a function's steps
 
