@@ -5,9 +5,11 @@ pub mod Elements
 pub mod Emulated
 pub mod Frames
 pub mod Keeping
+pub mod Named
 pub mod Names
 pub mod Places
 pub mod Sums
+pub mod Taken
 pub mod Registers
 pub mod RuleRegisters
 pub mod Touched

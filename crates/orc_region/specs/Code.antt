@@ -1,11 +1,12 @@
 -- The code of a function: the compiler's plan.
-use Rattle.std.specs.Prelude.{◌≡◌, ℕ, zero, suc, ◌+◌, ◌-◌, ◌*◌, ◌/◌, ◌<◌, ◌≤◌, ◌==◌, ◌&&◌, nat_lt, Bool, true, false, if◌then◌else◌, pos, List, [], ◌∷◌, ◌++◌, length, map, slice_index, max}
+use Rattle.std.specs.Prelude.{◌≡◌, ℕ, zero, suc, ◌+◌, ◌-◌, ◌*◌, ◌/◌, ◌<◌, ◌≤◌, ◌==◌, ◌&&◌, ◌||◌, not, nat_lt, Bool, true, false, if◌then◌else◌, pos, List, [], ◌∷◌, ◌++◌, length, map, slice_index, max}
+use Rattle.std.specs.List.{range_with_len}
 use Rattle.x86_ins.specs.declared.ins.AluOp.TheVariants.{Add, Sub}
 use Rattle.x86_ins.specs.declared.ins.Ins.{Ins}
 use Rattle.x86_ins.specs.declared.ins.Ins.TheVariants.{AluImm, Vec, VecLoad, VecStore}
 use Rattle.x86_ins.specs.declared.ins.MoveOp.TheVariants.{Movdqu}
 use Rattle.x86_ins.specs.declared.ins.VecOp.TheVariants.{Movdqa}
-use Rattle.x86_ins.specs.Renaming.{renamed}
+use Rattle.x86_ins.specs.Renaming.{renamed, renaming}
 use Rattle.x86_ins.specs.Spelling.{IsIns}
 use Rattle.x86_ins.specs.Way.{Each}
 use Rattle.orc_ops.specs.declared.opcode.Op.{Op}
@@ -60,6 +61,9 @@ pub record Action : Type 0 where
   pub sources : List Source
   -- computes the opcode in XMM0 to XMM5
   pub rule : List Ins
+  -- whether the register of its first source is taken over, and that of its second: nothing reads again what stands there
+  pub takes_first : Bool
+  pub takes_second : Bool
 
 -- the opcode has a rule for so many elements: those that a running sum takes at once, where it adds to one
 abbrev pub HasRule : ℕ → Op → Type 0
@@ -150,11 +154,16 @@ source_far_code count size far x (FromPattern j) = VecLoad Movdqu x (away 4 (pat
 source_far_code count size far x (FromPlace p) = Vec Movdqa x (place_register p) ∷ []
 source_far_code count size far x (FromSlot k) = VecLoad Movdqu x (away 4 (spill_slot k)) ∷ []
 
--- the first source goes to register x, and the second to register y
-abbrev pub sources_far_code : ℕ → (ℕ → ℕ) → (ℕ → ℕ) → ℕ → ℕ → List Source → List Ins
-sources_far_code count size far x y [] = []
-sources_far_code count size far x y (s ∷ []) = source_far_code count size far x s
-sources_far_code count size far x y (s ∷ t ∷ more) = source_far_code count size far x s ++ source_far_code count size far y t
+-- nothing brings what is taken over
+abbrev pub brought : Bool → List Ins → List Ins
+brought true code = []
+brought false code = code
+
+-- the first source goes to register x, and the second to register y, but for those that are taken over
+abbrev pub sources_far_code : Bool → Bool → ℕ → (ℕ → ℕ) → (ℕ → ℕ) → ℕ → ℕ → List Source → List Ins
+sources_far_code one two count size far x y [] = []
+sources_far_code one two count size far x y (s ∷ []) = brought one (source_far_code count size far x s)
+sources_far_code one two count size far x y (s ∷ t ∷ more) = brought one (source_far_code count size far x s) ++ brought two (source_far_code count size far y t)
 
 -- a running sum that stands in the frame goes to XMM2
 abbrev pub sum_code : List Target → List Ins
@@ -181,11 +190,40 @@ results_far_code count size far aligned (t ∷ u ∷ more) = result_far_code cou
 
 abbrev pub action_far_code : ℕ → (ℕ → ℕ) → (ℕ → ℕ) → (ℕ → Bool) → Action → List Ins
 action_far_code count size far aligned a =
-    sources_far_code count size far (first_register a.to) (second_register a.to) a.sources ++ (sum_code a.to ++ (rule_code a ++ results_far_code count size far aligned a.to))
+    sources_far_code a.takes_first a.takes_second count size far (first_register a.to) (second_register a.to) a.sources ++ (sum_code a.to ++ (rule_code a ++ results_far_code count size far aligned a.to))
+
+-- ---- the names of the vector registers, each by the register's number
+
+abbrev pub own_names : List ℕ
+own_names = map (λ r. r) (range_with_len 0 16)
+
+-- registers x and y change names
+abbrev pub exchanged : ℕ → ℕ → List ℕ → List ℕ
+exchanged x y names = map (λ r. renaming names (exchange x y r)) (range_with_len 0 16)
+
+-- a source that is taken over: its register changes names with the one that the source would go to
+abbrev pub take_names : Bool → ℕ → Source → List ℕ → List ℕ
+take_names one x (FromPlace p) names = if one then exchanged x (place_register p) names else names
+take_names one x (FromArray k) names = names
+take_names one x (FromPattern j) names = names
+take_names one x (FromSlot k) names = names
+
+abbrev pub source_names : Bool → Bool → ℕ → ℕ → List Source → List ℕ → List ℕ
+source_names one two x y [] names = names
+source_names one two x y (s ∷ []) names = take_names one x s names
+source_names one two x y (s ∷ t ∷ more) names = take_names two y t (take_names one x s names)
+
+-- the names in an action, and behind it, after these
+abbrev pub action_names : Action → List ℕ → List ℕ
+action_names a = source_names a.takes_first a.takes_second (first_register a.to) (second_register a.to) a.sources
+
+abbrev pub named_code : List ℕ → ℕ → (ℕ → ℕ) → (ℕ → ℕ) → (ℕ → Bool) → List Action → List Ins
+named_code names count size far aligned [] = []
+named_code names count size far aligned (a ∷ rest) =
+    map (renamed (renaming (action_names a names))) (action_far_code count size far aligned a) ++ named_code (action_names a names) count size far aligned rest
 
 abbrev pub actions_far_code : ℕ → (ℕ → ℕ) → (ℕ → ℕ) → (ℕ → Bool) → List Action → List Ins
-actions_far_code count size far aligned [] = []
-actions_far_code count size far aligned (a ∷ rest) = action_far_code count size far aligned a ++ actions_far_code count size far aligned rest
+actions_far_code = named_code own_names
 
 -- the same where the cells are at the pointers
 abbrev pub at_pointer : ℕ → ℕ
@@ -257,9 +295,70 @@ pub record IsAction (target : CodeTarget) (at : List ℕ) (count : ℕ) (step : 
   pub rule : IsRule count a.op a.rule
   pub few : length a.rule ≤ class_for a.op target
 
+-- ---- which registers are taken over
+
+-- a source from this place, and a result to it
+abbrev pub is_from : ℕ → Source → Bool
+is_from p (FromArray k) = false
+is_from p (FromPattern j) = false
+is_from p (FromPlace q) = q == p
+is_from p (FromSlot k) = slot_place k == p
+
+abbrev pub is_to : ℕ → Target → Bool
+is_to p (ToArray k) = false
+is_to p (ToSum g) = false
+is_to p (ToResident g) = false
+is_to p (ToPlace q) = q == p
+is_to p (ToSlot k) = slot_place k == p
+
+-- one of the first two
+abbrev pub some_from : ℕ → List Source → Bool
+some_from p [] = false
+some_from p (s ∷ []) = is_from p s
+some_from p (s ∷ t ∷ more) = is_from p s || is_from p t
+
+abbrev pub some_to : ℕ → List Target → Bool
+some_to p [] = false
+some_to p (t ∷ []) = is_to p t
+some_to p (t ∷ u ∷ more) = is_to p t || is_to p u
+
+-- of these steps none reads what stands at the place: before one does, one makes a value there
+abbrev pub is_free : List ℕ → ℕ → List Step → Bool
+is_free at p [] = true
+is_free at p (s ∷ later) = not (some_from p (map (source_of at) s.sources.items)) && (some_to p (map (target_of at) s.results.items) || is_free at p later)
+
+-- no later step reads what is in the source's register
+abbrev pub is_last : List ℕ → List Step → Source → Bool
+is_last at later (FromArray k) = false
+is_last at later (FromPattern j) = false
+is_last at later (FromPlace p) = is_free at p later
+is_last at later (FromSlot k) = false
+
+-- the other source is in this one's register
+abbrev pub is_beside : Source → Source → Bool
+is_beside (FromArray k) t = false
+is_beside (FromPattern j) t = false
+is_beside (FromPlace p) t = is_from p t
+is_beside (FromSlot k) t = false
+
+abbrev pub is_first_taken : List ℕ → List Step → List Source → Bool
+is_first_taken at later [] = false
+is_first_taken at later (s ∷ []) = is_last at later s
+is_first_taken at later (s ∷ t ∷ more) = is_last at later s && not (is_beside s t)
+
+abbrev pub is_second_taken : List ℕ → List Step → List Source → Bool
+is_second_taken at later [] = false
+is_second_taken at later (s ∷ []) = false
+is_second_taken at later (s ∷ t ∷ more) = is_last at later t && not (is_beside t s)
+
+pub record IsTaking (at : List ℕ) (later : List Step) (a : Action) : Type 0 where
+  pub first : a.takes_first ≡ is_first_taken at later a.sources
+  pub second : a.takes_second ≡ is_second_taken at later a.sources
+
+-- the actions are those of the steps
 abbrev pub AreActions : CodeTarget → List ℕ → ℕ → List Step → List Action → Type 0
 AreActions target at count [] [] = Unit {0}
-AreActions target at count (s ∷ steps) (a ∷ rest) = IsAction target at count s a × AreActions target at count steps rest
+AreActions target at count (s ∷ steps) (a ∷ rest) = (IsAction target at count s a × IsTaking at steps a) × AreActions target at count steps rest
 AreActions target at count [] (a ∷ rest) = ⊥
 AreActions target at count (s ∷ steps) [] = ⊥
 
@@ -298,13 +397,17 @@ abbrev pub AddsRule : CodeTarget → ℕ → Op → List Target → List Ins →
 AddsRule target count op to old new = (rule : List Ins) × IsRule count op rule × (length rule ≤ class_for op target) × (new ≡ old ++ map (renamed (rule_register to)) rule)
 
 -- `size` has the bytes of an element of each array slot
-abbrev pub AddsAction : List ℕ → (ℕ → ℕ) → Span → Step → List Ins → List Ins → Type 0
-AddsAction at size span step old new =
-    (a : Action) × IsAction span.target at span.count step a × (new ≡ old ++ action_far_code span.count size (far_by span.first size) (aligned_first span.aligned) a)
+abbrev pub AddsAction : List ℕ → (ℕ → ℕ) → Span → Step → Bool → Bool → List Ins → List Ins → Type 0
+AddsAction at size span step one two old new =
+    (a : Action) × IsAction span.target at span.count step a × (a.takes_first ≡ one) × (a.takes_second ≡ two) × (new ≡ old ++ action_far_code span.count size (far_by span.first size) (aligned_first span.aligned) a)
+
+-- under these names of the vector registers
+abbrev pub AddsNamed : List ℕ → List ℕ → (ℕ → ℕ) → Span → List Step → List Ins → List Ins → Type 0
+AddsNamed names at size span steps old new =
+    (actions : List Action) × AreActions span.target at span.count steps actions × (new ≡ old ++ named_code names span.count size (far_by span.first size) (aligned_first span.aligned) actions)
 
 abbrev pub AddsActions : List ℕ → (ℕ → ℕ) → Span → List Step → List Ins → List Ins → Type 0
-AddsActions at size span steps old new =
-    (actions : List Action) × AreActions span.target at span.count steps actions × (new ≡ old ++ actions_far_code span.count size (far_by span.first size) (aligned_first span.aligned) actions)
+AddsActions = AddsNamed own_names
 
 -- a block of steps with these places, by the sizes of array slots
 abbrev pub IsBlockBy : List ℕ → List ℕ → List Step → Span → List Ins → Type 0

@@ -4,9 +4,10 @@ ghost use Rattle.std.specs.Prelude.{◌≡◌, ◌≢◌, ◌<◌, ◌≤◌, �
 ghost use Rattle.x86_ins.specs.Way.{Each};
 ghost use Rattle.x86_ins.specs.Renaming.{IsPermutation, renaming};
 ghost use Rattle.orc_program.specs.Need.{registers};
-ghost use Rattle.orc_region.specs.Code.{target_of, place_register, made_in, first_register, second_register, third_register, sum_home, to_sum, exchange, InPlaces};
+ghost use Rattle.orc_region.specs.Code.{source_of, target_of, own_names, exchanged, take_names, source_names, place_register, made_in, first_register, second_register, third_register, sum_home, to_sum, exchange, InPlaces};
 
 use crate::sums::{is_resident, sum_register};
+use crate::taking::Takes;
 use orc_plan::{Item, place_of};
 use x86_ins::Xmm;
 
@@ -89,7 +90,8 @@ pub fn homes_of(at: &[u8], results: &[Item]) -> Homes
 
 /// Register `r` where registers `a` and `b` change places.
 fn exchange(a: u8, b: u8, r: u8) -> u8
-    ensures { result ≡ exchange a b r }
+    ensures is { result ≡ exchange a b r }
+    ensures below { a < 16 → b < 16 → r < 16 → result < 16 }
 {
     if r == a {
         b
@@ -121,4 +123,85 @@ pub fn names_of(homes: &Homes) -> [u8; 16]
     ensures permutation { IsPermutation result }
 {
     names(homes.first.number, homes.second.number, homes.sum.number)
+}
+
+/// The vector registers' names where each has its own.
+pub fn own_names() -> [u8; 16]
+    ensures is { result ≡ own_names }
+    ensures permutation { IsPermutation result }
+{
+    let mut names = [0; 16];
+    for r in 0..16 {
+        names[r] = r as u8;
+    }
+    names
+}
+
+/// The name of a register.
+#[tactic(auto, using(x86_ins::proofs::Permutations::entry_is))]
+fn name_of(names: &[u8; 16], register: u8) -> u8
+    requires names { IsPermutation names.now }
+    requires register { register < 16 }
+    ensures { result ≡ renaming names.now register }
+{
+    names[usize::from(register)]
+}
+
+/// The names where registers `a` and `b` change them.
+fn exchanged(a: u8, b: u8, names: &[u8; 16]) -> [u8; 16]
+    requires first { a < 16 }
+    requires second { b < 16 }
+    requires names { IsPermutation names.now }
+    ensures is { result ≡ exchanged a b names.now }
+    ensures permutation { IsPermutation result }
+{
+    let mut changed = [0; 16];
+    for r in 0..16 {
+        changed[r] = name_of(names, exchange(a, b, r as u8));
+    }
+    changed
+}
+
+/// The names where a source may be taken over: its register then changes names with the one that the source would go to.
+fn take_names(taken: bool, home: Xmm, at: &[u8], item: Item, names: &[u8; 16]) -> [u8; 16]
+    requires { IsPermutation names.now }
+    ensures is { result ≡ take_names taken home (source_of at.now item) names.now }
+    ensures permutation { IsPermutation result }
+{
+    match item {
+        Item::Value(value) => {
+            let place = place_of(at, value);
+            if place >= REGISTERS {
+                return *names;
+            }
+            if taken {
+                exchanged(home.number, place_register(place).number, names)
+            } else {
+                *names
+            }
+        }
+        Item::Array(_) | Item::Acc { .. } | Item::Pattern(_) => *names,
+    }
+}
+
+/// The names in an instruction with these sources, and behind it, after these names.
+pub fn source_names(
+    takes: Takes,
+    homes: &Homes,
+    at: &[u8],
+    sources: &[Item],
+    names: &[u8; 16],
+) -> [u8; 16]
+    requires { IsPermutation names.now }
+    ensures is { result ≡ source_names takes.first takes.second homes.now.first homes.now.second (map (source_of at.now) sources.now) names.now }
+    ensures permutation { IsPermutation result }
+{
+    match sources {
+        [] => *names,
+        [one] => take_names(takes.first, homes.first, at, *one, names),
+        [one, two, ..] => {
+            let names = take_names(takes.first, homes.first, at, *one, names);
+            take_names(takes.second, homes.second, at, *two, &names)
+        }
+    }
 }

@@ -11,6 +11,7 @@ mod loops;
 mod rules;
 mod span;
 mod sums;
+mod taking;
 mod turns;
 
 pub use lists::{COUNTER, pointer};

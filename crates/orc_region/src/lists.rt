@@ -11,16 +11,19 @@ ghost use Rattle.x86_flow.specs.Moves.{IsWidth, away, load_far_code, store_eithe
 ghost use Rattle.orc_frame.specs.Frame.{IsLayout};
 ghost use Rattle.orc_frame.specs.Layout.{pattern_slot, sum_slot, spill_slot};
 ghost use Rattle.orc_program.specs.Need.{places, registers};
-ghost use Rattle.orc_region.specs.Code.{HasRule, pointer, place_register, aligned_first, far_by, source_of, target_of, source_far_code, sources_far_code, sum_code, result_far_code, results_far_code, advance_code, first_register, second_register, third_register, AddsRule, AddsAction, AddsActions, IsMoved, IsLoaded, IsStored, IsReady};
+ghost use Rattle.orc_region.specs.Code.{HasRule, pointer, place_register, aligned_first, far_by, source_of, target_of, source_far_code, brought, sources_far_code, sum_code, result_far_code, results_far_code, advance_code, first_register, second_register, third_register, AddsRule, AddsAction, AddsNamed, AddsActions, IsMoved, IsLoaded, IsStored, IsReady};
 
-use crate::homes::{Homes, REGISTERS, SUM, homes_of, names_of, place_register};
+use crate::homes::{
+    Homes, REGISTERS, SUM, homes_of, names_of, own_names, place_register, source_names,
+};
 use crate::rules::rule_for;
 use crate::span::Span;
 use crate::sums::is_resident;
+use crate::taking::{Takes, takes_of};
 use orc_frame::{Layout, STACK, pattern_at, spill_slot_at, sum_at};
 use orc_ops::Op;
 use orc_plan::{Item, Step, place_of};
-use std::alloc::AllocError;
+use std::alloc::{AllocError, Global};
 use x86_flow::{push_aligned_store, push_load_far, push_store_far};
 use x86_ins::{Addr, AluOp, Gpr, Ins, InsList, MoveOp, VecOp, Xmm, allowed, rename};
 
@@ -157,27 +160,52 @@ fn push_source(
     }
 }
 
-/// Adds what brings sources to registers.
+/// Adds what brings a source to a register, unless it is taken over.
+fn push_brought(
+    list: &mut InsList,
+    at: &[u8],
+    sizes: &[u8; 12],
+    layout: &Layout,
+    item: Item,
+    taken: bool,
+    dst: Xmm,
+    span: Span,
+) -> Result<(), AllocError>
+    requires layout { IsLayout layout.now }
+    requires loaded { IsLoaded layout.now (slice_index sizes.now) span.count (source_of at.now item) }
+    requires near { span.first ≤ 64 }
+    ensures { OnOk result (list.new ≡ list.old ++ brought taken (source_far_code span.count (slice_index sizes.now) (far_by span.first (slice_index sizes.now)) dst (source_of at.now item))) }
+{
+    if taken {
+        Ok(())
+    } else {
+        push_source(list, at, sizes, layout, item, dst, span)
+    }
+}
+
+/// Adds what brings sources to registers, but for those that are taken over.
 fn push_sources(
     list: &mut InsList,
     at: &[u8],
     sizes: &[u8; 12],
     layout: &Layout,
     sources: &[Item],
+    takes: Takes,
     homes: &Homes,
     span: Span,
 ) -> Result<(), AllocError>
     requires layout { IsLayout layout.now }
     requires loaded { Each (IsLoaded layout.now (slice_index sizes.now) span.count) (map (source_of at.now) sources.now) }
     requires near { span.first ≤ 64 }
-    ensures { OnOk result (list.new ≡ list.old ++ sources_far_code span.count (slice_index sizes.now) (far_by span.first (slice_index sizes.now)) homes.now.first homes.now.second (map (source_of at.now) sources.now)) }
+    ensures { OnOk result (list.new ≡ list.old ++ sources_far_code takes.first takes.second span.count (slice_index sizes.now) (far_by span.first (slice_index sizes.now)) homes.now.first homes.now.second (map (source_of at.now) sources.now)) }
 {
+    let (one, two) = (takes.first, takes.second);
     match sources {
         [] => Ok(()),
-        [first] => push_source(list, at, sizes, layout, *first, homes.first, span),
+        [first] => push_brought(list, at, sizes, layout, *first, one, homes.first, span),
         [first, second, ..] => {
-            push_source(list, at, sizes, layout, *first, homes.first, span)?;
-            push_source(list, at, sizes, layout, *second, homes.second, span)
+            push_brought(list, at, sizes, layout, *first, one, homes.first, span)?;
+            push_brought(list, at, sizes, layout, *second, two, homes.second, span)
         }
     }
 }
@@ -308,19 +336,20 @@ fn push_rule(
     push_renamed(list, rule.as_slice(), &names_of(homes))
 }
 
-/// Adds what does an instruction on elements.
+/// Adds what does an instruction on elements, of whose sources some are taken over.
 fn push_action(
     list: &mut InsList,
     at: &[u8],
     sizes: &[u8; 12],
     layout: &Layout,
     step: &Step,
+    takes: Takes,
     span: Span,
 ) -> Result<(), AllocError>
     requires layout { IsLayout layout.now }
     requires ready { IsReady layout.now at.now (slice_index sizes.now) span.count step.now }
     requires near { span.first ≤ 64 }
-    ensures { OnOk result (AddsAction at.now (slice_index sizes.now) span step.now list.old list.new) }
+    ensures { OnOk result (AddsAction at.now (slice_index sizes.now) span step.now takes.first takes.second list.old list.new) }
 {
     let results = step.results.as_slice();
     let homes = homes_of(at, results);
@@ -330,6 +359,7 @@ fn push_action(
         sizes,
         layout,
         step.sources.as_slice(),
+        takes,
         &homes,
         span,
     )?;
@@ -338,8 +368,39 @@ fn push_action(
     push_results(list, at, sizes, layout, results, span)
 }
 
+/// Adds what does an instruction and those after it on elements, under these names of the vector registers.
+fn push_named(
+    alloc: Global,
+    list: &mut InsList,
+    names: &[u8; 16],
+    at: &[u8],
+    sizes: &[u8; 12],
+    layout: &Layout,
+    steps: &[Step],
+    span: Span,
+) -> Result<(), AllocError>
+    requires names { IsPermutation names.now }
+    requires layout { IsLayout layout.now }
+    requires ready { All (IsReady layout.now at.now (slice_index sizes.now) span.count) steps.now }
+    requires near { span.first ≤ 64 }
+    ensures { OnOk result (AddsNamed names.now at.now (slice_index sizes.now) span steps.now list.old list.new) }
+{
+    let [step, later @ ..] = steps else {
+        return Ok(());
+    };
+    let sources = step.sources.as_slice();
+    let takes = takes_of(at, later, sources);
+    let homes = homes_of(at, step.results.as_slice());
+    let names = source_names(takes, &homes, at, sources, names);
+    let mut own = InsList::new(alloc);
+    push_action(&mut own, at, sizes, layout, step, takes, span)?;
+    push_renamed(list, own.as_slice(), &names)?;
+    push_named(alloc, list, &names, at, sizes, layout, later, span)
+}
+
 /// Adds what does the steps on elements.
 pub fn push_actions(
+    alloc: Global,
     list: &mut InsList,
     at: &[u8],
     sizes: &[u8; 12],
@@ -352,10 +413,7 @@ pub fn push_actions(
     requires near { span.first ≤ 64 }
     ensures { OnOk result (AddsActions at.now (slice_index sizes.now) span steps.now list.old list.new) }
 {
-    for step in steps {
-        push_action(list, at, sizes, layout, step, span)?;
-    }
-    Ok(())
+    push_named(alloc, list, &own_names(), at, sizes, layout, steps, span)
 }
 
 /// Moves the pointer of a slot on by `count` elements.

@@ -55,6 +55,7 @@ fn block_list(
 {
     let mut list = InsList::new(alloc);
     push_actions(
+        alloc,
         &mut list,
         places,
         &core.sizes,
@@ -87,6 +88,7 @@ fn blocks_list(
             ..span
         };
         push_actions(
+            alloc,
             &mut list,
             places,
             &core.sizes,

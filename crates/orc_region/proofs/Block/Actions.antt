@@ -34,7 +34,7 @@ use Rattle.orc_program.specs.Meaning.{sub_lane, pack}
 use Rattle.orc_frame.specs.Layout.{pattern_slot, sum_slot, frame_size, spill_slot}
 use Rattle.orc_program.specs.Need.{registers}
 use Rattle.orc_frame.specs.Parts.{InChanged}
-use Rattle.orc_region.specs.Code.{Action, IsRule, Source, FromArray, FromPattern, FromPlace, FromSlot, Target, ToArray, ToSum, ToResident, ToPlace, ToSlot, pointer, place_register, sum_register, slot_place, made_in, first_register, second_register, third_register, sum_home, rule_register, rule_code, source_far_code, sources_far_code, sum_code, result_far_code, results_far_code, action_code, action_far_code, actions_far_code}
+use Rattle.orc_region.specs.Code.{Action, IsRule, Source, FromArray, FromPattern, FromPlace, FromSlot, Target, ToArray, ToSum, ToResident, ToPlace, ToSlot, pointer, place_register, sum_register, slot_place, made_in, first_register, second_register, third_register, sum_home, rule_register, rule_code, source_far_code, brought, sources_far_code, sum_code, result_far_code, results_far_code, action_code, action_far_code}
 use Rattle.orc_region.specs.Elements.{sum_byte}
 use Rattle.orc_region.proofs.Block.RuleRegisters.{register_0, register_1, register_one, register_place, adds_renamed, resident_register, resident_0, resident_1, resident_2, resident_grown, resident_kept, seen}
 use Rattle.orc_region.proofs.Block.Sums.{IsResident, IsFramed, SameSums, byte_register, byte_slot, byte_same, SourceWithin, TargetWithin, IsClear, clear_of}
@@ -42,7 +42,7 @@ use Rattle.orc_region.proofs.Block.Registers.{not_0}
 use Rattle.orc_region.proofs.Arithmetic.Digits.{digit, digit_small, byte_split, byte_within, byte_further}
 use Rattle.orc_region.proofs.Arithmetic.SubLanes.{lane_sub_lane, packed_bytes}
 use Rattle.orc_region.proofs.Checked.Sized.{one_shift, shift_two}
-use Rattle.orc_region.proofs.Block.Cells.{Numbers, OfDests, Local, given_by, given, adds_to, results_add, live_target, live_targets, live_act, Lanes, Others, AtElements, IsOf, IsTo, IsFrom, IsBeside, AreFrom, IsMade, AreMade, AreTo, IsKept, IsKnown, AllKnown, Separate, Low, set_local, set_target, set_results, value_of, local_act, local, adds, store_lanes, store_others}
+use Rattle.orc_region.proofs.Block.Cells.{Numbers, OfDests, Local, given_by, given, adds_to, results_add, live_target, live_targets, live_act, Lanes, Others, AtElements, IsOf, IsTo, IsFrom, IsBeside, AreFrom, IsMade, AreMade, AreTo, IsKept, IsKnown, Separate, Low, set_local, set_target, set_results, value_of, local_act, adds, store_lanes, store_others}
 use Rattle.orc_region.proofs.Block.Keeping.{line_bounded, each_front, each_back}
 use Rattle.orc_region.proofs.Block.Places.{held, held_register, held_slot, held_same, held_beside}
 use Rattle.orc_region.proofs.Block.Frames.{IsFrame, Framed, framed_same, framed_totals, framed_spilled, framed_grown, load_slot, store_slot, pattern_lane, same_sum, no_sum, adds_all, sum_both}
@@ -159,7 +159,7 @@ module _ (n : ℕ) (base size : ℕ → ℕ) (P : ℕ → Type 0) (numbers : Num
   Standing live sig c = (p : ℕ) → p ≤ numbers.last → StandsAt live sig c p
 
   -- it does so still where those bytes stay
-  still : (live : ℕ → ℕ) (sig : ℕ → Local) (c d : Core) (p : ℕ) → ((b : ℕ) → b < 16 → held rsp d p b ≡ held rsp c p b) → StandsAt live sig c p → StandsAt live sig d p
+  pub still : (live : ℕ → ℕ) (sig : ℕ → Local) (c d : Core) (p : ℕ) → ((b : ℕ) → b < 16 → held rsp d p b ≡ held rsp c p b) → StandsAt live sig c p → StandsAt live sig d p
   still live sig c d p same h q l r lr lb = same (q * live p + r) lb ∙ h q l r lr lb
 
   -- where the vector register and the frame's memory stay
@@ -224,27 +224,27 @@ module _ (n : ℕ) (base size : ℕ → ℕ) (P : ℕ → Type 0) (numbers : Num
       )
 
   -- what a source leaves in a register: its sub-lanes, or a pattern's bytes
-  abbrev InRegister : ℕ → ℕ → (ℕ → Local) → Source → List ℕ → Type 0
+  abbrev pub InRegister : ℕ → ℕ → (ℕ → Local) → Source → List ℕ → Type 0
   InRegister w prefix sig (FromArray k) x = (q : ℕ) → q < count → (p : ℕ) → p < prefix → lane w (q * prefix + p) x ≡ sub_lane (8 * w) ((sig q).cells k) p
   InRegister w prefix sig (FromPattern j) x = (b : ℕ) → b < 16 → get_or x b 0 ≡ digit (numbers.number j) (b % numbers.period j)
   InRegister w prefix sig (FromPlace k) x = (q : ℕ) → q < count → (p : ℕ) → p < prefix → lane w (q * prefix + p) x ≡ sub_lane (8 * w) ((sig q).values k) p
   InRegister w prefix sig (FromSlot k) x = (q : ℕ) → q < count → (p : ℕ) → p < prefix → lane w (q * prefix + p) x ≡ sub_lane (8 * w) ((sig q).values (slot_place k)) p
 
   -- what a source at a place is loaded from
-  abbrev IsThere : (ℕ → ℕ) → (ℕ → Local) → Core → Source → Type 0
+  abbrev pub IsThere : (ℕ → ℕ) → (ℕ → Local) → Core → Source → Type 0
   IsThere live sig c (FromArray k) = Unit {0}
   IsThere live sig c (FromPattern j) = Unit {0}
   IsThere live sig c (FromPlace p) = StandsAt live sig c p
   IsThere live sig c (FromSlot k) = StandsAt live sig c (slot_place k)
 
-  is_there : (live : ℕ → ℕ) (sig : ℕ → Local) (c : Core) (s : Source) → SourceWithin numbers.last s → Standing live sig c → IsThere live sig c s
+  pub is_there : (live : ℕ → ℕ) (sig : ℕ → Local) (c : Core) (s : Source) → SourceWithin numbers.last s → Standing live sig c → IsThere live sig c s
   is_there live sig c (FromArray k) l stand = tt
   is_there live sig c (FromPattern j) l stand = tt
   is_there live sig c (FromPlace p) l stand = stand p l
   is_there live sig c (FromSlot k) l stand = stand (slot_place k) l
 
   -- the elements of a value fit into a register
-  abbrev HasRoom : ℕ → ℕ → Source → Type 0
+  abbrev pub HasRoom : ℕ → ℕ → Source → Type 0
   HasRoom w prefix (FromArray k) = Unit {0}
   HasRoom w prefix (FromPattern j) = Unit {0}
   HasRoom w prefix (FromPlace p) = count * (w * prefix) ≤ 16
@@ -268,6 +268,13 @@ module _ (n : ℕ) (base size : ℕ → ℕ) (P : ℕ → Type 0) (numbers : Num
   -- of a value of so many bytes
   bytes_at : (live : ℕ → ℕ) (sig : ℕ → Local) (c : Core) (p s : ℕ) → live p ≡ s → StandsAt live sig c p → (q : ℕ) → q < count → (r : ℕ) → r < s → q * s + r < 16 → held rsp c p (q * s + r) ≡ Some (digit ((sig q).values p) r)
   bytes_at live sig c p s e stand q lq = subst (λ s. (r : ℕ) → r < s → q * s + r < 16 → held rsp c p (q * s + r) ≡ Some (digit ((sig q).values p) r)) e (stand q lq)
+
+  -- a register that has the bytes of a place's register has the sub-lanes of the value there
+  pub in_register : (live : ℕ → ℕ) (sig : ℕ → Local) (c : Core) (w prefix p : ℕ) (x : List ℕ) → p < registers → live p ≡ w * prefix → StandsAt live sig c p → count * (w * prefix) ≤ 16 → x ≡ c.xmm (place_register p) → InRegister w prefix sig (FromPlace p) x
+  in_register live sig c w prefix p x few size_is stand room same q lq = lane_sub_lane x w prefix q ((sig q).values p) (λ r lr.
+      let within = byte_within q count (w * prefix) r lq lr in
+      let b = q * (w * prefix) + r in
+      ap (λ v. get_or v b 0) same ∙ ap (or_else 0) (sym (held_register rsp c p b few) ∙ bytes_at live sig c p (w * prefix) size_is stand q lq r lr (omega (arith, within, room))))
 
   load_source : (i : ℕ) (s : Source) (w prefix x : ℕ) (c : Core) (live : ℕ → ℕ) (sig : ℕ → Local) (totals : ℕ → ℕ) → IsFrom n base size P numbers live w prefix s → IsMovedFrom count size s → i + count ≤ n → Points i c.gpr → c.gpr 4 ≡ rsp
       → Lanes n base size P i count c.memory sig → Framed numbers rsp c totals → IsThere live sig c s → HasRoom w prefix s → Bounded c → Stays c → (d : Core) × Line Q (source_far_code count size far x s) c d × GotFrom s w prefix x sig c d
@@ -317,6 +324,27 @@ module _ (n : ℕ) (base size : ℕ → ℕ) (P : ℕ → Type 0) (numbers : Num
         },
       )
 
+  -- a source is where it is loaded from; one that is taken over is in its register
+  abbrev pub IsAt : Bool → (ℕ → ℕ) → (ℕ → Local) → ℕ → ℕ → ℕ → Core → Source → Type 0
+  IsAt true live sig w prefix x c s = InRegister w prefix sig s (c.xmm x)
+  IsAt false live sig w prefix x c s = IsThere live sig c s
+
+  abbrev pub AreAt : Bool → Bool → Op → ℕ → (ℕ → ℕ) → (ℕ → Local) → List Target → Core → List Source → Type 0
+  AreAt one two op prefix live sig ts c [] = Unit {0}
+  AreAt one two op prefix live sig ts c (s ∷ []) = IsAt one live sig (size_of_source op 0) prefix (first_register ts) c s
+  AreAt one two op prefix live sig ts c (s ∷ t ∷ more) = IsAt one live sig (size_of_source op 0) prefix (first_register ts) c s × IsAt two live sig (size_of_source op 1) prefix (second_register ts) c t
+
+  -- it stays there where another register was loaded
+  at_still : (taken : Bool) (live : ℕ → ℕ) (sig : ℕ → Local) (w prefix y : ℕ) (c d : Core) (s : Source) (ts : List Target) → y ≢ first_register ts → IsKept n base size P numbers ts s → d.memory ≡ c.memory → ((z : ℕ) → z ≢ first_register ts → d.xmm z ≡ c.xmm z)
+      → IsAt taken live sig w prefix y c s → IsAt taken live sig w prefix y d s
+  at_still true live sig w prefix y c d s ts ne kept memory same h = subst (InRegister w prefix sig s) (sym (same y ne)) h
+  at_still false live sig w prefix y c d s ts ne kept memory same h = there_still live sig c d s ts kept memory same h
+
+  bring_source : (taken : Bool) (i : ℕ) (s : Source) (w prefix x : ℕ) (c : Core) (live : ℕ → ℕ) (sig : ℕ → Local) (totals : ℕ → ℕ) → IsFrom n base size P numbers live w prefix s → IsMovedFrom count size s → i + count ≤ n → Points i c.gpr → c.gpr 4 ≡ rsp
+      → Lanes n base size P i count c.memory sig → Framed numbers rsp c totals → IsAt taken live sig w prefix x c s → HasRoom w prefix s → Bounded c → Stays c → (d : Core) × Line Q (brought taken (source_far_code count size far x s)) c d × GotFrom s w prefix x sig c d
+  bring_source true i s w prefix x c live sig totals o wide fits at stack h framed there room bound stays = (c, refl, record { memory = refl; gpr = λ r ne. refl; others = λ y ne. refl; lanes = λ bytes. there })
+  bring_source false i s w prefix x c live sig totals o wide fits at stack h framed there room bound stays = load_source i s w prefix x c live sig totals o wide fits at stack h framed there room bound stays
+
   -- the first source of a lane
   first_value : (op : Op) (prefix : ℕ) (s : Source) (live : ℕ → ℕ) (sig : ℕ → Local) (x : List ℕ) → IsFrom n base size P numbers live (size_of_source op 0) prefix s → InRegister (size_of_source op 0) prefix sig s x
       → (q : ℕ) → q < count → (p : ℕ) → p < prefix → (q * prefix + p) * widest op + widest op ≤ 16 → (b : ℕ) → formula op (lane (size_of_source op 0) (q * prefix + p) x) b ≡ formula op (given_by numbers.number (size_of_source op 0) (sig q) s p) b
@@ -356,7 +384,7 @@ module _ (n : ℕ) (base size : ℕ → ℕ) (P : ℕ → Type 0) (numbers : Num
   abbrev Values : Op → ℕ → List Source → (ℕ → Local) → (ℕ → List ℕ) → Type 0
   Values op prefix ss sig x = (q : ℕ) → q < count → (p : ℕ) → p < prefix → results_at op (q * prefix + p) x ≡ made op (sig q) ss p
 
-  abbrev Fits : Op → ℕ → Type 0
+  abbrev pub Fits : Op → ℕ → Type 0
   Fits op prefix = (q : ℕ) → q < count → (p : ℕ) → p < prefix → (q * prefix + p) * widest op + widest op ≤ 16
 
   -- what the loads of an action's sources to registers a and b leave
@@ -368,32 +396,32 @@ module _ (n : ℕ) (base size : ℕ → ℕ) (P : ℕ → Type 0) (numbers : Num
     value : (x : ℕ → List ℕ) → x 0 ≡ d.xmm a → x 1 ≡ d.xmm b → Values op prefix ss sig x
 
   -- the elements of sources fit into a register
-  record Room (op : Op) (prefix : ℕ) : Type 0 where
-    first : count * (size_of_source op 0 * prefix) ≤ 16
-    second : is_shift (row op).kind ≡ false → count * (size_of_source op 1 * prefix) ≤ 16
+  pub record Room (op : Op) (prefix : ℕ) : Type 0 where
+    pub first : count * (size_of_source op 0 * prefix) ≤ 16
+    pub second : is_shift (row op).kind ≡ false → count * (size_of_source op 1 * prefix) ≤ 16
 
-  first_room : (op : Op) (prefix : ℕ) (s : Source) → Room op prefix → HasRoom (size_of_source op 0) prefix s
+  pub first_room : (op : Op) (prefix : ℕ) (s : Source) → Room op prefix → HasRoom (size_of_source op 0) prefix s
   first_room op prefix (FromArray k) room = tt
   first_room op prefix (FromPattern j) room = tt
   first_room op prefix (FromPlace p) room = room.first
   first_room op prefix (FromSlot k) room = room.first
 
-  second_room : (op : Op) (prefix : ℕ) (s : Source) → IsBeside n base size P numbers op s → Room op prefix → HasRoom (size_of_source op 1) prefix s
+  pub second_room : (op : Op) (prefix : ℕ) (s : Source) → IsBeside n base size P numbers op s → Room op prefix → HasRoom (size_of_source op 1) prefix s
   second_room op prefix (FromArray k) plain room = tt
   second_room op prefix (FromPattern j) plain room = tt
   second_room op prefix (FromPlace p) plain room = room.second plain
   second_room op prefix (FromSlot k) plain room = room.second plain
 
-  sources_line : (i : ℕ) (op : Op) (prefix : ℕ) (ss : List Source) (ts : List Target) (c : Core) (live : ℕ → ℕ) (sig : ℕ → Local) (totals : ℕ → ℕ) → AreFrom n base size P numbers live op prefix ss → Each (IsKept n base size P numbers ts) ss → first_register ts ≢ second_register ts → Each (SourceWithin numbers.last) ss → IsClear numbers.last ts
-      → Fits op prefix → Room op prefix → Each (IsMovedFrom count size) ss → Each IsIns (sources_far_code count size far (first_register ts) (second_register ts) ss) → i + count ≤ n
-      → Points i c.gpr → c.gpr 4 ≡ rsp → Lanes n base size P i count c.memory sig → Framed numbers rsp c totals → Standing live sig c → Bounded c → Stays c
-      → (d : Core) × Line Q (sources_far_code count size far (first_register ts) (second_register ts) ss) c d × Read op prefix ss sig (first_register ts) (second_register ts) c d
-  sources_line i op prefix [] ts c live sig totals known kept apart from clear fits room wide ins w at stack h framed stand bound stays = absurd known
-  sources_line i op prefix (s ∷ []) ts c live sig totals known kept apart from clear fits room wide ins w at stack h framed stand bound stays =
+  sources_line : (one two : Bool) (i : ℕ) (op : Op) (prefix : ℕ) (ss : List Source) (ts : List Target) (c : Core) (live : ℕ → ℕ) (sig : ℕ → Local) (totals : ℕ → ℕ) → AreFrom n base size P numbers live op prefix ss → Each (IsKept n base size P numbers ts) ss → first_register ts ≢ second_register ts → IsClear numbers.last ts
+      → Fits op prefix → Room op prefix → Each (IsMovedFrom count size) ss → Each IsIns (sources_far_code one two count size far (first_register ts) (second_register ts) ss) → i + count ≤ n
+      → Points i c.gpr → c.gpr 4 ≡ rsp → Lanes n base size P i count c.memory sig → Framed numbers rsp c totals → AreAt one two op prefix live sig ts c ss → Bounded c → Stays c
+      → (d : Core) × Line Q (sources_far_code one two count size far (first_register ts) (second_register ts) ss) c d × Read op prefix ss sig (first_register ts) (second_register ts) c d
+  sources_line one two i op prefix [] ts c live sig totals known kept apart clear fits room wide ins w at stack h framed stand bound stays = absurd known
+  sources_line one two i op prefix (s ∷ []) ts c live sig totals known kept apart clear fits room wide ins w at stack h framed stand bound stays =
       let a = first_register ts in
-      let x = load_source i s (size_of_source op 0) prefix a c live sig totals known.0 wide.0 w at stack h framed (is_there live sig c s from.0 stand) (first_room op prefix s room) bound stays in
+      let x = bring_source one i s (size_of_source op 0) prefix a c live sig totals known.0 wide.0 w at stack h framed stand (first_room op prefix s room) bound stays in
       let d = x.0 in
-      let b = line_bounded Q (source_far_code count size far a s) c d ins x.1 bound in (
+      let b = line_bounded Q (brought one (source_far_code count size far a s)) c d ins x.1 bound in (
         d,
         x.1,
         record {
@@ -406,20 +434,20 @@ module _ (n : ℕ) (base size : ℕ → ℕ) (P : ℕ → Type 0) (numbers : Num
               ∙ first_value op prefix s live sig (v 0) known.0 (subst (InRegister (size_of_source op 0) prefix sig s) (sym e0) (x.2.lanes (b.xmm a))) q l p lp (fits q l p lp) 0;
         },
       )
-  sources_line i op prefix (s ∷ t ∷ more) ts c live sig totals known kept apart from clear fits room wide ins w at stack h framed stand bound stays =
+  sources_line one two i op prefix (s ∷ t ∷ more) ts c live sig totals known kept apart clear fits room wide ins w at stack h framed stand bound stays =
       let a = first_register ts in
       let e = second_register ts in
-      let one = source_far_code count size far a s in
-      let two = source_far_code count size far e t in
-      let x = load_source i s (size_of_source op 0) prefix a c live sig totals known.0 wide.0 w at stack h framed (is_there live sig c s from.0 stand) (first_room op prefix s room) bound stays in
+      let front = brought one (source_far_code count size far a s) in
+      let back = brought two (source_far_code count size far e t) in
+      let x = bring_source one i s (size_of_source op 0) prefix a c live sig totals known.0 wide.0 w at stack h framed stand.0 (first_room op prefix s room) bound stays in
       let b = x.0 in
       let at' : Points i b.gpr = λ j hj s. (ap (λ y. y + far j) (x.2.gpr (pointer j) (not_0 j)) ∙ (at j hj s).0, (at j hj s).1) in
       let h' : Lanes n base size P i count b.memory sig = λ j hj q l r lr. ap (λ f. f (base j + (i + q) * size j + r)) x.2.memory ∙ h j hj q l r lr in
-      let there : IsThere live sig b t = there_still live sig c b t ts kept.1.0 x.2.memory (λ z ne. x.2.others z ne) (is_there live sig c t from.1.0 stand) in
-      let y = load_source i t (size_of_source op 1) prefix e b live sig totals known.1 wide.1.0 w at' (x.2.gpr 4 (λ e. omega (arith, e)) ∙ stack) h' (framed_same numbers rsp ground.frame c b totals (λ y l u. ap (λ f. f y) x.2.memory) (λ g l. x.2.others (sum_register g) (λ e. (clear g l).0 (sym e))) framed) there (second_room op prefix t known.2 room) (line_bounded Q one c b (each_front IsIns one two ins) x.1 bound) (λ u i m g. stays u i (m ∙ x.2.memory) (λ r ne. g r ne ∙ x.2.gpr r ne)) in
+      let there : IsAt two live sig (size_of_source op 1) prefix e b t = at_still two live sig (size_of_source op 1) prefix e c b t ts (λ z. apart (sym z)) kept.1.0 x.2.memory (λ z ne. x.2.others z ne) stand.1 in
+      let y = bring_source two i t (size_of_source op 1) prefix e b live sig totals known.1 wide.1.0 w at' (x.2.gpr 4 (λ e. omega (arith, e)) ∙ stack) h' (framed_same numbers rsp ground.frame c b totals (λ y l u. ap (λ f. f y) x.2.memory) (λ g l. x.2.others (sum_register g) (λ e. (clear g l).0 (sym e))) framed) there (second_room op prefix t known.2 room) (line_bounded Q front c b (each_front IsIns front back ins) x.1 bound) (λ u i m g. stays u i (m ∙ x.2.memory) (λ r ne. g r ne ∙ x.2.gpr r ne)) in
       let d = y.0 in
-      let line : Line Q (one ++ two) c d = line_append Q one two c b d x.1 y.1 in
-      let bd = line_bounded Q (one ++ two) c d ins line bound in
+      let line : Line Q (front ++ back) c d = line_append Q front back c b d x.1 y.1 in
+      let bd = line_bounded Q (front ++ back) c d ins line bound in
       let same : d.xmm a ≡ b.xmm a = y.2.others a apart in
       let first : InRegister (size_of_source op 0) prefix sig s (d.xmm a) = subst (InRegister (size_of_source op 0) prefix sig s) (sym same) (x.2.lanes (subst AreBytes same (bd.xmm a))) in (
         d,
@@ -606,7 +634,7 @@ module _ (n : ℕ) (base size : ℕ → ℕ) (P : ℕ → Type 0) (numbers : Num
   no_sum_added bytes (ToResident k) v g known = absurd known
 
   -- what a rule leaves, before its results are stored: the values at places in whose registers no result is made
-  abbrev Remains : List Target → (ℕ → ℕ) → (ℕ → Local) → Core → Type 0
+  abbrev pub Remains : List Target → (ℕ → ℕ) → (ℕ → Local) → Core → Type 0
   Remains ts live sig c = (p : ℕ) → p ≤ numbers.last → first_register ts ≢ place_register p → second_register ts ≢ place_register p → StandsAt live sig c p
 
   one_result_line : (i : ℕ) (op : Op) (prefix : ℕ) (g : ℕ → ℕ → ℕ × ℕ) (t : Target) (c : Core) (first : Memory) (live : ℕ → ℕ) (sig : ℕ → Local) (totals : ℕ → ℕ) → IsMade n base size P numbers (size_of_result op 0 * prefix) t → IsMovedTo count size t → i + count ≤ n
@@ -853,13 +881,13 @@ module _ (n : ℕ) (base size : ℕ → ℕ) (P : ℕ → Type 0) (numbers : Num
       two_finish i op prefix ss rule (ToSlot k) u more c first live sig totals known (is.meets known.1) apart (clear_of numbers.last (ToSlot k ∷ u ∷ more) within) wide.0 wide.1.0 fits w at stack h framed remains value bound o keeps
 
   -- what an action adds to the totals
-  abbrev Grown : List Action → (ℕ → Local) → (ℕ → ℕ) → ℕ → ℕ
+  abbrev pub Grown : List Action → (ℕ → Local) → (ℕ → ℕ) → ℕ → ℕ
   Grown actions sig totals g = totals g + sum_below count (λ q. adds n base size P numbers actions (sig q) g)
 
-  abbrev GrownBy : Action → (ℕ → Local) → (ℕ → ℕ) → ℕ → ℕ
+  abbrev pub GrownBy : Action → (ℕ → Local) → (ℕ → ℕ) → ℕ → ℕ
   GrownBy a sig totals g = totals g + sum_below count (λ q. results_add a.to (value_of n base size P numbers a (sig q)) g)
 
-  room_of : (a : Action) → count * a.prefix * widest a.op ≤ 16 → Room a.op a.prefix
+  pub room_of : (a : Action) → count * a.prefix * widest a.op ≤ 16 → Room a.op a.prefix
   room_of a h = record { first = within (size_of_source a.op 0) (first_width a.op); second = λ plain. within (size_of_source a.op 1) (second_width a.op plain) }
     where
       within : (w : ℕ) → w ≤ widest a.op → count * (w * a.prefix) ≤ 16
@@ -868,22 +896,22 @@ module _ (n : ℕ) (base size : ℕ → ℕ) (P : ℕ → Type 0) (numbers : Num
           let e : count * (w * a.prefix) ≡ count * a.prefix * w = omega arith in
           omega (arith, m, e, h)
 
-  action_line : (i : ℕ) (a : Action) (c : Core) (first : Memory) (live : ℕ → ℕ) (sig : ℕ → Local) (totals : ℕ → ℕ) → IsKnown n base size P numbers live a → IsFit count size a → Each IsIns (action_far_code count size far aligned a) → i + count ≤ n → Points i c.gpr → c.gpr 4 ≡ rsp
-      → Lanes n base size P i count c.memory sig → Framed numbers rsp c totals → Standing live sig c
-      → Bounded c → Rest i first c.memory → Keeps i c.gpr first → (d : Core) × Line Q (action_far_code count size far aligned a) c d × After i c d first (live_act live a) (λ q. local_act n base size P numbers a (sig q)) (GrownBy a sig totals)
-  action_line i a c first live sig totals known fit ins_a w at stack h framed stand bound o keeps =
-      let loads = sources_far_code count size far (first_register a.to) (second_register a.to) a.sources in
+  pub action_line : (i : ℕ) (a : Action) (c : Core) (first : Memory) (live less : ℕ → ℕ) (sig : ℕ → Local) (totals : ℕ → ℕ) → IsKnown n base size P numbers live a → IsFit count size a → Each IsIns (action_far_code count size far aligned a) → i + count ≤ n → Points i c.gpr → c.gpr 4 ≡ rsp
+      → Lanes n base size P i count c.memory sig → Framed numbers rsp c totals → AreAt a.takes_first a.takes_second a.op a.prefix live sig a.to c a.sources → Remains a.to less sig c
+      → Bounded c → Rest i first c.memory → Keeps i c.gpr first → (d : Core) × Line Q (action_far_code count size far aligned a) c d × After i c d first (live_act less a) (λ q. local_act n base size P numbers a (sig q)) (GrownBy a sig totals)
+  action_line i a c first live less sig totals known fit ins_a w at stack h framed there remains bound o keeps =
+      let loads = sources_far_code a.takes_first a.takes_second count size far (first_register a.to) (second_register a.to) a.sources in
       let rest = sum_code a.to ++ (rule_code a ++ results_far_code count size far aligned a.to) in
       let stays = stay i c c.gpr first (λ r ne. refl) o keeps in
       let fits : Fits a.op a.prefix = λ q l p lp. lane_fits (q * a.prefix + p) (count * a.prefix) (widest a.op) (byte_within q count a.prefix p l lp) fit.lanes in
       let clear = clear_of numbers.last a.to known.to_within in
-      let x = sources_line i a.op a.prefix a.sources a.to c live sig totals known.sources known.kept known.apart known.from_within clear fits (room_of a fit.lanes) fit.sources (each_front IsIns loads rest ins_a) w at stack h framed stand bound stays in
+      let x = sources_line a.takes_first a.takes_second i a.op a.prefix a.sources a.to c live sig totals known.sources known.kept known.apart clear fits (room_of a fit.lanes) fit.sources (each_front IsIns loads rest ins_a) w at stack h framed there bound stays in
       let e = x.0 in
       let g = x.2 in
-      let s = finish_line i a.op a.prefix a.sources a.rule a.to e first live sig totals known.to fit.rule known.apart known.to_within fit.to fits
+      let s = finish_line i a.op a.prefix a.sources a.rule a.to e first less sig totals known.to fit.rule known.apart known.to_within fit.to fits
       (each_front IsIns (sum_code a.to) (rule_code a ++ results_far_code count size far aligned a.to) (each_back IsIns loads rest ins_a)) w (λ k hk t. (ap (λ y. y + far k) (g.gpr (pointer k) (not_0 k)) ∙ (at k hk t).0, (at k hk t).1)) (g.gpr 4 (λ z. omega (arith, z)) ∙ stack)
       (λ k hk q l r lr. ap (λ f. f (base k + (i + q) * size k + r)) g.memory ∙ h k hk q l r lr) (framed_same numbers rsp ground.frame c e totals (λ y l u. ap (λ f. f y) g.memory) (λ k l. g.others (sum_register k) (λ z. (clear k l).0 (sym z)) (λ z. (clear k l).1 (sym z))) framed)
-      (λ p l nf ns. still_there live sig c e p l (g.others (place_register p) (λ z. nf (sym z)) (λ z. ns (sym z))) (λ x a u. ap (λ f. f x) g.memory) (stand p l)) g.value g.bounded
+      (λ p l nf ns. still_there less sig c e p l (g.others (place_register p) (λ z. nf (sym z)) (λ z. ns (sym z))) (λ x a u. ap (λ f. f x) g.memory) (remains p l nf ns)) g.value g.bounded
       (λ v out sums. ap (λ f. f v) g.memory ∙ o v out sums) (λ t ins gs m. keeps t ins (λ r ne. gs r ne ∙ g.gpr r ne) m) in
       let d = s.0 in
       let line : Line Q (action_far_code count size far aligned a) c d = line_append Q loads rest c e d x.1 s.1 in (
@@ -899,37 +927,11 @@ module _ (n : ℕ) (base size : ℕ → ℕ) (P : ℕ → Type 0) (numbers : Num
         },
       )
 
-  grown_on : (a : Action) (rest : List Action) (sig : ℕ → Local) (totals : ℕ → ℕ) (g : ℕ) → Grown rest (λ q. local_act n base size P numbers a (sig q)) (GrownBy a sig totals) g ≡ Grown (a ∷ rest) sig totals g
+  pub grown_on : (a : Action) (rest : List Action) (sig : ℕ → Local) (totals : ℕ → ℕ) (g : ℕ) → Grown rest (λ q. local_act n base size P numbers a (sig q)) (GrownBy a sig totals) g ≡ Grown (a ∷ rest) sig totals g
   grown_on a rest sig totals g =
       let x : ℕ → ℕ = λ q. results_add a.to (value_of n base size P numbers a (sig q)) g in
       let y : ℕ → ℕ = λ q. adds n base size P numbers rest (local_act n base size P numbers a (sig q)) g in
       (let z : totals g + sum_below count x + sum_below count y ≡ totals g + (sum_below count x + sum_below count y) = omega arith in z) ∙ ap (λ t. totals g + t) (sum_both count x y)
 
-  no_growth : (totals : ℕ → ℕ) (g : ℕ) → totals g ≡ totals g + sum_below count (λ q. 0)
+  pub no_growth : (totals : ℕ → ℕ) (g : ℕ) → totals g ≡ totals g + sum_below count (λ q. 0)
   no_growth totals g = let e = no_sum count in omega (arith, e)
-
-  -- the values at places after actions
-  abbrev pub live_after : (ℕ → ℕ) → List Action → ℕ → ℕ
-  live_after live [] = live
-  live_after live (a ∷ rest) = live_after (live_act live a) rest
-
-  -- a whole block
-  pub actions_line : (i : ℕ) (actions : List Action) (c : Core) (first : Memory) (live : ℕ → ℕ) (sig : ℕ → Local) (totals : ℕ → ℕ) → AllKnown n base size P numbers live actions → Each (IsFit count size) actions → Each (λ a. Each IsIns (action_far_code count size far aligned a)) actions → i + count ≤ n → Points i c.gpr → c.gpr 4 ≡ rsp
-      → Lanes n base size P i count c.memory sig → Framed numbers rsp c totals → Standing live sig c → Bounded c → Rest i first c.memory → Keeps i c.gpr first
-      → (d : Core) × Line Q (actions_far_code count size far aligned actions) c d × After i c d first (live_after live actions) (λ q. local n base size P numbers actions (sig q)) (Grown actions sig totals)
-  actions_line i [] c first live sig totals known fit ins_all w at stack h framed stand bound o keeps = (c, refl, record { gpr = λ r ne. refl; lanes = h; standing = stand; framed = framed_totals numbers rsp c totals (λ g. totals g + sum_below count (λ q. 0)) (no_growth totals) framed; others = o; bounded = bound })
-  actions_line i (a ∷ rest) c first live sig totals known fit ins_all w at stack h framed stand bound o keeps =
-      let x = action_line i a c first live sig totals known.0 fit.0 ins_all.0 w at stack h framed stand bound o keeps in
-      let y = actions_line i rest x.0 first (live_act live a) (λ q. local_act n base size P numbers a (sig q)) (GrownBy a sig totals) known.1 fit.1 ins_all.1 w (λ k hk s. (ap (λ y. y + far k) (x.2.gpr (pointer k) (not_0 k)) ∙ (at k hk s).0, (at k hk s).1)) (x.2.gpr 4 (λ z. omega (arith, z)) ∙ stack) x.2.lanes x.2.framed x.2.standing x.2.bounded x.2.others
-      (λ u ins g. keeps u ins (λ r ne. g r ne ∙ x.2.gpr r ne)) in (
-        y.0,
-        line_append Q (action_far_code count size far aligned a) (actions_far_code count size far aligned rest) c x.0 y.0 x.1 y.1,
-        record {
-          gpr = λ r ne. y.2.gpr r ne ∙ x.2.gpr r ne;
-          lanes = y.2.lanes;
-          standing = y.2.standing;
-          framed = framed_totals numbers rsp y.0 _ (Grown (a ∷ rest) sig totals) (grown_on a rest sig totals) y.2.framed;
-          others = y.2.others;
-          bounded = y.2.bounded;
-        },
-      )

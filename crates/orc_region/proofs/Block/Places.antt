@@ -1,10 +1,10 @@
 -- Places of values: vector registers, and past them spill slots of the frame.
-use Rattle.std.proofs.Common.{◌≡◌, ◌≢◌, ℕ, ◌+◌, ◌-◌, ◌<◌, ◌≤◌, true, false, nat_lt, if◌then◌else◌, get_or, Option, Some, sym, ap, ap₂, ◌∙◌, subst, arith, ⊎_elim}
+use Rattle.std.proofs.Common.{◌≡◌, ◌≢◌, ℕ, ◌+◌, ◌-◌, ◌<◌, ◌≤◌, ◌==◌, refl, true, false, nat_lt, if◌then◌else◌, get_or, Option, Some, sym, ap, ap₂, ◌∙◌, subst, arith, ⊎_elim}
 use Rattle.std.proofs.lemmas.Bool.{cases_lt, lt-ltb, le-ltb}
 use Rattle.x86_ins.specs.Machine.{Core}
 use Rattle.orc_program.specs.Need.{registers}
 use Rattle.orc_frame.specs.Layout.{spill_slot}
-use Rattle.orc_region.specs.Code.{Source, FromPlace, FromSlot, Target, ToPlace, ToSlot, place_register, slot_place, from_place, to_place}
+use Rattle.orc_region.specs.Code.{Source, FromPlace, FromSlot, Target, ToPlace, ToSlot, place_register, slot_place, from_place, to_place, is_from, is_to}
 
 -- ---- where a value comes from and where it goes
 
@@ -27,6 +27,13 @@ by_target T p register slot = ⊎_elim
     (λ l. subst T (sym (ap (λ b. if b then ToPlace p else ToSlot (p - registers)) (is_register p l))) (register l))
     (λ g. subst T (sym (ap (λ b. if b then ToPlace p else ToSlot (p - registers)) (is_slot p g))) (slot (p - registers) (omega (arith, g))))
     (cases_lt p registers)
+
+-- a value at a place comes from that place alone, and goes to it alone
+pub from_this : (p q : ℕ) → is_from p (from_place q) ≡ (q == p)
+from_this p q = by_source (λ s. is_from p s ≡ (q == p)) q (λ l. refl) (λ k e. ap (λ m. m == p) (sym e))
+
+pub to_this : (p q : ℕ) → is_to p (to_place q) ≡ (q == p)
+to_this p q = by_target (λ t. is_to p t ≡ (q == p)) q (λ l. refl) (λ k e. ap (λ m. m == p) (sym e))
 
 -- ---- the 16 bytes at a place; RSP is `rsp`
 
@@ -51,4 +58,14 @@ pub held_beside : (rsp : ℕ) (c d : Core) (p k b : ℕ) → p ≢ slot_place k 
 held_beside rsp c d p k b ne x m = ⊎_elim
     (λ l. held_register rsp d p b l ∙ ap (λ v. Some (get_or v b 0)) x ∙ sym (held_register rsp c p b l))
     (λ g. held_same rsp c d p b x (m (p - registers) (λ e. ne (omega (arith, e, g)))))
+    (cases_lt p registers)
+
+-- where memory stays, and the register if the place has one
+pub held_still : (rsp : ℕ) (c d : Core) (p b : ℕ) → (p < registers → d.xmm (place_register p) ≡ c.xmm (place_register p)) → d.memory ≡ c.memory → held rsp d p b ≡ held rsp c p b
+held_still rsp c d p b x m = ⊎_elim
+    (λ l. held_same rsp c d p b (x l) (ap (λ f. f (rsp + spill_slot (p - registers) + b)) m))
+    (λ g. let no = is_slot p g in
+    ap (λ t. if t then Some (get_or (d.xmm (place_register p)) b 0) else d.memory (rsp + spill_slot (p - registers) + b)) no
+    ∙ ap (λ f. f (rsp + spill_slot (p - registers) + b)) m
+    ∙ sym (ap (λ t. if t then Some (get_or (c.xmm (place_register p)) b 0) else c.memory (rsp + spill_slot (p - registers) + b)) no))
     (cases_lt p registers)

@@ -45,10 +45,10 @@ exchange_one a b x y e = go (exchanged a b x).cases (exchanged a b y).cases
     go (inr (inr u)) (inr (inr v)) = omega (arith, e, u.2, v.2)
 
 -- a third one stays
-exchange_other : (a b r : ℕ) → r ≢ a → r ≢ b → exchange a b r ≡ r
+pub exchange_other : (a b r : ℕ) → r ≢ a → r ≢ b → exchange a b r ≡ r
 exchange_other a b r ne nb = ap (λ t. if t then b else (if r == b then a else r)) (eq_false r a ne) ∙ ap (λ t. if t then a else r) (eq_false r b nb)
 
-exchange_first : (a b : ℕ) → exchange a b a ≡ b
+pub exchange_first : (a b : ℕ) → exchange a b a ≡ b
 exchange_first a b = ap (λ t. if t then b else (if a == b then a else a)) (eq_true a)
 
 exchange_itself : (a r : ℕ) → exchange a a r ≡ r

@@ -1,5 +1,5 @@
 -- Running sums that stand in registers, and those that stand in the frame.
-use Rattle.std.proofs.Common.{◌≡◌, ◌≢◌, ℕ, zero, suc, ◌+◌, ◌<◌, ◌≤◌, true, false, max, if◌then◌else◌, List, [], ◌∷◌, ◌++◌, get_or, slice_index, length, take, map, Some, sym, ap, ◌∙◌, subst, arith, le_trans, ⊎_elim}
+use Rattle.std.proofs.Common.{◌≡◌, ◌≢◌, ℕ, zero, suc, ◌+◌, ◌<◌, ◌≤◌, true, false, max, if◌then◌else◌, List, [], ◌∷◌, ◌++◌, get_or, slice_index, length, take, map, Some, refl, sym, ap, ◌∙◌, subst, arith, le_trans, ⊎_elim}
 use Rattle.std.proofs.lemmas.Bool.{cases_lt, lt-ltb, le-ltb}
 use Rattle.std.proofs.lemmas.List.{take_more}
 use Rattle.std.proofs.Math.Nat.{le-max_left, le-max_right}
@@ -9,7 +9,7 @@ use Rattle.orc_plan.specs.declared.steps.Item.{Item}
 use Rattle.orc_plan.specs.declared.steps.Item.TheVariants as item
 use Rattle.orc_program.specs.Need.{places, registers}
 use Rattle.orc_frame.specs.Layout.{sum_slot}
-use Rattle.orc_region.specs.Code.{Source, FromArray, FromPattern, FromPlace, FromSlot, Target, ToArray, ToSum, ToResident, ToPlace, ToSlot, slot_place, sum_register, first_register, second_register, last_place, is_resident, to_sum, source_of, target_of}
+use Rattle.orc_region.specs.Code.{Source, FromArray, FromPattern, FromPlace, FromSlot, Target, ToArray, ToSum, ToResident, ToPlace, ToSlot, slot_place, sum_register, first_register, second_register, last_place, is_resident, to_sum, is_to, source_of, target_of}
 use Rattle.orc_region.specs.Elements.{sum_byte}
 use Rattle.orc_region.proofs.Block.Places.{by_source, by_target}
 
@@ -33,6 +33,10 @@ by_sum T at g register slot = ⊎_elim
     (λ l. subst T (sym (ap (λ b. if b then ToResident g else ToSum g) (resident_yes (last_place at) g l))) (register l))
     (λ l. subst T (sym (ap (λ b. if b then ToResident g else ToSum g) (resident_no (last_place at) g l))) (slot l))
     (cases_lt (last_place at + g + 1) registers)
+
+-- a sum is at no place
+pub sum_elsewhere : (p : ℕ) (at : List ℕ) (g : ℕ) → is_to p (to_sum at g) ≡ false
+sum_elsewhere p at g = by_sum (λ t. is_to p t ≡ false) at g (λ l. refl) (λ l. refl)
 
 module _ (last rsp : ℕ) where
   pub byte_register : (c : Core) (g b : ℕ) → IsResident last g → sum_byte last rsp c g b ≡ Some (get_or (c.xmm (sum_register g)) b 0)

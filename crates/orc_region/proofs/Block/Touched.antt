@@ -1,8 +1,10 @@
 -- What the instructions of a block touch: slots of the frame, and cells by the pointers of their arrays.
-use Rattle.std.proofs.Common.{◌≡◌, ℕ, ◌+◌, ◌*◌, ◌-◌, ◌^◌, ◌<◌, ◌≤◌, ◌&&◌, Bool, true, false, true≢false, List, [], ◌∷◌, ◌++◌, Some, None, refl, sym, ap, ◌∙◌, subst, arith, ◌⊎◌, inl, inr}
+use Rattle.std.proofs.Common.{◌≡◌, ℕ, ◌+◌, ◌*◌, ◌-◌, ◌^◌, ◌<◌, ◌≤◌, ◌&&◌, Bool, true, false, true≢false, List, [], ◌∷◌, ◌++◌, map, Some, None, refl, sym, ap, ◌∙◌, subst, arith, ◌⊎◌, inl, inr}
 use Rattle.x86_ins.specs.declared.ins.Ins.{Ins}
 use Rattle.x86_ins.specs.declared.ins.Ins.TheVariants.{Vec, VecImm, Shuffle, VecLoad, VecStore, FromGpr, ToGpr, Move, Load, Store, Store8, Store16, Load8, Load16, MovImm, Alu, AluImm, Test, Shift, Imul, Lea, Push, Pop, Jump, JumpIf, Ret}
+use Rattle.x86_ins.specs.declared.ins.MoveOp.TheVariants as move
 use Rattle.x86_ins.specs.Machine.{Core, Touches, address, span}
+use Rattle.x86_ins.specs.Renaming.{renamed, renaming}
 use Rattle.x86_ins.specs.Vectors.{simd, is_simd, all_simd}
 use Rattle.x86_ins.specs.Way.{Each}
 use Rattle.x86_ins.proofs.Renamed.{simd_renamed}
@@ -17,10 +19,10 @@ use Rattle.orc_frame.specs.Layout.{pattern_slot, sum_slot, frame_size, spill_slo
 use Rattle.orc_ops.specs.declared.opcode.Op.{Op}
 use Rattle.orc_ops.specs.Table.{size_of_result, size_of_source}
 use Rattle.orc_region.specs.Stores.{IsMovdquStore}
-use Rattle.orc_region.specs.Code.{Action, IsRule, Source, FromArray, FromPattern, FromPlace, FromSlot, Target, ToArray, ToSum, ToResident, ToPlace, ToSlot, pointer, first_register, second_register, rule_register, rule_code, source_far_code, sources_far_code, sum_code, result_far_code, results_far_code, action_far_code, actions_far_code}
+use Rattle.orc_region.specs.Code.{Action, IsRule, Source, FromArray, FromPattern, FromPlace, FromSlot, Target, ToArray, ToSum, ToResident, ToPlace, ToSlot, pointer, first_register, second_register, rule_register, rule_code, source_far_code, brought, sources_far_code, sum_code, result_far_code, results_far_code, own_names, action_names, action_far_code, named_code, actions_far_code}
 use Rattle.orc_region.proofs.Arithmetic.Digits.{byte_split, byte_further}
 use Rattle.orc_region.proofs.Block.Cells.{Numbers, Low, IsFrom, AreFrom, IsMade, AreTo, IsKnown, AllKnown, live_act}
-use Rattle.orc_region.proofs.Sizes.Bytes.{vectors_of}
+use Rattle.orc_region.proofs.Sizes.Bytes.{vectors_of, each_brought}
 use Rattle.orc_region.proofs.Block.Actions.{IsMovedFrom, IsMovedTo, IsFit}
 
 -- ---- lines
@@ -43,6 +45,46 @@ GoesBy r d width i = (base_of i ≡ Some r) × ((u : Core) → span i u ≡ (add
 -- to no bytes
 abbrev pub GoesNowhere : Ins → Type 0
 GoesNowhere i = (base_of i ≡ None) × ((u : Core) → (span i u).1 ≡ 0)
+
+-- under other names it goes by the same register to the same bytes
+pub base_renamed : (f : ℕ → ℕ) (i : Ins) → base_of (renamed f i) ≡ base_of i
+base_renamed f (Vec op d s) = refl
+base_renamed f (VecImm op d n) = refl
+base_renamed f (Shuffle op d s n) = refl
+base_renamed f (VecLoad op d a) = refl
+base_renamed f (VecStore op s a) = refl
+base_renamed f (FromGpr wide d s) = refl
+base_renamed f (ToGpr wide d s) = refl
+base_renamed f _ = refl
+
+span_renamed : (f : ℕ → ℕ) (i : Ins) (u : Core) → span (renamed f i) u ≡ span i u
+span_renamed f (Vec op d s) u = refl
+span_renamed f (VecImm op d n) u = refl
+span_renamed f (Shuffle op d s n) u = refl
+span_renamed f (VecLoad op d a) u = refl
+span_renamed f (VecStore op s a) u = refl
+span_renamed f (FromGpr wide d s) u = refl
+span_renamed f (ToGpr wide d s) u = refl
+span_renamed f _ u = refl
+
+store_renamed : (f : ℕ → ℕ) (i : Ins) → IsMovdquStore (renamed f i) → IsMovdquStore i
+store_renamed f (VecStore move.Movdqu s a) h = h
+store_renamed f (VecStore move.Movdqa s a) h = h
+store_renamed f (VecStore move.Movq s a) h = h
+store_renamed f (VecStore move.Movd s a) h = h
+store_renamed f (Vec op d s) h = h
+store_renamed f (VecImm op d n) h = h
+store_renamed f (Shuffle op d s n) h = h
+store_renamed f (VecLoad op d a) h = h
+store_renamed f (FromGpr wide d s) h = h
+store_renamed f (ToGpr wide d s) h = h
+store_renamed f _ h = h
+
+nowhere_renamed : (f : ℕ → ℕ) (i : Ins) → GoesNowhere i → GoesNowhere (renamed f i)
+nowhere_renamed f i h = (base_renamed f i ∙ h.0, λ u. ap (λ (z : ℕ × ℕ). z.1) (span_renamed f i u) ∙ h.1 u)
+
+by_renamed : (f : ℕ → ℕ) (r d width : ℕ) (i : Ins) → GoesBy r d width i → GoesBy r d width (renamed f i)
+by_renamed f r d width i h = (base_renamed f i ∙ h.0, λ u. span_renamed f i u ∙ h.1 u)
 
 -- an instruction on vector registers alone
 simd_nowhere : (i : Ins) → is_simd (simd i) ≡ true → GoesNowhere i
@@ -159,11 +201,13 @@ module _ (n : ℕ) (base size : ℕ → ℕ) (P : ℕ → Type 0) (numbers : Num
   source_goes live w prefix x (FromPlace p) o wide = (inl ((refl, λ u. refl)), tt)
   source_goes live w prefix x (FromSlot k) o wide = (inr (inl (spill_slot k, (let l = o.0 in omega (arith, l)), (refl, λ u. refl))), tt)
 
-  sources_go : (live : ℕ → ℕ) (op : Op) (prefix x y : ℕ) (ss : List Source) → AreFrom n base size P numbers live op prefix ss → Each (IsMovedFrom count size) ss → Each Goes (sources_far_code count size far x y ss)
-  sources_go live op prefix x y [] o wide = tt
-  sources_go live op prefix x y (s ∷ []) o wide = source_goes live (size_of_source op 0) prefix x s o.0 wide.0
-  sources_go live op prefix x y (s ∷ t ∷ more) o wide =
-      each_both Goes (source_far_code count size far x s) (source_far_code count size far y t) (source_goes live (size_of_source op 0) prefix x s o.0 wide.0) (source_goes live (size_of_source op 1) prefix y t o.1 wide.1.0)
+  sources_go : (one two : Bool) (live : ℕ → ℕ) (op : Op) (prefix x y : ℕ) (ss : List Source) → AreFrom n base size P numbers live op prefix ss → Each (IsMovedFrom count size) ss → Each Goes (sources_far_code one two count size far x y ss)
+  sources_go one two live op prefix x y [] o wide = tt
+  sources_go one two live op prefix x y (s ∷ []) o wide = each_brought Goes one (source_far_code count size far x s) (source_goes live (size_of_source op 0) prefix x s o.0 wide.0)
+  sources_go one two live op prefix x y (s ∷ t ∷ more) o wide =
+      let front = source_far_code count size far x s in
+      let back = source_far_code count size far y t in
+      each_both Goes (brought one front) (brought two back) (each_brought Goes one front (source_goes live (size_of_source op 0) prefix x s o.0 wide.0)) (each_brought Goes two back (source_goes live (size_of_source op 1) prefix y t o.1 wide.1.0))
 
   result_goes : (bytes x : ℕ) (t : Target) → IsMade n base size P numbers bytes t → IsMovedTo count size t → Each Goes (result_far_code count size far aligned x t)
   result_goes bytes x (ToArray k) o wide = each_map (IsMove (pointer k) (far k) (count * size k) ((aligned k ≡ false) × (count * size k ≡ 16))) Goes to_cells (store_either_code (aligned k) (count * size k) x (pointer k) (far k)) (either_moves (aligned k) (count * size k) x (pointer k) (far k) (whole k o.of.array) wide)
@@ -203,15 +247,31 @@ module _ (n : ℕ) (base size : ℕ → ℕ) (P : ℕ → Type 0) (numbers : Num
 
   action_goes : (live : ℕ → ℕ) (a : Action) → IsKnown n base size P numbers live a → IsFit count size a → Each Goes (action_far_code count size far aligned a)
   action_goes live a known fit =
-      each_both Goes (sources_far_code count size far (first_register a.to) (second_register a.to) a.sources) (sum_code a.to ++ (rule_code a ++ results_far_code count size far aligned a.to))
-      (sources_go live a.op a.prefix (first_register a.to) (second_register a.to) a.sources known.sources fit.sources)
+      each_both Goes (sources_far_code a.takes_first a.takes_second count size far (first_register a.to) (second_register a.to) a.sources) (sum_code a.to ++ (rule_code a ++ results_far_code count size far aligned a.to))
+      (sources_go a.takes_first a.takes_second live a.op a.prefix (first_register a.to) (second_register a.to) a.sources known.sources fit.sources)
       (finish_goes a.op a.prefix (rule_code a) a.to known.to fit.to (nowhere_goes (rule_code a) (rule_nowhere count a fit.rule)))
 
+  goes_renamed : (f : ℕ → ℕ) (is : List Ins) → Each Goes is → Each Goes (map (renamed f) is)
+  goes_renamed f [] h = tt
+  goes_renamed f (i ∷ is) h = (one h.0, goes_renamed f is h.1)
+    where
+      one : Goes i → Goes (renamed f i)
+      one (inl g) = inl (nowhere_renamed f i g)
+      one (inr (inl g)) = inr (inl (g.0, g.1, by_renamed f 4 g.0 16 i g.2))
+      one (inr (inr g)) =
+          let k = g.0 in
+          inr (inr (k, record { array = g.1.array; some = g.1.some; few = g.1.few; by = by_renamed f (pointer k) (far k) (count * size k) i g.1.by; stores = λ m. g.1.stores (store_renamed f i m) }))
+
   -- a whole block
+  named_go : (names : List ℕ) (live : ℕ → ℕ) (actions : List Action) → AllKnown n base size P numbers live actions → Each (IsFit count size) actions → Each Goes (named_code names count size far aligned actions)
+  named_go names live [] known fit = tt
+  named_go names live (a ∷ rest) known fit =
+      let mine = action_names a names in
+      let own = action_far_code count size far aligned a in
+      each_both Goes (map (renamed (renaming mine)) own) (named_code mine count size far aligned rest) (goes_renamed (renaming mine) own (action_goes live a known.0 fit.0)) (named_go mine (live_act live a) rest known.1 fit.1)
+
   pub actions_go : (live : ℕ → ℕ) (actions : List Action) → AllKnown n base size P numbers live actions → Each (IsFit count size) actions → Each Goes (actions_far_code count size far aligned actions)
-  actions_go live [] known fit = tt
-  actions_go live (a ∷ rest) known fit =
-      each_both Goes (action_far_code count size far aligned a) (actions_far_code count size far aligned rest) (action_goes live a known.0 fit.0) (actions_go (live_act live a) rest known.1 fit.1)
+  actions_go = named_go own_names
 
   -- ---- what that touches in a core
 

@@ -1,6 +1,6 @@
 -- Lists that grow by one instruction, by a rule or by an action.
-use Rattle.std.proofs.Common.{◌≡◌, ℕ, suc, ◌+◌, ◌*◌, ◌<◌, ◌≤◌, Bool, true, false, pos, List, [], ◌∷◌, ◌++◌, length, map, take, get_or, slice_index, Result, Ok, Err, OnOk, refl, sym, ap, ap₂, ◌∙◌, subst, arith, append-nil, append_assoc}
-use Rattle.std.proofs.lemmas.List.{take_more}
+use Rattle.std.proofs.Common.{◌≡◌, ℕ, suc, ◌+◌, ◌-◌, ◌*◌, ◌<◌, ◌≤◌, Bool, true, false, pos, List, [], ◌∷◌, ◌++◌, length, map, take, drop, get_or, slice_index, Result, Ok, Err, OnOk, refl, sym, ap, ap₂, ◌∙◌, subst, arith, append_assoc}
+use Rattle.std.proofs.lemmas.List.{take_all}
 use Rattle.x86_ins.specs.declared.ins.AluOp.TheVariants.{Add, Sub}
 use Rattle.x86_ins.specs.declared.ins.Ins.{Ins}
 use Rattle.x86_ins.specs.declared.ins.Ins.TheVariants.{AluImm}
@@ -17,7 +17,7 @@ use Rattle.sse_acc.specs.Sums.{AddsUp}
 use Rattle.orc_plan.specs.declared.steps.Item.{Item}
 use Rattle.orc_plan.specs.declared.steps.Step.{Step}
 use Rattle.orc_region.specs.declared.span.Span.{Span}
-use Rattle.orc_region.specs.Code.{Action, Target, AreActions, AreBlocks, IsBlocksTurn, used_from, AddsRule, AddsAction, AddsActions, pointer, far_by, aligned_first, source_of, target_of, first_register, second_register, third_register, exchange, rule_register, rule_code, sources_far_code, sum_code, results_far_code, action_far_code, actions_far_code, advance_code}
+use Rattle.orc_region.specs.Code.{Action, Source, Target, AreBlocks, IsBlocksTurn, used_from, AddsRule, AddsAction, AddsNamed, is_first_taken, is_second_taken, source_names, action_names, named_code, pointer, far_by, aligned_first, source_of, target_of, first_register, second_register, third_register, exchange, rule_register, rule_code, sources_far_code, sum_code, results_far_code, action_far_code, advance_code}
 
 -- what follows from a fact of a success
 pub on_ok : {A E : Type 0} (r : Result A E) (P Q : Type 0) → (P → Q) → OnOk r P → OnOk r Q
@@ -56,31 +56,36 @@ turn_built Are count aligned b sizes inner same blocks l1 l2 l3 dests sources ar
 -- ---- rules and actions
 
 module _ (size : ℕ → ℕ) (span : Span) where
-  abbrev one_code : Action → List Ins
-  one_code = action_far_code span.count size (far_by span.first size) (aligned_first span.aligned)
-
-  abbrev all_code : List Action → List Ins
-  all_code = actions_far_code span.count size (far_by span.first size) (aligned_first span.aligned)
-
-  actions_append : (a b : List Action) → all_code (a ++ b) ≡ all_code a ++ all_code b
-  actions_append [] b = refl
-  actions_append (x ∷ a) b = ap (λ l. one_code x ++ l) (actions_append a b) ∙ sym (append_assoc (one_code x) (all_code a) (all_code b))
-
-  are_both : (at : List ℕ) (xs ys : List Step) (ps qs : List Action) → AreActions span.target at span.count xs ps → AreActions span.target at span.count ys qs → AreActions span.target at span.count (xs ++ ys) (ps ++ qs)
-  are_both at [] ys [] qs h g = g
-  are_both at [] ys (a ∷ ps) qs h g = absurd h
-  are_both at (x ∷ xs) ys [] qs h g = absurd h
-  are_both at (x ∷ xs) ys (a ∷ ps) qs h g = (h.0, are_both at xs ys ps qs h.1 g)
-
-  pub actions_more : (at : List ℕ) (steps : List Step) (k : ℕ) (step : Step) (base c d : List Ins) → k < length steps → step ≡ get_or steps k step → AddsActions at size span (take k steps) base c → AddsAction at size span step c d → AddsActions at size span (take (k + 1) steps) base d
-  actions_more at steps k step base c d l is x y =
-      let one = one_code y.0 in
-      let before = all_code x.0 in (
-        x.0 ++ y.0 ∷ [],
-        subst (λ xs. AreActions span.target at span.count xs (x.0 ++ y.0 ∷ [])) (ap (λ i. take k steps ++ i ∷ []) is ∙ sym (take_more steps k step l)) (are_both at (take k steps) (step ∷ []) x.0 (y.0 ∷ []) x.1 (y.1, tt)),
-        y.2 ∙ ap (λ b. b ++ one) x.2 ∙ append_assoc base before one
-            ∙ ap (λ b. base ++ b) (ap (λ b. before ++ b) (sym (append-nil one)) ∙ sym (actions_append x.0 (y.0 ∷ []))),
+  -- an instruction's code under its names, and that of the instructions after it
+  pub named_more : (at names mine : List ℕ) (step : Step) (later : List Step) (one two : Bool) (x y : ℕ) (sources : List Source) (results : List Target) (own base c d : List Ins) → sources ≡ map (source_of at) step.sources.items → results ≡ map (target_of at) step.results.items
+      → one ≡ is_first_taken at later sources → two ≡ is_second_taken at later sources → x ≡ first_register results → y ≡ second_register results → mine ≡ source_names one two x y sources names
+      → AddsAction at size span step one two [] own → c ≡ base ++ map (renamed (renaming mine)) own → AddsNamed mine at size span later c d → AddsNamed names at size span (step ∷ later) base d
+  named_more at names mine step later one two x y sources results own base c d es er first second ex ey is action grown rest =
+      let a = action.0 in
+      let from : a.sources ≡ sources = action.1.sources ∙ sym es in
+      let to : a.to ≡ results = action.1.to ∙ sym er in
+      let code = action_far_code span.count size (far_by span.first size) (aligned_first span.aligned) a in
+      let same : action_names a names ≡ mine =
+      ap (λ ss. source_names a.takes_first a.takes_second (first_register a.to) (second_register a.to) ss names) from
+      ∙ ap₂ (λ b t. source_names b t (first_register a.to) (second_register a.to) sources names) action.2 action.3
+      ∙ ap₂ (λ u v. source_names one two u v sources names) (ap first_register to ∙ sym ex) (ap second_register to ∙ sym ey)
+      ∙ sym is in
+      let after : List ℕ → List Ins = λ ns. named_code ns span.count size (far_by span.first size) (aligned_first span.aligned) rest.0 in (
+        a ∷ rest.0,
+        ((action.1, record { first = action.2 ∙ first ∙ ap (is_first_taken at later) (sym from); second = action.3 ∙ second ∙ ap (is_second_taken at later) (sym from) }), rest.1),
+        rest.2 ∙ ap (λ l. l ++ after mine) grown ∙ append_assoc base (map (renamed (renaming mine)) own) (after mine)
+            ∙ ap₂ (λ (l : List Ins) (ns : List ℕ). base ++ (map (renamed (renaming ns)) l ++ after ns)) action.4 (sym same),
       )
+
+  -- where the first step and those after it are read from a slice
+  pub named_slice : (at names mine : List ℕ) (steps : List Step) (step : Step) (later : List Step) (one two : Bool) (x y : ℕ) (sources results : List Item) (none own slice base c d : List Ins) → 1 ≤ length steps → step ≡ get_or steps 0 step → later ≡ take (length steps - 1) (drop 1 steps) → sources ≡ step.sources.items → results ≡ step.results.items
+      → one ≡ is_first_taken at later (map (source_of at) sources) → two ≡ is_second_taken at later (map (source_of at) sources) → x ≡ first_register (map (target_of at) results) → y ≡ second_register (map (target_of at) results) → mine ≡ source_names one two x y (map (source_of at) sources) names
+      → none ≡ [] → AddsAction at size span step one two none own → slice ≡ own → c ≡ base ++ map (renamed (renaming mine)) slice → AddsNamed mine at size span later c d → AddsNamed names at size span steps base d
+  named_slice at names mine [] step later one two x y sources results none own slice base c d some is rest es er first second ex ey named empty action same grown after = absurd (omega (arith, some))
+  named_slice at names mine (s ∷ steps) step later one two x y sources results none own slice base c d some is rest es er first second ex ey named empty action same grown after =
+      let whole : step ∷ later ≡ s ∷ steps = ap₂ (λ (a : Step) (b : List Step). a ∷ b) is (rest ∙ take_all (length (s ∷ steps) - 1) steps (omega arith)) in
+      subst (λ l. AddsNamed names at size span l base d) whole
+      (named_more at names mine step later one two x y (map (source_of at) sources) (map (target_of at) results) own base c d (ap (map (source_of at)) es) (ap (map (target_of at)) er) first second ex ey named (subst (λ l. AddsAction at size span step one two l own) empty action) (grown ∙ ap (λ l. base ++ map (renamed (renaming mine)) l) same) after)
 
   -- four lists at the end of one
   four : (base a b c d c1 c2 c3 c4 : List Ins) → c1 ≡ base ++ a → c2 ≡ c1 ++ b → c3 ≡ c2 ++ c → c4 ≡ c3 ++ d → c4 ≡ base ++ (a ++ (b ++ (c ++ d)))
@@ -88,24 +93,26 @@ module _ (size : ℕ → ℕ) (span : Span) where
       h4 ∙ ap (λ l. l ++ d) (h3 ∙ ap (λ l. l ++ c) (h2 ∙ ap (λ l. l ++ b) h1)) ∙ append_assoc ((base ++ a) ++ b) c d ∙ append_assoc (base ++ a) b (c ++ d) ∙ append_assoc base a (b ++ (c ++ d))
 
   -- sources, a sum, a rule and results make an action
-  pub action_added : (at : List ℕ) (step : Step) (x y : ℕ) (base c1 c2 c3 c4 : List Ins) → x ≡ first_register (map (target_of at) step.results.items) → y ≡ second_register (map (target_of at) step.results.items)
-      → c1 ≡ base ++ sources_far_code span.count size (far_by span.first size) x y (map (source_of at) step.sources.items) → c2 ≡ c1 ++ sum_code (map (target_of at) step.results.items) → AddsRule span.target span.count step.op (map (target_of at) step.results.items) c2 c3
-      → c4 ≡ c3 ++ results_far_code span.count size (far_by span.first size) (aligned_first span.aligned) (map (target_of at) step.results.items) → AddsAction at size span step base c4
-  action_added at step x y base c1 c2 c3 c4 ex ey p q r t =
-      let a : Action = record { op = step.op; prefix = step.prefix; to = map (target_of at) step.results.items; sources = map (source_of at) step.sources.items; rule = r.0 } in
-      let loads : c1 ≡ base ++ sources_far_code span.count size (far_by span.first size) (first_register a.to) (second_register a.to) a.sources = p ∙ ap₂ (λ x y. base ++ sources_far_code span.count size (far_by span.first size) x y a.sources) ex ey in (
+  pub action_added : (at : List ℕ) (step : Step) (one two : Bool) (x y : ℕ) (base c1 c2 c3 c4 : List Ins) → x ≡ first_register (map (target_of at) step.results.items) → y ≡ second_register (map (target_of at) step.results.items)
+      → c1 ≡ base ++ sources_far_code one two span.count size (far_by span.first size) x y (map (source_of at) step.sources.items) → c2 ≡ c1 ++ sum_code (map (target_of at) step.results.items) → AddsRule span.target span.count step.op (map (target_of at) step.results.items) c2 c3
+      → c4 ≡ c3 ++ results_far_code span.count size (far_by span.first size) (aligned_first span.aligned) (map (target_of at) step.results.items) → AddsAction at size span step one two base c4
+  action_added at step one two x y base c1 c2 c3 c4 ex ey p q r t =
+      let a : Action = record { op = step.op; prefix = step.prefix; to = map (target_of at) step.results.items; sources = map (source_of at) step.sources.items; rule = r.0; takes_first = one; takes_second = two } in
+      let loads : c1 ≡ base ++ sources_far_code one two span.count size (far_by span.first size) (first_register a.to) (second_register a.to) a.sources = p ∙ ap₂ (λ x y. base ++ sources_far_code one two span.count size (far_by span.first size) x y a.sources) ex ey in (
         a,
         record { op = refl; prefix = refl; to = refl; sources = refl; rule = r.1; few = r.2 },
-        four base (sources_far_code span.count size (far_by span.first size) (first_register a.to) (second_register a.to) a.sources) (sum_code a.to) (rule_code a) (results_far_code span.count size (far_by span.first size) (aligned_first span.aligned) a.to) c1 c2 c3 c4 loads q r.3 t,
+        refl,
+        refl,
+        four base (sources_far_code one two span.count size (far_by span.first size) (first_register a.to) (second_register a.to) a.sources) (sum_code a.to) (rule_code a) (results_far_code span.count size (far_by span.first size) (aligned_first span.aligned) a.to) c1 c2 c3 c4 loads q r.3 t,
       )
 
   -- the same where operands are read as slices
-  pub action_of_slices : (at : List ℕ) (step : Step) (rs ss : List Item) → rs ≡ step.results.items → ss ≡ step.sources.items → (x y : ℕ) (base c1 c2 c3 c4 : List Ins) → x ≡ first_register (map (target_of at) rs) → y ≡ second_register (map (target_of at) rs)
-      → c1 ≡ base ++ sources_far_code span.count size (far_by span.first size) x y (map (source_of at) ss) → c2 ≡ c1 ++ sum_code (map (target_of at) rs) → AddsRule span.target span.count step.op (map (target_of at) rs) c2 c3
-      → c4 ≡ c3 ++ results_far_code span.count size (far_by span.first size) (aligned_first span.aligned) (map (target_of at) rs) → AddsAction at size span step base c4
-  action_of_slices at step rs ss er es x y base c1 c2 c3 c4 ex ey p q r t =
+  pub action_of_slices : (at : List ℕ) (step : Step) (one two : Bool) (rs ss : List Item) → rs ≡ step.results.items → ss ≡ step.sources.items → (x y : ℕ) (base c1 c2 c3 c4 : List Ins) → x ≡ first_register (map (target_of at) rs) → y ≡ second_register (map (target_of at) rs)
+      → c1 ≡ base ++ sources_far_code one two span.count size (far_by span.first size) x y (map (source_of at) ss) → c2 ≡ c1 ++ sum_code (map (target_of at) rs) → AddsRule span.target span.count step.op (map (target_of at) rs) c2 c3
+      → c4 ≡ c3 ++ results_far_code span.count size (far_by span.first size) (aligned_first span.aligned) (map (target_of at) rs) → AddsAction at size span step one two base c4
+  action_of_slices at step one two rs ss er es x y base c1 c2 c3 c4 ex ey p q r t =
       let to : map (target_of at) rs ≡ map (target_of at) step.results.items = ap (map (target_of at)) er in
-      action_added at step x y base c1 c2 c3 c4 (ex ∙ ap first_register to) (ey ∙ ap second_register to) (p ∙ ap (λ xs. base ++ sources_far_code span.count size (far_by span.first size) x y (map (source_of at) xs)) es)
+      action_added at step one two x y base c1 c2 c3 c4 (ex ∙ ap first_register to) (ey ∙ ap second_register to) (p ∙ ap (λ xs. base ++ sources_far_code one two span.count size (far_by span.first size) x y (map (source_of at) xs)) es)
       (q ∙ ap (λ ts. c1 ++ sum_code ts) to) (subst (λ ts. AddsRule span.target span.count step.op ts c2 c3) to r) (t ∙ ap (λ ts. c3 ++ results_far_code span.count size (far_by span.first size) (aligned_first span.aligned) ts) to)
 
 -- ---- a rule under other names

@@ -24,6 +24,7 @@ use Rattle.orc_region.specs.Code.{Action, AreActions, plan_with}
 use Rattle.orc_region.proofs.Block.Cells.{Numbers, IsOf}
 use Rattle.orc_region.proofs.Block.Frames.{IsFrame}
 use Rattle.orc_region.proofs.Block.Sums.{last_below}
+use Rattle.orc_region.proofs.Block.Taken.{all_taken}
 use Rattle.orc_region.proofs.Block.Emulated.{IsCells}
 use Rattle.orc_region.proofs.Block.Elements.{Reached, reaches}
 use Rattle.orc_region.proofs.Checked.Direct.{number_of}
@@ -98,6 +99,7 @@ module _ (f : FunctionValue) (is : is_function f ≡ true) (known : Arrays f) (c
       decided = decided f known code s args back good r row;
       slots = λ k h. h;
       known = all_known f at meant args.n base Slot has known.few.dests target is stand count actions are;
+      taken = all_taken target at count (steps_of f) actions are;
       few_dests = known.few.dests;
       few_sources = known.few.sources;
       few = (arrays f known code s args back good).few;

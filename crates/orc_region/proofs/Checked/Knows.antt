@@ -141,7 +141,7 @@ module _ (f : FunctionValue) (at : List ℕ) where
   meant_from target count temps [] (a ∷ rest) d is = absurd is
   meant_from target count temps (insn ∷ insns) [] d is = absurd is
   meant_from target count temps (insn ∷ insns) (a ∷ rest) d is =
-      ((temps ++ made_by f.vars insn, steps_from f (temps ++ made_by f.vars insn) insns), meant_one count temps insn insns a d.0 is.0, meant_from target count (temps ++ made_by f.vars insn) insns rest d.1 is.1)
+      ((temps ++ made_by f.vars insn, steps_from f (temps ++ made_by f.vars insn) insns), meant_one count temps insn insns a d.0 is.0.0, meant_from target count (temps ++ made_by f.vars insn) insns rest d.1 is.1)
 
 -- a function's actions do what its instructions do, from the view before the first one, in which nothing stands (`nothing_stands`)
 pub all_meant : (target : CodeTarget) (f : FunctionValue) → is_function f ≡ true → (at : List ℕ) → AllPlaced f at → (count : ℕ) (actions : List Action) → AreActions target at count (steps_of f) actions
@@ -308,7 +308,7 @@ module _ (f : FunctionValue) (at : List ℕ) (call : Call) (n : ℕ) (base : ℕ
   known_from target count live temps [] (a ∷ rest) sizes d is = absurd is
   known_from target count live temps (insn ∷ insns) [] sizes d is = absurd is
   known_from target count live temps (insn ∷ insns) (a ∷ rest) sizes d is =
-      (known_one count live temps insn insns a sizes d.0 is.0, known_from target count (live_act live a) (temps ++ made_by f.vars insn) insns rest (sizes_on count live temps insn insns a sizes d.0 is.0) d.1 is.1)
+      (known_one count live temps insn insns a sizes d.0 is.0.0, known_from target count (live_act live a) (temps ++ made_by f.vars insn) insns rest (sizes_on count live temps insn insns a sizes d.0 is.0.0) d.1 is.1)
 
   pub all_known : (target : CodeTarget) → is_function f ≡ true → AllPlaced f at → (count : ℕ) (actions : List Action) → AreActions target at count (steps_of f) actions → AllKnown n base (size_of_slot f.vars) P Of no_values actions
   unfolding steps_of
@@ -503,7 +503,7 @@ module _ (f : FunctionValue) (h : is_function f ≡ true) (at : List ℕ) (count
   movable_from target temps [] [] d is = tt
   movable_from target temps [] (a ∷ rest) d is = absurd is
   movable_from target temps (insn ∷ insns) [] d is = absurd is
-  movable_from target temps (insn ∷ insns) (a ∷ rest) d is = (movable_one temps insn insns a d.0 is.0, movable_from target (temps ++ made_by f.vars insn) insns rest d.1 is.1)
+  movable_from target temps (insn ∷ insns) (a ∷ rest) d is = (movable_one temps insn insns a d.0 is.0.0, movable_from target (temps ++ made_by f.vars insn) insns rest d.1 is.1)
 
   fit_one : {target : CodeTarget} (temps : List ℕ) (insn : Insn) (rest : List Insn) (a : Action) → IsPlanned f at temps insn rest → FitsIn count insn → IsAction target at count (step_at f temps insn) a → IsFit count (size_of_slot f.vars) a
   fit_one temps insn rest a d fits is =
@@ -520,7 +520,7 @@ module _ (f : FunctionValue) (h : is_function f ≡ true) (at : List ℕ) (count
   fit_from target temps [] [] d fits is = tt
   fit_from target temps [] (a ∷ rest) d fits is = absurd is
   fit_from target temps (insn ∷ insns) [] d fits is = absurd is
-  fit_from target temps (insn ∷ insns) (a ∷ rest) d fits is = (fit_one temps insn insns a d.0 fits.0 is.0, fit_from target (temps ++ made_by f.vars insn) insns rest d.1 fits.1 is.1)
+  fit_from target temps (insn ∷ insns) (a ∷ rest) d fits is = (fit_one temps insn insns a d.0 fits.0 is.0.0, fit_from target (temps ++ made_by f.vars insn) insns rest d.1 fits.1 is.1)
 
   weight_within : {target : CodeTarget} (temps : List ℕ) (insn : Insn) (rest : List Insn) (a : Action) → IsPlanned f at temps insn rest → IsAction target at count (step_at f temps insn) a → weight a ≤ insn_cost target (spills f) f.vars insn
   weight_within {target} temps insn rest a d is =
@@ -533,7 +533,7 @@ module _ (f : FunctionValue) (h : is_function f ≡ true) (at : List ℕ) (count
   weights_from target temps [] [] d is = omega arith
   weights_from target temps [] (a ∷ rest) d is = absurd is
   weights_from target temps (insn ∷ insns) [] d is = absurd is
-  weights_from target temps (insn ∷ insns) (a ∷ rest) d is = omega (arith, weight_within temps insn insns a d.0 is.0, weights_from target (temps ++ made_by f.vars insn) insns rest d.1 is.1, sum_by-cons (insn_cost target (spills f) f.vars) insn insns)
+  weights_from target temps (insn ∷ insns) (a ∷ rest) d is = omega (arith, weight_within temps insn insns a d.0 is.0.0, weights_from target (temps ++ made_by f.vars insn) insns rest d.1 is.1, sum_by-cons (insn_cost target (spills f) f.vars) insn insns)
 
   -- ---- what is asked of a step whose code is to be given
 
@@ -561,7 +561,7 @@ module _ (f : FunctionValue) (h : is_function f ≡ true) (at : List ℕ) (count
   same_from target temps [] [] d is = tt
   same_from target temps [] (a ∷ rest) d is = absurd is
   same_from target temps (insn ∷ insns) [] d is = absurd is
-  same_from target temps (insn ∷ insns) (a ∷ rest) d is = (same_one temps insn insns a d.0 is.0, same_from target (temps ++ made_by f.vars insn) insns rest d.1 is.1)
+  same_from target temps (insn ∷ insns) (a ∷ rest) d is = (same_one temps insn insns a d.0 is.0.0, same_from target (temps ++ made_by f.vars insn) insns rest d.1 is.1)
 
 -- ---- of a function's steps
 

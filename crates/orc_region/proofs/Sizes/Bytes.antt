@@ -3,10 +3,10 @@ use Rattle.std.proofs.Common.{◌≡◌, ℕ, zero, suc, ◌+◌, ◌*◌, ◌^�
 use Rattle.std.proofs.Math.Nat.{mul-le-mul_right}
 use Rattle.x86_ins.specs.declared.ins.AluOp.TheVariants.{Add, Sub}
 use Rattle.x86_ins.specs.declared.ins.Ins.{Ins}
-use Rattle.x86_ins.specs.declared.ins.Ins.TheVariants.{AluImm, Vec}
+use Rattle.x86_ins.specs.declared.ins.Ins.TheVariants.{AluImm, Vec, VecImm, Shuffle, VecLoad, VecStore, FromGpr, ToGpr}
 use Rattle.x86_ins.specs.declared.ins.MoveOp.TheVariants.{Movdqu}
 use Rattle.x86_ins.specs.declared.ins.VecOp.TheVariants.{Movdqa}
-use Rattle.x86_ins.specs.Renaming.{renamed}
+use Rattle.x86_ins.specs.Renaming.{renamed, renaming, IsPermutation}
 use Rattle.x86_ins.specs.Spelling.{IsIns}
 use Rattle.x86_ins.specs.Vectors.{all_simd}
 use Rattle.x86_ins.proofs.Renamed.{simd_renamed, ins_renamed}
@@ -15,10 +15,12 @@ use Rattle.orc_ops.specs.Table.{row}
 use Rattle.sse_laws.specs.Meets.{is_sum}
 use Rattle.x86_ins.specs.Way.{Each}
 use Rattle.x86_flow.specs.Moves.{IsWidth, away, store_either_code}
-use Rattle.x86_flow.proofs.Spelled.{IsFine, fine_alu_imm, fits_up, each_both, fine_load_far, fine_store_far, fine_aligned_store, fine_vec_load, fine_vec_store}
+use Rattle.x86_flow.proofs.Spelled.{IsFine, fine_alu_imm, fits_up, each_both, fine_vec, fine_from_gpr, fine_to_gpr, fine_load_far, fine_store_far, fine_aligned_store, fine_vec_load, fine_vec_store}
 use Rattle.orc_frame.specs.Layout.{pattern_slot, sum_slot, spill_slot}
-use Rattle.orc_region.specs.Code.{Action, IsRule, Source, FromArray, FromPattern, FromPlace, FromSlot, Target, ToArray, ToSum, ToResident, ToPlace, ToSlot, Plan, pointer, place_register, made_in, sum_home, first_register, second_register, third_register, rule_register, rule_code, AreBlocks, IsBlocksTurn, far_by, source_far_code, sources_far_code, sum_code, result_far_code, results_far_code, action_far_code, actions_far_code, advance_code}
+use Rattle.orc_region.specs.Code.{Action, IsRule, Source, FromArray, FromPattern, FromPlace, FromSlot, Target, ToArray, ToSum, ToResident, ToPlace, ToSlot, Plan, pointer, place_register, made_in, sum_home, first_register, second_register, third_register, rule_register, rule_code, AreBlocks, IsBlocksTurn, far_by, source_far_code, brought, sources_far_code, sum_code, result_far_code, results_far_code, own_names, action_names, action_far_code, named_code, actions_far_code, advance_code}
+use Rattle.orc_frame.proofs.Counted.{fine_vec_imm, fine_shuffle}
 use Rattle.orc_region.proofs.Block.Keeping.{ins_of}
+use Rattle.orc_region.proofs.Block.Names.{IsSmall, own_permutes, source_permutes}
 use Rattle.orc_region.proofs.Block.RuleRegisters.{register_small}
 use Rattle.orc_region.proofs.Sizes.Cost.{from_weights, to_weights, weights}
 use Rattle.orc_region.proofs.Block.Registers.{pointer_small}
@@ -42,9 +44,29 @@ vectors_of count op rule is = go (is_sum (row op).kind) refl
     go true e = (is.adds e).vectors
     go false e = (is.meets e).vectors
 
-each_renamed : (f : ℕ → ℕ) → ((r : ℕ) → r < 16 → f r < 16) → (is : List Ins) → Each IsIns is → Each IsIns (map (renamed f) is)
+pub each_renamed : (f : ℕ → ℕ) → ((r : ℕ) → r < 16 → f r < 16) → (is : List Ins) → Each IsIns is → Each IsIns (map (renamed f) is)
 each_renamed f small [] h = tt
 each_renamed f small (i ∷ is) h = (ins_renamed f small i h.0, each_renamed f small is h.1)
+
+-- an instruction under other names
+fine_other : (f : ℕ → ℕ) → ((r : ℕ) → r < 16 → f r < 16) → (i : Ins) → IsFine i → IsFine (renamed f i)
+fine_other f small (Vec op d s) h = let g = h.allowed.0 in fine_vec op (f d) (f s) (small d g.0) (small s g.1)
+fine_other f small (VecImm op d n) h = let g = h.allowed.0 in fine_vec_imm op (f d) n (small d g.0) g.1
+fine_other f small (Shuffle op d s n) h = let g = h.allowed.0 in fine_shuffle op (f d) (f s) n (small d g.0) (small s g.1) g.2
+fine_other f small (VecLoad op d at) h = let g = h.allowed.0 in fine_vec_load op (f d) at (small d g.0) g.1.0 g.1.1
+fine_other f small (VecStore op s at) h = let g = h.allowed.0 in fine_vec_store op (f s) at (small s g.0) g.1.0 g.1.1
+fine_other f small (FromGpr wide d s) h = let g = h.allowed.0 in fine_from_gpr wide (f d) s (small d g.0) g.1
+fine_other f small (ToGpr wide d s) h = let g = h.allowed.0 in fine_to_gpr wide d (f s) g.0 (small s g.1)
+fine_other f small _ h = h
+
+fine_under : (f : ℕ → ℕ) → ((r : ℕ) → r < 16 → f r < 16) → (is : List Ins) → Each IsFine is → Each IsFine (map (renamed f) is)
+fine_under f small [] h = tt
+fine_under f small (i ∷ is) h = (fine_other f small i h.0, fine_under f small is h.1)
+
+-- a source's code, where it isn't taken over
+pub each_brought : (R : Ins → Type 0) (taken : Bool) (code : List Ins) → Each R code → Each R (brought taken code)
+each_brought R true code h = tt
+each_brought R false code h = h
 
 fine_store_either : (b : Bool) (width x r d : ℕ) → IsWidth width → x < 16 → r < 16 → d < 2 ^ 31 → Each IsFine (store_either_code b width x r d)
 fine_store_either true width x r d is g e l = fine_aligned_store x r d g e l
@@ -59,10 +81,13 @@ module _ (count : ℕ) (size far : ℕ → ℕ) (aligned : ℕ → Bool) (near :
   fine_source x (FromPlace p) l h = fine_rule (Vec Movdqa x (place_register p) ∷ []) refl ((l, omega (arith, h)), tt)
   fine_source x (FromSlot k) l h = (fine_vec_load Movdqu x (away 4 (spill_slot k)) l (omega arith) (fits_up (spill_slot k) (omega (arith, h))), tt)
 
-  fine_sources : (x y : ℕ) (ss : List Source) → x < 16 → y < 16 → Each (IsFromSlot count size) ss → Each IsFine (sources_far_code count size far x y ss)
-  fine_sources x y [] l m h = tt
-  fine_sources x y (s ∷ []) l m h = fine_source x s l h.0
-  fine_sources x y (s ∷ t ∷ more) l m h = each_both IsFine (source_far_code count size far x s) (source_far_code count size far y t) (fine_source x s l h.0) (fine_source y t m h.1.0)
+  fine_sources : (one two : Bool) (x y : ℕ) (ss : List Source) → x < 16 → y < 16 → Each (IsFromSlot count size) ss → Each IsFine (sources_far_code one two count size far x y ss)
+  fine_sources one two x y [] l m h = tt
+  fine_sources one two x y (s ∷ []) l m h = each_brought IsFine one (source_far_code count size far x s) (fine_source x s l h.0)
+  fine_sources one two x y (s ∷ t ∷ more) l m h =
+      let front = source_far_code count size far x s in
+      let back = source_far_code count size far y t in
+      each_both IsFine (brought one front) (brought two back) (each_brought IsFine one front (fine_source x s l h.0)) (each_brought IsFine two back (fine_source y t m h.1.0))
 
   fine_sum : (ts : List Target) → Each (IsToSlot count size) ts → Each IsFine (sum_code ts)
   fine_sum [] h = tt
@@ -122,13 +147,28 @@ module _ (count : ℕ) (size far : ℕ → ℕ) (aligned : ℕ → Bool) (near :
       let stores = results_far_code count size far aligned a.to in
       let x = first_register a.to in
       let y = second_register a.to in
-      each_both IsFine (sources_far_code count size far x y a.sources) (sum_code a.to ++ (rule_code a ++ stores)) (fine_sources x y a.sources (first_small a.to h.to) (second_small a.to h.to) h.sources)
+      each_both IsFine (sources_far_code a.takes_first a.takes_second count size far x y a.sources) (sum_code a.to ++ (rule_code a ++ stores)) (fine_sources a.takes_first a.takes_second x y a.sources (first_small a.to h.to) (second_small a.to h.to) h.sources)
       (each_both IsFine (sum_code a.to) (rule_code a ++ stores) (fine_sum a.to h.to)
       (each_both IsFine (rule_code a) stores (fine_renamed a h) (fine_results a.to h.to)))
 
+  small_sources : (ss : List Source) → Each (IsFromSlot count size) ss → Each IsSmall ss
+  small_sources [] h = tt
+  small_sources (FromArray k ∷ ss) h = (tt, small_sources ss h.1)
+  small_sources (FromPattern j ∷ ss) h = (tt, small_sources ss h.1)
+  small_sources (FromPlace p ∷ ss) h = (h.0, small_sources ss h.1)
+  small_sources (FromSlot k ∷ ss) h = (tt, small_sources ss h.1)
+
+  fine_named : (names : List ℕ) → IsPermutation names → (actions : List Action) → Each (IsMovable count size) actions → Each IsFine (named_code names count size far aligned actions)
+  fine_named names p [] h = tt
+  fine_named names p (a ∷ rest) h =
+      let m = h.0 in
+      let mine = action_names a names in
+      let own = action_far_code count size far aligned a in
+      let q : IsPermutation mine = source_permutes a.takes_first a.takes_second (first_register a.to) (second_register a.to) a.sources names (first_small a.to m.to) (second_small a.to m.to) (small_sources a.sources m.sources) p in
+      each_both IsFine (map (renamed (renaming mine)) own) (named_code mine count size far aligned rest) (fine_under (renaming mine) q.below own (fine_action a m)) (fine_named mine q rest h.1)
+
   pub fine_actions : (actions : List Action) → Each (IsMovable count size) actions → Each IsFine (actions_far_code count size far aligned actions)
-  fine_actions [] h = tt
-  fine_actions (a ∷ rest) h = each_both IsFine (action_far_code count size far aligned a) (actions_far_code count size far aligned rest) (fine_action a h.0) (fine_actions rest h.1)
+  fine_actions = fine_named own_names own_permutes
 
   pub ins_actions : (actions : List Action) → Each (IsMovable count size) actions → Each (λ a. Each IsIns (action_far_code count size far aligned a)) actions
   ins_actions [] h = tt

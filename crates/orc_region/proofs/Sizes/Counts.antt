@@ -1,16 +1,16 @@
 -- The instructions of the code's parts.
-use Rattle.std.proofs.Common.{◌≡◌, ℕ, zero, suc, ◌+◌, ◌*◌, ◌<◌, ◌≤◌, Bool, true, false, pos, List, [], ◌∷◌, ◌++◌, length, ap, suc-mul, refl, arith, length-append}
+use Rattle.std.proofs.Common.{◌≡◌, ℕ, zero, suc, ◌+◌, ◌*◌, ◌<◌, ◌≤◌, Bool, true, false, pos, List, [], ◌∷◌, ◌++◌, length, map, ap, suc-mul, refl, arith, length-append}
 use Rattle.std.proofs.lemmas.List.{length-map}
 use Rattle.x86_ins.specs.declared.ins.AluOp.TheVariants.{Add, Sub}
 use Rattle.x86_ins.specs.declared.ins.Ins.{Ins}
 use Rattle.x86_ins.specs.declared.ins.Ins.TheVariants.{AluImm}
-use Rattle.x86_ins.specs.Renaming.{renamed}
+use Rattle.x86_ins.specs.Renaming.{renamed, renaming}
 use Rattle.x86_ins.specs.Way.{Each}
 use Rattle.x86_flow.specs.Moves.{IsWidth, load_far_code, store_either_code}
 use Rattle.x86_flow.proofs.Moves.{each_width}
 use Rattle.orc_program.specs.Need.{registers}
 use Rattle.orc_frame.specs.Layout.{spill_slots}
-use Rattle.orc_region.specs.Code.{Action, IsRule, Source, FromArray, FromPattern, FromPlace, FromSlot, Target, ToArray, ToSum, ToResident, ToPlace, ToSlot, AreBlocks, IsBlocksTurn, pointer, far_by, first_register, second_register, rule_register, rule_code, source_far_code, sources_far_code, sum_code, result_far_code, results_far_code, action_far_code, actions_far_code, advance_code}
+use Rattle.orc_region.specs.Code.{Action, IsRule, Source, FromArray, FromPattern, FromPlace, FromSlot, Target, ToArray, ToSum, ToResident, ToPlace, ToSlot, AreBlocks, IsBlocksTurn, pointer, far_by, first_register, second_register, rule_register, rule_code, source_far_code, brought, sources_far_code, sum_code, result_far_code, results_far_code, own_names, action_names, action_far_code, named_code, actions_far_code, advance_code}
 use Rattle.orc_region.proofs.Sizes.Cost.{from_weight, from_weights, to_weight, to_weights, weight, weights}
 
 -- a slot of an array whose elements can be moved so many at once, one of the frame, or a place's register
@@ -42,6 +42,10 @@ store_count : (b : Bool) (width x r far : ℕ) → IsWidth width → length (sto
 store_count true width x r far is = omega arith
 store_count false width x r far is = each_width (λ w. length (store_either_code false w x r far) ≤ 2) (omega arith) (omega arith) (omega arith) (omega arith) (omega arith) width is
 
+brought_length : (taken : Bool) (code : List Ins) → length (brought taken code) ≤ length code
+brought_length true code = omega arith
+brought_length false code = omega arith
+
 module _ (count : ℕ) (size far : ℕ → ℕ) (aligned : ℕ → Bool) where
   source_length : (x : ℕ) (s : Source) → IsFromSlot count size s → length (source_far_code count size far x s) ≤ from_weight s
   source_length x (FromArray k) h = load_count (count * size k) x (pointer k) (far k) h.0
@@ -49,10 +53,13 @@ module _ (count : ℕ) (size far : ℕ → ℕ) (aligned : ℕ → Bool) where
   source_length x (FromPlace p) h = omega arith
   source_length x (FromSlot k) h = omega arith
 
-  sources_length : (x y : ℕ) (ss : List Source) → Each (IsFromSlot count size) ss → length (sources_far_code count size far x y ss) ≤ from_weights ss
-  sources_length x y [] h = omega arith
-  sources_length x y (s ∷ []) h = let l = source_length x s h.0 in omega (arith, l)
-  sources_length x y (s ∷ t ∷ more) h = omega (arith, source_length x s h.0, source_length y t h.1.0, length-append (source_far_code count size far x s) (source_far_code count size far y t))
+  sources_length : (one two : Bool) (x y : ℕ) (ss : List Source) → Each (IsFromSlot count size) ss → length (sources_far_code one two count size far x y ss) ≤ from_weights ss
+  sources_length one two x y [] h = omega arith
+  sources_length one two x y (s ∷ []) h = let l = source_length x s h.0 in omega (arith, l, brought_length one (source_far_code count size far x s))
+  sources_length one two x y (s ∷ t ∷ more) h =
+      let front = source_far_code count size far x s in
+      let back = source_far_code count size far y t in
+      omega (arith, source_length x s h.0, source_length y t h.1.0, brought_length one front, brought_length two back, length-append (brought one front) (brought two back))
 
   result_length : (x : ℕ) (t : Target) → IsToSlot count size t → length (sum_code (t ∷ [])) + length (result_far_code count size far aligned x t) ≤ to_weight t
   result_length x (ToArray k) h = let l = store_count (aligned k) (count * size k) x (pointer k) (far k) h.0 in omega (arith, l)
@@ -79,7 +86,7 @@ module _ (count : ℕ) (size far : ℕ → ℕ) (aligned : ℕ → Bool) where
 
   action_count : (a : Action) → IsMovable count size a → length (action_far_code count size far aligned a) ≤ weight a
   action_count a h =
-      let loads = sources_far_code count size far (first_register a.to) (second_register a.to) a.sources in
+      let loads = sources_far_code a.takes_first a.takes_second count size far (first_register a.to) (second_register a.to) a.sources in
       let stores = results_far_code count size far aligned a.to in
       omega (
         arith,
@@ -87,13 +94,19 @@ module _ (count : ℕ) (size far : ℕ → ℕ) (aligned : ℕ → Bool) where
         length-append (sum_code a.to) (rule_code a ++ stores),
         length-append (rule_code a) stores,
         length-map a.rule (renamed (rule_register a.to)),
-        sources_length (first_register a.to) (second_register a.to) a.sources h.sources,
+        sources_length a.takes_first a.takes_second (first_register a.to) (second_register a.to) a.sources h.sources,
         results_length a.to h.to,
       )
 
+  named_count : (names : List ℕ) (actions : List Action) → Each (IsMovable count size) actions → length (named_code names count size far aligned actions) ≤ weights actions
+  named_count names [] h = omega arith
+  named_count names (a ∷ rest) h =
+      let own = action_far_code count size far aligned a in
+      let f = renamed (renaming (action_names a names)) in
+      omega (arith, length-append (map f own) (named_code (action_names a names) count size far aligned rest), length-map own f, action_count a h.0, named_count (action_names a names) rest h.1)
+
   pub actions_count : (actions : List Action) → Each (IsMovable count size) actions → length (actions_far_code count size far aligned actions) ≤ weights actions
-  actions_count [] h = omega arith
-  actions_count (a ∷ rest) h = omega (arith, length-append (action_far_code count size far aligned a) (actions_far_code count size far aligned rest), action_count a h.0, actions_count rest h.1)
+  actions_count = named_count own_names
 
 advance_count : (size : ℕ → ℕ) (count first n : ℕ) → length (advance_code size count first n) ≡ n
 advance_count size count first zero = refl

@@ -17,7 +17,7 @@ use Rattle.x86_flow.proofs.Moves.{line_append}
 use Rattle.x86_flow.proofs.Touching.{touches_none}
 use Rattle.x86_flow.proofs.Plans.{line_map}
 use Rattle.orc_frame.specs.Parts.{InChanged}
-use Rattle.orc_region.specs.Code.{Plan, Action, AreBlocks, IsBlocksTurn, pointer, sum_register, far_by, action_far_code, actions_far_code, advance_code}
+use Rattle.orc_region.specs.Code.{Plan, Action, AreBlocks, IsBlocksTurn, pointer, sum_register, far_by, own_names, action_far_code, actions_far_code, advance_code}
 use Rattle.orc_region.proofs.Block.Registers.{not_0, not_1, not_4, not_7, pointer_one}
 use Rattle.sse_acc.specs.Sums.{sum_below}
 use Rattle.orc_region.proofs.Block.Cells.{Numbers, OfDests, Local, no_values, Lanes, Others, AtElements, AllKnown, Decided, Low, local, adds, elements_or_not, same_end}
@@ -25,7 +25,10 @@ use Rattle.orc_region.proofs.Block.Frames.{Framed, framed_same}
 use Rattle.orc_region.proofs.Arithmetic.Digits.{number_of, digit_of}
 use Rattle.orc_region.proofs.Block.Keeping.{line_bounded}
 use Rattle.orc_region.proofs.Row.Counters.{Tested}
-use Rattle.orc_region.proofs.Block.Actions.{IsFit, Ground, Rest, actions_line}
+use Rattle.orc_region.proofs.Block.Actions.{IsFit, Ground, Rest}
+use Rattle.orc_region.proofs.Block.Named.{named_line}
+use Rattle.orc_region.proofs.Block.Names.{own_permutes, own_name}
+use Rattle.orc_region.proofs.Block.Taken.{AllTaken}
 use Rattle.orc_region.proofs.Block.Touched.{TouchesPart, Goes, line_with, actions_go, goes_touch}
 
 -- pointers of so many slots from a first one go on, and nothing else
@@ -72,6 +75,7 @@ pub record Setting (n : ℕ) (base : ℕ → ℕ) (P : ℕ → Type 0) (numbers 
   pub decided : Decided n base p.size P
   pub slots : (k : ℕ) → P k → IsSlot p.dests p.sources k
   pub known : AllKnown n base p.size P numbers no_values p.actions
+  pub taken : AllTaken p.actions
   pub few_dests : p.dests ≤ 4
   pub few_sources : p.sources ≤ 8
   pub few : n < 2 ^ 31
@@ -193,7 +197,7 @@ module _ (n : ℕ) (base : ℕ → ℕ) (P : ℕ → Type 0) (numbers : Numbers)
                 stack = g 4 (λ x. omega (arith, x)) ∙ h.calm.stack;
                 quiet = λ a m s. o a (λ x. m (dest a x)) s ∙ h.calm.quiet a m s;
               } in
-              let b = actions_line n base p.size P numbers rsp set.ground Near far aligned count some j p.actions c c.memory no_values sig totals set.known fit ins_all w at h.calm.stack hc h.framed (λ p l q lq r lr lb. absurd (omega (arith, lr))) h.bounded (λ a m s. refl) (λ u ins g o. (calm u g o, g, o)) in
+              let b = named_line n base p.size P numbers rsp set.ground Near far aligned count some own_names j p.actions c c.memory no_values sig totals own_permutes (λ g l. own_name (sum_register g) (omega arith)) set.known set.taken fit ins_all w at h.calm.stack hc h.framed (λ p l q lq r lr lb. absurd (omega (arith, lr))) h.bounded (λ a m s. refl) (λ u ins g o. (calm u g o, g, o)) in
               let frame = set.ground.frame in
               let whole : (k : ℕ) → P k → aligned k ≡ true → count * p.size k ≡ 16 = λ k hk t. (aligns k hk t).0 in
               let goes = actions_go n base p.size P numbers frame.few_patterns frame.few_sums far aligned count whole no_values p.actions set.known fit in

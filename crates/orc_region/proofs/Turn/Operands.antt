@@ -89,7 +89,7 @@ module _ (f : FunctionValue) (at : List ℕ) where
   arrays_from target count temps [] (a ∷ rest) d is = absurd is
   arrays_from target count temps (insn ∷ insns) [] d is = absurd is
   arrays_from target count temps (insn ∷ insns) (a ∷ rest) d is =
-      omega (arith, one_action count temps insn insns a d.0 is.0, arrays_from target count (temps ++ made_by f.vars insn) insns rest d.1 is.1, sum_by-cons (array_operands f.vars) insn insns)
+      omega (arith, one_action count temps insn insns a d.0 is.0.0, arrays_from target count (temps ++ made_by f.vars insn) insns rest d.1 is.1, sum_by-cons (array_operands f.vars) insn insns)
 
 -- the actions of a function's steps
 pub arrays_few : (target : CodeTarget) (f : FunctionValue) → is_function f ≡ true → (at : List ℕ) → AllPlaced f at → (count : ℕ) (actions : List Action) → AreActions target at count (steps_of f) actions → arrays_of actions ≤ (subject_of f).operands

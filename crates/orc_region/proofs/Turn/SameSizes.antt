@@ -1,11 +1,12 @@
 -- Code by sizes that are the same for the slots that it moves is the same.
-use Rattle.std.proofs.Common.{◌≡◌, ℕ, zero, suc, ◌+◌, ◌*◌, ◌<◌, ◌≤◌, Bool, pos, List, [], ◌∷◌, ◌++◌, refl, ap₂, arith}
+use Rattle.std.proofs.Common.{◌≡◌, ℕ, zero, suc, ◌+◌, ◌*◌, ◌<◌, ◌≤◌, Bool, pos, List, [], ◌∷◌, ◌++◌, map, refl, ap, ap₂, arith}
 use Rattle.x86_ins.specs.declared.ins.AluOp.TheVariants.{Add}
 use Rattle.x86_ins.specs.declared.ins.Ins.{Ins}
 use Rattle.x86_ins.specs.declared.ins.Ins.TheVariants.{AluImm}
+use Rattle.x86_ins.specs.Renaming.{renamed, renaming}
 use Rattle.x86_ins.specs.Way.{Each}
 use Rattle.x86_flow.specs.Moves.{load_far_code, store_either_code}
-use Rattle.orc_region.specs.Code.{Action, Source, FromArray, FromPattern, FromPlace, FromSlot, Target, ToArray, ToSum, ToResident, ToPlace, ToSlot, pointer, first_register, second_register, rule_code, source_far_code, sources_far_code, sum_code, result_far_code, results_far_code, actions_far_code, advance_code}
+use Rattle.orc_region.specs.Code.{Action, Source, FromArray, FromPattern, FromPlace, FromSlot, Target, ToArray, ToSum, ToResident, ToPlace, ToSlot, pointer, first_register, second_register, rule_code, source_far_code, brought, sources_far_code, sum_code, result_far_code, results_far_code, own_names, action_names, named_code, actions_far_code, advance_code}
 
 module _ (size other : ℕ → ℕ) where
   abbrev pub SameFrom : Source → Type 0
@@ -31,10 +32,10 @@ module _ (size other : ℕ → ℕ) where
     same_source x (FromPlace p) h = refl
     same_source x (FromSlot k) h = refl
 
-    same_sources : (x y : ℕ) (ss : List Source) → Each SameFrom ss → sources_far_code count size far x y ss ≡ sources_far_code count other away x y ss
-    same_sources x y [] h = refl
-    same_sources x y (s ∷ []) h = same_source x s h.0
-    same_sources x y (s ∷ t ∷ more) h = ap₂ (λ (a b : List Ins). a ++ b) (same_source x s h.0) (same_source y t h.1.0)
+    same_sources : (one two : Bool) (x y : ℕ) (ss : List Source) → Each SameFrom ss → sources_far_code one two count size far x y ss ≡ sources_far_code one two count other away x y ss
+    same_sources one two x y [] h = refl
+    same_sources one two x y (s ∷ []) h = ap (brought one) (same_source x s h.0)
+    same_sources one two x y (s ∷ t ∷ more) h = ap₂ (λ (a b : List Ins). brought one a ++ brought two b) (same_source x s h.0) (same_source y t h.1.0)
 
     same_result : (x : ℕ) (t : Target) → SameTo t → result_far_code count size far aligned x t ≡ result_far_code count other away aligned x t
     same_result x (ToArray k) h = ap₂ (λ n d. store_either_code (aligned k) (count * n) x (pointer k) d) h (same k h)
@@ -48,11 +49,14 @@ module _ (size other : ℕ → ℕ) where
     same_results (t ∷ []) h = same_result 0 t h.0
     same_results (t ∷ u ∷ more) h = ap₂ (λ (a b : List Ins). a ++ b) (same_result 0 t h.0) (same_result 1 u h.1.0)
 
+    same_named : (names : List ℕ) (actions : List Action) → Each SameFor actions → named_code names count size far aligned actions ≡ named_code names count other away aligned actions
+    same_named names [] h = refl
+    same_named names (a ∷ rest) h = ap₂ (λ (x y : List Ins). map (renamed (renaming (action_names a names))) x ++ y)
+        (ap₂ (λ (x y : List Ins). x ++ (sum_code a.to ++ (rule_code a ++ y))) (same_sources a.takes_first a.takes_second (first_register a.to) (second_register a.to) a.sources h.0.0) (same_results a.to h.0.1))
+        (same_named (action_names a names) rest h.1)
+
     pub same_actions : (actions : List Action) → Each SameFor actions → actions_far_code count size far aligned actions ≡ actions_far_code count other away aligned actions
-    same_actions [] h = refl
-    same_actions (a ∷ rest) h = ap₂ (λ (x y : List Ins). x ++ y)
-        (ap₂ (λ (x y : List Ins). x ++ (sum_code a.to ++ (rule_code a ++ y))) (same_sources (first_register a.to) (second_register a.to) a.sources h.0.0) (same_results a.to h.0.1))
-        (same_actions rest h.1)
+    same_actions = same_named own_names
 
   pub same_advance : (by first n : ℕ) → ((k : ℕ) → first ≤ k → k < first + n → size k ≡ other k) → advance_code size by first n ≡ advance_code other by first n
   same_advance by first zero h = refl

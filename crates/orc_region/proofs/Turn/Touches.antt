@@ -1,15 +1,16 @@
 -- How many instructions of a turn go by the pointers of arrays: at most one for each operand that is an array.
-use Rattle.std.proofs.Common.{◌≡◌, ℕ, zero, suc, ◌+◌, ◌*◌, ◌≤◌, Bool, true, false, if◌then◌else◌, suc-mul, pos, List, [], ◌∷◌, ◌++◌, refl, ap, arith}
+use Rattle.std.proofs.Common.{◌≡◌, ℕ, zero, suc, ◌+◌, ◌*◌, ◌≤◌, Bool, true, false, if◌then◌else◌, suc-mul, pos, List, [], ◌∷◌, ◌++◌, map, refl, ap, arith}
 use Rattle.x86_ins.specs.declared.ins.AluOp.TheVariants.{Add, Sub}
 use Rattle.x86_ins.specs.declared.ins.Ins.{Ins}
 use Rattle.x86_ins.specs.declared.ins.Ins.TheVariants.{AluImm}
+use Rattle.x86_ins.specs.Renaming.{renamed, renaming}
 use Rattle.x86_ins.specs.Way.{Each}
 use Rattle.x86_flow.specs.Moves.{IsWidth, store_either_code}
 use Rattle.x86_flow.specs.Touching.{weight_by, touch_weight}
 use Rattle.x86_flow.proofs.Plans.{weigh, weigh_append}
 use Rattle.x86_flow.proofs.Moves.{load_weight, store_weight, aligned_store_weight}
-use Rattle.orc_region.specs.Code.{Action, IsRule, Source, FromArray, FromPattern, FromPlace, FromSlot, Target, ToArray, ToSum, ToResident, ToPlace, ToSlot, AreBlocks, IsBlocksTurn, pointer, far_by, first_register, second_register, rule_code, source_far_code, sources_far_code, sum_code, result_far_code, results_far_code, action_far_code, actions_far_code, advance_code}
-use Rattle.orc_region.proofs.Block.Touched.{GoesNowhere, rule_nowhere}
+use Rattle.orc_region.specs.Code.{Action, IsRule, Source, FromArray, FromPattern, FromPlace, FromSlot, Target, ToArray, ToSum, ToResident, ToPlace, ToSlot, AreBlocks, IsBlocksTurn, pointer, far_by, first_register, second_register, rule_code, source_far_code, brought, sources_far_code, sum_code, result_far_code, results_far_code, own_names, action_names, action_far_code, named_code, actions_far_code, advance_code}
+use Rattle.orc_region.proofs.Block.Touched.{GoesNowhere, rule_nowhere, base_renamed}
 use Rattle.orc_region.proofs.Block.Actions.{IsMovedFrom, IsMovedTo, IsFit}
 
 -- ---- operands that are arrays
@@ -74,13 +75,19 @@ module _ (by : ℕ → Bool) (by_stack : by 4 ≡ false) where
     from_few x (FromPlace p) h = omega arith
     from_few x (FromSlot k) h = omega (arith, none_4)
 
-    sources_few : (x y : ℕ) (ss : List Source) → Each (IsMovedFrom count size) ss → weigh v (sources_far_code count size far x y ss) ≤ from_arrays ss
-    sources_few x y [] h = omega arith
-    sources_few x y (s ∷ []) h = from_few x s h.0
-    sources_few x y (s ∷ t ∷ more) h =
+    brought_few : (taken : Bool) (code : List Ins) → weigh v (brought taken code) ≤ weigh v code
+    brought_few true code = omega arith
+    brought_few false code = omega arith
+
+    sources_few : (one two : Bool) (x y : ℕ) (ss : List Source) → Each (IsMovedFrom count size) ss → weigh v (sources_far_code one two count size far x y ss) ≤ from_arrays ss
+    sources_few one two x y [] h = omega arith
+    sources_few one two x y (s ∷ []) h = let a = from_few x s h.0 in omega (arith, a, brought_few one (source_far_code count size far x s))
+    sources_few one two x y (s ∷ t ∷ more) h =
+        let front = source_far_code count size far x s in
+        let back = source_far_code count size far y t in
         let a = from_few x s h.0 in
         let b = from_few y t h.1.0 in
-        omega (arith, a, b, from_front s (t ∷ more), from_front t more, weigh_append v (source_far_code count size far x s) (source_far_code count size far y t))
+        omega (arith, a, b, brought_few one front, brought_few two back, from_front s (t ∷ more), from_front t more, weigh_append v (brought one front) (brought two back))
 
     either_few : (b : Bool) (width x r d : ℕ) → IsWidth width → weigh v (store_either_code b width x r d) ≤ 1
     either_few false width x r d is = store_weight by width x r d is
@@ -111,22 +118,34 @@ module _ (by : ℕ → Bool) (by_stack : by 4 ≡ false) where
 
     action_few : (a : Action) → IsFit count size a → weigh v (action_far_code count size far aligned a) ≤ from_arrays a.sources + to_arrays a.to
     action_few a h =
-        let loads = sources_far_code count size far (first_register a.to) (second_register a.to) a.sources in
+        let loads = sources_far_code a.takes_first a.takes_second count size far (first_register a.to) (second_register a.to) a.sources in
         let stores = results_far_code count size far aligned a.to in
         omega (
           arith,
           weigh_append v loads (sum_code a.to ++ (rule_code a ++ stores)),
           weigh_append v (sum_code a.to) (rule_code a ++ stores),
           weigh_append v (rule_code a) stores,
-          sources_few (first_register a.to) (second_register a.to) a.sources h.sources,
+          sources_few a.takes_first a.takes_second (first_register a.to) (second_register a.to) a.sources h.sources,
           sum_free a.to,
           rule_free count a h.rule,
           results_few a.to h.to,
         )
 
+    weigh_renamed : (f : ℕ → ℕ) (is : List Ins) → weigh v (map (renamed f) is) ≡ weigh v is
+    weigh_renamed f [] = refl
+    weigh_renamed f (i ∷ is) = (let e : v (renamed f i) ≡ v i = ap (weight_by by) (base_renamed f i) in omega (arith, e, weigh_renamed f is))
+
+    named_few : (names : List ℕ) (actions : List Action) → Each (IsFit count size) actions → weigh v (named_code names count size far aligned actions) ≤ arrays_of actions
+    named_few names [] h = omega arith
+    named_few names (a ∷ rest) h =
+        let mine = action_names a names in
+        let own = action_far_code count size far aligned a in
+        let x = action_few a h.0 in
+        let y = named_few mine rest h.1 in
+        omega (arith, x, y, weigh_append v (map (renamed (renaming mine)) own) (named_code mine count size far aligned rest), weigh_renamed (renaming mine) own)
+
     pub actions_few : (actions : List Action) → Each (IsFit count size) actions → weigh v (actions_far_code count size far aligned actions) ≤ arrays_of actions
-    actions_few [] h = omega arith
-    actions_few (a ∷ rest) h = (let x = action_few a h.0 in let y = actions_few rest h.1 in omega (arith, x, y, weigh_append v (action_far_code count size far aligned a) (actions_far_code count size far aligned rest)))
+    actions_few = named_few own_names
 
   -- ---- turns
 

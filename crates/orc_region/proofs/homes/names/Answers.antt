@@ -7,7 +7,7 @@ use Rattle.orc_region.proofs.homes.names.Goals as goal
 
 pub loop-r-preserved : goal.loop-r-preserved
 loop-r-preserved c = record {
-  filled = filled_more (λ k. exchange 0 c.args.first (exchange 1 c.args.second (exchange 2 c.args.sum k))) c.loop-r.names c.loop-r.r c.exchange-in-loop-r-2.result (omega (arith, c.loop-r-test.true, c.loop-r.invariant.long)) (c.exchange-in-loop-r-2.ensures ∙ ap (exchange 0 c.args.first) (c.exchange-in-loop-r.ensures ∙ ap (exchange 1 c.args.second) c.exchange.ensures)) c.loop-r.invariant.filled;
+  filled = filled_more (λ k. exchange 0 c.args.first (exchange 1 c.args.second (exchange 2 c.args.sum k))) c.loop-r.names c.loop-r.r c.exchange-in-loop-r-2.result (omega (arith, c.loop-r-test.true, c.loop-r.invariant.long)) (c.exchange-in-loop-r-2.ensures.is ∙ ap (exchange 0 c.args.first) (c.exchange-in-loop-r.ensures.is ∙ ap (exchange 1 c.args.second) c.exchange.ensures.is)) c.loop-r.invariant.filled;
   long = simp length-set c.loop-r.invariant.long;
 }
 

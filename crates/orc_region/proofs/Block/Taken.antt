@@ -1,0 +1,206 @@
+-- Registers that are taken over: nothing that follows reads what stood there.
+use Rattle.std.proofs.Common.{◌≡◌, ℕ, ◌*◌, ◌==◌, Bool, true, false, true≢false, not, ◌&&◌, ◌||◌, if◌then◌else◌, List, [], ◌∷◌, refl, sym, ap, ap₂, ◌∙◌, subst, ◌⊎◌, inl, inr, ⊎_elim}
+use Rattle.std.proofs.lemmas.Bool.{cases_eq, eqb-true}
+use Rattle.orc_bits.specs.Lanes.{change}
+use Rattle.orc_bits.proofs.LaneLaws.{change_other, change_same, eq_true}
+use Rattle.orc_ops.specs.declared.opcode.Op.{Op}
+use Rattle.orc_ops.specs.declared.target.Target.{Target as CodeTarget}
+use Rattle.orc_ops.specs.Table.{size_of_result, size_of_source}
+use Rattle.orc_program.proofs.Sizes.{both}
+use Rattle.orc_plan.specs.declared.steps.Step.{Step}
+use Rattle.orc_region.specs.Code.{Action, Source, FromArray, FromPattern, FromPlace, FromSlot, Target, ToArray, ToSum, ToResident, ToPlace, ToSlot, slot_place, AreActions, is_from, is_to, some_from, some_to, is_free, is_last, is_beside, is_first_taken, is_second_taken}
+use Rattle.orc_region.proofs.Block.Cells.{Numbers, live_target, live_targets, live_act, IsFrom, AreFrom, IsKnown, AllKnown}
+
+-- of these actions none reads what stands at the place: before one does, one makes a value there
+abbrev pub is_free_in : ℕ → List Action → Bool
+is_free_in p [] = true
+is_free_in p (a ∷ rest) = not (some_from p a.sources) && (some_to p a.to || is_free_in p rest)
+
+-- a source that may be taken over where these actions follow
+abbrev pub MayTake : Bool → List Action → Source → Type 0
+MayTake false rest s = Unit {0}
+MayTake true rest (FromPlace p) = is_free_in p rest ≡ true
+MayTake true rest (FromArray k) = ⊥
+MayTake true rest (FromPattern j) = ⊥
+MayTake true rest (FromSlot k) = ⊥
+
+-- the other source isn't in its register
+abbrev pub IsApart : Bool → Source → Source → Type 0
+IsApart one s t = one ≡ true → is_beside s t ≡ false
+
+abbrev pub AreTaken : Bool → Bool → List Action → List Source → Type 0
+AreTaken one two rest [] = Unit {0}
+AreTaken one two rest (s ∷ []) = MayTake one rest s
+AreTaken one two rest (s ∷ t ∷ more) = MayTake one rest s × MayTake two rest t × IsApart one s t × IsApart two t s
+
+abbrev pub AllTaken : List Action → Type 0
+AllTaken [] = Unit {0}
+AllTaken (a ∷ rest) = AreTaken a.takes_first a.takes_second rest a.sources × AllTaken rest
+
+-- ---- the actions of steps
+
+free_same : (target : CodeTarget) (at : List ℕ) (count : ℕ) (steps : List Step) (actions : List Action) (p : ℕ) → AreActions target at count steps actions → is_free at p steps ≡ is_free_in p actions
+free_same target at count [] [] p is = refl
+free_same target at count [] (a ∷ rest) p is = absurd is
+free_same target at count (s ∷ steps) [] p is = absurd is
+free_same target at count (s ∷ steps) (a ∷ rest) p is =
+    ap₂ (λ x y. not x && y) (ap (some_from p) (sym is.0.0.sources)) (ap₂ (λ x y. x || y) (ap (some_to p) (sym is.0.0.to)) (free_same target at count steps rest p is.1))
+
+not_yes : (b : Bool) → not b ≡ true → b ≡ false
+not_yes false h = refl
+not_yes true h = absurd (true≢false (sym h))
+
+module _ (at : List ℕ) (later : List Step) (rest : List Action) (free : (p : ℕ) → is_free at p later ≡ is_free_in p rest) where
+  may_take : (b : Bool) (s : Source) → (b ≡ true → is_last at later s ≡ true) → MayTake b rest s
+  may_take false s h = tt
+  may_take true (FromPlace p) h = sym (free p) ∙ h refl
+  may_take true (FromArray k) h = absurd (true≢false (sym (h refl)))
+  may_take true (FromPattern j) h = absurd (true≢false (sym (h refl)))
+  may_take true (FromSlot k) h = absurd (true≢false (sym (h refl)))
+
+  of_sources : (one two : Bool) (ss : List Source) → one ≡ is_first_taken at later ss → two ≡ is_second_taken at later ss → AreTaken one two rest ss
+  of_sources one two [] e f = tt
+  of_sources one two (s ∷ []) e f = may_take one s (λ t. sym e ∙ t)
+  of_sources one two (s ∷ t ∷ more) e f =
+      let x : one ≡ true → (is_last at later s ≡ true) × (not (is_beside s t) ≡ true) = λ y. both (is_last at later s) (not (is_beside s t)) (sym e ∙ y) in
+      let z : two ≡ true → (is_last at later t ≡ true) × (not (is_beside t s) ≡ true) = λ y. both (is_last at later t) (not (is_beside t s)) (sym f ∙ y) in
+      (may_take one s (λ y. (x y).0), may_take two t (λ y. (z y).0), (λ y. not_yes (is_beside s t) (x y).1), (λ y. not_yes (is_beside t s) (z y).1))
+
+pub all_taken : (target : CodeTarget) (at : List ℕ) (count : ℕ) (steps : List Step) (actions : List Action) → AreActions target at count steps actions → AllTaken actions
+all_taken target at count [] [] is = tt
+all_taken target at count [] (a ∷ rest) is = absurd is
+all_taken target at count (s ∷ steps) [] is = absurd is
+all_taken target at count (s ∷ steps) (a ∷ rest) is =
+    (of_sources at steps rest (λ p. free_same target at count steps rest p is.1) a.takes_first a.takes_second a.sources is.0.1.first is.0.1.second, all_taken target at count steps rest is.1)
+
+-- ---- what is known of places that nothing reads
+
+-- a change at another place
+target_same : (live less : ℕ → ℕ) (t : Target) (bytes p : ℕ) → less p ≡ live p → live_target less t bytes p ≡ live_target live t bytes p
+target_same live less (ToArray k) bytes p e = e
+target_same live less (ToSum g) bytes p e = e
+target_same live less (ToResident g) bytes p e = e
+target_same live less (ToPlace q) bytes p e = ap (λ n. if p == q then bytes else n) e
+target_same live less (ToSlot k) bytes p e = ap (λ n. if p == slot_place k then bytes else n) e
+
+live_same : (live less : ℕ → ℕ) (op : Op) (prefix : ℕ) (ts : List Target) (p : ℕ) → less p ≡ live p → live_targets less op prefix ts p ≡ live_targets live op prefix ts p
+live_same live less op prefix [] p e = e
+live_same live less op prefix (t ∷ []) p e = target_same live less t (size_of_result op 0 * prefix) p e
+live_same live less op prefix (t ∷ u ∷ more) p e =
+    target_same (live_target live t (size_of_result op 0 * prefix)) (live_target less t (size_of_result op 0 * prefix)) u (size_of_result op 1 * prefix) p (target_same live less t (size_of_result op 0 * prefix) p e)
+
+-- a value that is made there
+change_there : (live : ℕ → ℕ) (q v p : ℕ) → (q == p) ≡ true → change live q v p ≡ v
+change_there live q v p h = ap (change live q v) (sym (eqb-true q p h)) ∙ change_same live q v
+
+target_made : (live less : ℕ → ℕ) (t : Target) (bytes p : ℕ) → is_to p t ≡ true → live_target less t bytes p ≡ live_target live t bytes p
+target_made live less (ToArray k) bytes p h = absurd (true≢false (sym h))
+target_made live less (ToSum g) bytes p h = absurd (true≢false (sym h))
+target_made live less (ToResident g) bytes p h = absurd (true≢false (sym h))
+target_made live less (ToPlace q) bytes p h = change_there less q bytes p h ∙ sym (change_there live q bytes p h)
+target_made live less (ToSlot k) bytes p h = change_there less (slot_place k) bytes p h ∙ sym (change_there live (slot_place k) bytes p h)
+
+live_made : (live less : ℕ → ℕ) (op : Op) (prefix : ℕ) (ts : List Target) (p : ℕ) → some_to p ts ≡ true → live_targets less op prefix ts p ≡ live_targets live op prefix ts p
+live_made live less op prefix [] p h = absurd (true≢false (sym h))
+live_made live less op prefix (t ∷ []) p h = target_made live less t (size_of_result op 0 * prefix) p h
+live_made live less op prefix (t ∷ u ∷ more) p h = go (is_to p t) refl h
+  where
+    old : ℕ → ℕ
+    old = live_target live t (size_of_result op 0 * prefix)
+
+    new : ℕ → ℕ
+    new = live_target less t (size_of_result op 0 * prefix)
+
+    go : (b : Bool) → is_to p t ≡ b → (b || is_to p u) ≡ true → live_target new u (size_of_result op 1 * prefix) p ≡ live_target old u (size_of_result op 1 * prefix) p
+    go true e h = target_same old new u (size_of_result op 1 * prefix) p (target_made live less t (size_of_result op 0 * prefix) p e)
+    go false e h = target_made old new u (size_of_result op 1 * prefix) p h
+
+neither : (x y : Bool) → (x || y) ≡ false → (x ≡ false) × (y ≡ false)
+neither true y h = absurd (true≢false h)
+neither false y h = (refl, h)
+
+-- ---- what an action takes over
+
+-- nothing is known of the place then
+abbrev pub forget : Bool → Source → (ℕ → ℕ) → ℕ → ℕ
+forget false s live = live
+forget true (FromPlace p) live = change live p 0
+forget true (FromArray k) live = live
+forget true (FromPattern j) live = live
+forget true (FromSlot k) live = live
+
+abbrev pub forget_all : Bool → Bool → List Source → (ℕ → ℕ) → ℕ → ℕ
+forget_all one two [] live = live
+forget_all one two (s ∷ []) live = forget one s live
+forget_all one two (s ∷ t ∷ more) live = forget two t (forget one s live)
+
+forgot : (one : Bool) (rest : List Action) (s : Source) (live : ℕ → ℕ) (p : ℕ) → MayTake one rest s → (forget one s live p ≡ live p) ⊎ (is_free_in p rest ≡ true)
+forgot false rest s live p m = inl refl
+forgot true rest (FromPlace q) live p m = ⊎_elim (λ e. inr (subst (λ k. is_free_in k rest ≡ true) (sym e) m)) (λ ne. inl (change_other live q 0 p ne)) (cases_eq p q)
+forgot true rest (FromArray k) live p m = absurd m
+forgot true rest (FromPattern j) live p m = absurd m
+forgot true rest (FromSlot k) live p m = absurd m
+
+forgot_all : (one two : Bool) (rest : List Action) (ss : List Source) (live : ℕ → ℕ) (p : ℕ) → AreTaken one two rest ss → (forget_all one two ss live p ≡ live p) ⊎ (is_free_in p rest ≡ true)
+forgot_all one two rest [] live p m = inl refl
+forgot_all one two rest (s ∷ []) live p m = forgot one rest s live p m
+forgot_all one two rest (s ∷ t ∷ more) live p m =
+    ⊎_elim (λ e. ⊎_elim (λ d. inl (e ∙ d)) (λ f. inr f) (forgot one rest s live p m.0)) (λ f. inr f) (forgot two rest t (forget one s live) p m.1)
+
+module _ (n : ℕ) (base size : ℕ → ℕ) (P : ℕ → Type 0) (numbers : Numbers) where
+  from_less : (live less : ℕ → ℕ) (w prefix : ℕ) (s : Source) → ((p : ℕ) → is_from p s ≡ true → less p ≡ live p) → IsFrom n base size P numbers live w prefix s → IsFrom n base size P numbers less w prefix s
+  from_less live less w prefix (FromArray k) h o = o
+  from_less live less w prefix (FromPattern j) h o = o
+  from_less live less w prefix (FromPlace p) h o = (o.0, h p (eq_true p) ∙ o.1)
+  from_less live less w prefix (FromSlot k) h o = (o.0, h (slot_place k) (eq_true (slot_place k)) ∙ o.1)
+
+  -- what is known of the places that are read is enough
+  abbrev Enough : (ℕ → ℕ) → (ℕ → ℕ) → List Source → Type 0
+  Enough live less ss = (p : ℕ) → (less p ≡ live p) ⊎ (some_from p ss ≡ false)
+
+  read_less : (live less : ℕ → ℕ) (p : ℕ) (b : Bool) → b ≡ true → (less p ≡ live p) ⊎ (b ≡ false) → less p ≡ live p
+  read_less live less p b h (inl e) = e
+  read_less live less p b h (inr f) = absurd (true≢false (sym h ∙ f))
+
+  froms_less : (live less : ℕ → ℕ) (op : Op) (prefix : ℕ) (ss : List Source) → Enough live less ss → AreFrom n base size P numbers live op prefix ss → AreFrom n base size P numbers less op prefix ss
+  froms_less live less op prefix [] h o = o
+  froms_less live less op prefix (s ∷ []) h o = (from_less live less (size_of_source op 0) prefix s (λ p e. read_less live less p (is_from p s) e (h p)) o.0, o.1)
+  froms_less live less op prefix (s ∷ t ∷ more) h o = (
+    from_less live less (size_of_source op 0) prefix s (λ p e. read_less live less p (is_from p s) e (⊎_elim (λ x. inl x) (λ f. inr (neither (is_from p s) (is_from p t) f).0) (h p))) o.0,
+    from_less live less (size_of_source op 1) prefix t (λ p e. read_less live less p (is_from p t) e (⊎_elim (λ x. inl x) (λ f. inr (neither (is_from p s) (is_from p t) f).1) (h p))) o.1,
+    o.2,
+  )
+
+  known_less : (live less : ℕ → ℕ) (a : Action) → Enough live less a.sources → IsKnown n base size P numbers live a → IsKnown n base size P numbers less a
+  known_less live less a h k = record {
+    to = k.to;
+    sources = froms_less live less a.op a.prefix a.sources h k.sources;
+    kept = k.kept;
+    apart = k.apart;
+    to_within = k.to_within;
+    from_within = k.from_within;
+  }
+
+  -- so it is where nothing is known any more of places that none of the actions reads
+  all_less : (live less : ℕ → ℕ) (actions : List Action) → ((p : ℕ) → (less p ≡ live p) ⊎ (is_free_in p actions ≡ true)) → AllKnown n base size P numbers live actions → AllKnown n base size P numbers less actions
+  all_less live less [] h k = tt
+  all_less live less (a ∷ rest) h k = (known_less live less a now k.0, all_less (live_act live a) (live_act less a) rest then_on k.1)
+    where
+      parts : (p : ℕ) → is_free_in p (a ∷ rest) ≡ true → (not (some_from p a.sources) ≡ true) × ((some_to p a.to || is_free_in p rest) ≡ true)
+      parts p f = both (not (some_from p a.sources)) (some_to p a.to || is_free_in p rest) f
+
+      now : Enough live less a.sources
+      now p = ⊎_elim (λ e. inl e) (λ f. inr (not_yes (some_from p a.sources) (parts p f).0)) (h p)
+
+      made : (p : ℕ) (b : Bool) → some_to p a.to ≡ b → (b || is_free_in p rest) ≡ true → (live_act less a p ≡ live_act live a p) ⊎ (is_free_in p rest ≡ true)
+      made p true e f = inl (live_made live less a.op a.prefix a.to p e)
+      made p false e f = inr f
+
+      then_on : (p : ℕ) → (live_act less a p ≡ live_act live a p) ⊎ (is_free_in p rest ≡ true)
+      then_on p = ⊎_elim (λ e. inl (live_same live less a.op a.prefix a.to p e)) (λ f. made p (some_to p a.to) refl (parts p f).1) (h p)
+
+  pub rest_known : (live : ℕ → ℕ) (a : Action) (rest : List Action) → AreTaken a.takes_first a.takes_second rest a.sources → AllKnown n base size P numbers (live_act live a) rest
+      → AllKnown n base size P numbers (live_act (forget_all a.takes_first a.takes_second a.sources live) a) rest
+  rest_known live a rest m k =
+      let less = forget_all a.takes_first a.takes_second a.sources live in
+      all_less (live_act live a) (live_act less a) rest (λ p. ⊎_elim (λ e. inl (live_same live less a.op a.prefix a.to p e)) (λ f. inr f) (forgot_all a.takes_first a.takes_second rest a.sources live p m)) k

@@ -1,0 +1,131 @@
+//! Sources whose registers are taken over.
+//!
+//! A value that nothing reads again is worked on where it stands: its register changes names with the one that the rule has for the
+//! source, and stands for it in all that follows in the block. So nothing is copied.
+
+ghost use Rattle.std.specs.Prelude.{◌≡◌, ◌∷◌, ℕ, map};
+ghost use Rattle.orc_region.specs.Code.{source_of, target_of, is_from, is_to, some_from, some_to, is_free, is_last, is_beside, is_first_taken, is_second_taken};
+
+use crate::homes::REGISTERS;
+use orc_plan::{Item, Step, place_of};
+
+/// Which sources of an instruction are taken over.
+#[derive(Clone, Copy)]
+pub struct Takes {
+    /// The first one.
+    pub first: bool,
+    /// The second one.
+    pub second: bool,
+}
+
+/// Whether a source comes from a place.
+#[tactic(auto, using(crate::proofs::Block::Places::from_this))]
+fn is_from(at: &[u8], place: u8, item: Item) -> bool
+    ensures { result ≡ is_from place (source_of at.now item) }
+{
+    match item {
+        Item::Value(value) => place_of(at, value) == place,
+        Item::Array(_) | Item::Acc { .. } | Item::Pattern(_) => false,
+    }
+}
+
+/// Whether a result goes to a place.
+#[tactic(auto, using(crate::proofs::Block::Places::to_this, crate::proofs::Block::Sums::sum_elsewhere))]
+fn is_to(at: &[u8], place: u8, item: Item) -> bool
+    ensures { result ≡ is_to place (target_of at.now item) }
+{
+    match item {
+        Item::Value(value) => place_of(at, value) == place,
+        Item::Array(_) | Item::Acc { .. } | Item::Pattern(_) => false,
+    }
+}
+
+/// Whether one of the sources comes from a place.
+fn some_from(at: &[u8], place: u8, sources: &[Item]) -> bool
+    ensures { result ≡ some_from place (map (source_of at.now) sources.now) }
+{
+    match sources {
+        [] => false,
+        [one] => is_from(at, place, *one),
+        [one, two, ..] => is_from(at, place, *one) || is_from(at, place, *two),
+    }
+}
+
+/// Whether one of the results goes to a place.
+fn some_to(at: &[u8], place: u8, results: &[Item]) -> bool
+    ensures { result ≡ some_to place (map (target_of at.now) results.now) }
+{
+    match results {
+        [] => false,
+        [one] => is_to(at, place, *one),
+        [one, two, ..] => is_to(at, place, *one) || is_to(at, place, *two),
+    }
+}
+
+/// Whether none of these steps reads what stands at a place: before one does, one makes a value there.
+fn is_free(at: &[u8], place: u8, steps: &[Step]) -> bool
+    ensures { result ≡ is_free at.now place steps.now }
+{
+    match steps {
+        [] => true,
+        [step, later @ ..] => {
+            !some_from(at, place, step.sources.as_slice())
+                && (some_to(at, place, step.results.as_slice()) || is_free(at, place, later))
+        }
+    }
+}
+
+/// Whether no later step reads what is in a source's register.
+fn is_last(at: &[u8], later: &[Step], item: Item) -> bool
+    ensures { result ≡ is_last at.now later.now (source_of at.now item) }
+{
+    match item {
+        Item::Value(value) => {
+            let place = place_of(at, value);
+            if place < REGISTERS {
+                is_free(at, place, later)
+            } else {
+                false
+            }
+        }
+        Item::Array(_) | Item::Acc { .. } | Item::Pattern(_) => false,
+    }
+}
+
+/// Whether a second source is in a first one's register.
+fn is_beside(at: &[u8], one: Item, other: Item) -> bool
+    ensures { result ≡ is_beside (source_of at.now one) (source_of at.now other) }
+{
+    match one {
+        Item::Value(value) => {
+            let place = place_of(at, value);
+            if place < REGISTERS {
+                is_from(at, place, other)
+            } else {
+                false
+            }
+        }
+        Item::Array(_) | Item::Acc { .. } | Item::Pattern(_) => false,
+    }
+}
+
+/// Which of the sources an instruction takes over that has these steps behind it.
+pub fn takes_of(at: &[u8], later: &[Step], sources: &[Item]) -> Takes
+    ensures first { result.first ≡ is_first_taken at.now later.now (map (source_of at.now) sources.now) }
+    ensures second { result.second ≡ is_second_taken at.now later.now (map (source_of at.now) sources.now) }
+{
+    match sources {
+        [] => Takes {
+            first: false,
+            second: false,
+        },
+        [one] => Takes {
+            first: is_last(at, later, *one),
+            second: false,
+        },
+        [one, two, ..] => Takes {
+            first: is_last(at, later, *one) && !is_beside(at, *one, *two),
+            second: is_last(at, later, *two) && !is_beside(at, *two, *one),
+        },
+    }
+}
