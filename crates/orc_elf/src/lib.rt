@@ -18,6 +18,3 @@ pub use elf::{ElfCode, ElfEntries, ElfEntry};
 pub use error::ElfError;
 pub use reading::{one_object, read_elf};
 pub use writing::write_elf;
-
-#[cfg(test)]
-mod tests;

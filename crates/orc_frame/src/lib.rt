@@ -21,6 +21,3 @@ pub use slots::{FRAME_SIZE, LEFT_AT, layout};
 pub use words::{
     BLOCK_SIZE, ELEMENTS_WORD, ROWS_WORD, base_word, param_word, stride_word, sum_word,
 };
-
-#[cfg(test)]
-mod tests;

@@ -13,6 +13,3 @@ pub use image::{Image, ImageFunction, ImageFunctions};
 pub use listing::{list, one_listing};
 pub use reading::{one_image, read_image};
 pub use writing::write_image;
-
-#[cfg(test)]
-mod tests;

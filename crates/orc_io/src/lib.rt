@@ -15,6 +15,3 @@ pub use edge::{ReadEdge, WriteEdge};
 pub use memory::{Buffer, Piece, Still};
 pub use sink::{PutFault, Sink, write_all};
 pub use source::{Failed, Source, TakeFault, read_all};
-
-#[cfg(test)]
-mod tests;

@@ -19,6 +19,3 @@ pub use outcome::{EndLine, Outcome};
 pub use printing::{print_result, put_accs, put_memory, why_text};
 pub use reading::{one_reading, read_job};
 pub use sizing::read_sizes;
-
-#[cfg(test)]
-mod tests;

@@ -16,6 +16,3 @@ pub use directive::Directive;
 pub use laws::{checks_look, least_line_faults, one_fault, reads_are_segments, says_one};
 pub use reading::{TextError, read};
 pub use showing::show;
-
-#[cfg(test)]
-mod tests;

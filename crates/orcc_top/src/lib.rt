@@ -31,6 +31,3 @@ pub use orc_parts::play_parts;
 pub use orc_program::Rect;
 pub use status::Status;
 pub use top::orcc;
-
-#[cfg(test)]
-mod tests;

@@ -1,4 +1,4 @@
-use crate::{ElfCode, ElfEntry, ElfError, one_object, read_elf, write_elf};
+use orc_elf::{ElfCode, ElfEntry, ElfError, one_object, read_elf, write_elf};
 use orc_program::Name;
 use sqlite_items::Items;
 use std::alloc::Global;

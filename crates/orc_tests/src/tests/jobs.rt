@@ -1,6 +1,6 @@
-use crate::{EndLine, Field, Job, JobError, Outcome, fit, one_reading, print_result, read_job};
 use orc_bits::Part;
 use orc_emul::Accs;
+use orc_job::{EndLine, Field, Job, JobError, Outcome, fit, one_reading, print_result, read_job};
 use orc_program::Place;
 use sqlite_items::Items;
 use std::test::Fail;

@@ -1,7 +1,7 @@
 //! Facts that a text states of calls: what the image has of them, and jobs that don't meet them.
 
 use super::{has_at_most, run};
-use crate::Status;
+use orcc_top::Status;
 use std::alloc::{AllocError, Global};
 
 /// The image of the first kernel up to its code's length, where n is a multiple of 16 and the dest begins at one.

@@ -1,6 +1,6 @@
-use crate::{TextError, read, show};
 use orc_ops::Op;
 use orc_program::{Fault, Operand, VarKind};
+use orc_text::{TextError, read, show};
 use std::alloc::{AllocError, Global};
 use std::process::Abort;
 

@@ -3,7 +3,7 @@
 ghost use Rattle.std.specs.Prelude.{◌<◌};
 
 use super::{ADD8, DEMO, Outcome, Stream, VOLUME, run, run_with};
-use crate::Status;
+use orcc_top::Status;
 use std::alloc::{AllocError, Global};
 use std::process::Abort;
 

@@ -1,6 +1,6 @@
 //! Input that is cut, drawn at random or at the ends of what is allowed.
 use super::{ADD8, run};
-use crate::Status;
+use orcc_top::Status;
 use std::alloc::{AllocError, Global};
 
 /// A command, its input, and the status with what is written.

@@ -1,4 +1,4 @@
-use crate::{ImageError, list, one_image, one_listing, read_image, write_image};
+use orc_image::{ImageError, list, one_image, one_listing, read_image, write_image};
 use std::alloc::Global;
 use std::test::Fail;
 

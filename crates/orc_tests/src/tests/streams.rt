@@ -1,6 +1,6 @@
 ghost use Rattle.std.specs.Prelude.{◌≡◌, ◌<◌, IfOk};
 
-use crate::*;
+use orc_io::*;
 use std::alloc::{AllocError, Global};
 use std::io;
 use std::io::Write;

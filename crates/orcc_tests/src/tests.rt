@@ -5,11 +5,11 @@ mod stated;
 
 ghost use Rattle.std.specs.Prelude.{◌<◌};
 
-use crate::{Status, orcc};
 use c_read::read_c;
 use orc_elf::{ElfCode, ElfEntry, write_elf};
 use orc_io::{Buffer, Piece};
 use orc_program::Name;
+use orcc_top::{Status, orcc};
 use sqlite_items::Items;
 use std::alloc::{AllocError, Global};
 use std::process::Abort;

@@ -1,0 +1,6 @@
+mod frames;
+mod images;
+mod jobs;
+mod objects;
+mod streams;
+mod texts;
