@@ -28,7 +28,7 @@ use Rattle.c_run.specs.declared.tree.CExpr.TheVariants.{Number, P}
 use Rattle.c_run.specs.Meaning.{CState, Turn}
 use Rattle.c_run.proofs.Trees.{value_p}
 use Rattle.c_emit.specs.Expressions.{first, second}
-use Rattle.c_emit.specs.Body.{temp_of, lane_of_var, lane_of, lane_first, lane_second, first_at, second_at, packed}
+use Rattle.c_emit.specs.Body.{temp_of, first_free, cells, lane_of_var, lane_of, lane_first, lane_second, first_at, second_at, packed}
 use Rattle.c_emit.proofs.Values.{Scene, Gives, same, number, low_gives}
 use Rattle.c_emit.proofs.StemLaws.{top_64}
 use Rattle.c_emit.proofs.StemLaws as law
@@ -75,8 +75,9 @@ formula_second {z} {x} y o a b h p =
 
 -- what the state of C has for the variable at place p, whose cell is in variable d
 pub record Ready (f : FunctionValue) (call : Call) (r i : ℕ) (s : CState) (e : State) (d p : ℕ) : Type 0 where
-  pub cell : is_array_kind (var_at f.vars p).kind ≡ true → (v : ℕ) → read_cell f call r i p e ≡ Ok v → (s.v d ≡ Some v) × (v < 2 ^ 64)
-  pub temp : (var_at f.vars p).kind ≡ kind.Temp → (s.v (temp_of f.vars p) ≡ Some (e.temps p)) × (e.temps p < 2 ^ 64)
+  pub cell : is_array_kind (var_at f.vars p).kind ≡ true → (v : ℕ) → read_cell f call r i p e ≡ Ok v → (s.v d ≡ Some v) × (v < 2 ^ (8 * (var_at f.vars p).size))
+  pub temp : (var_at f.vars p).kind ≡ kind.Temp → (s.v (temp_of f.vars p) ≡ Some (e.temps p)) × (e.temps p < 2 ^ (8 * (var_at f.vars p).size))
+  pub few : (var_at f.vars p).size ≤ 8
   pub param : (var_at f.vars p).kind ≡ kind.Param → (slice_get call.params.items (count_before kind.Param f.vars p) ≡ Some (param_at f call p)) × (param_at f call p < 2 ^ 64)
 
 again : (x w : ℕ) → x % 2 ^ w % 2 ^ w ≡ x % 2 ^ w
@@ -91,7 +92,7 @@ cell_lane f call r i s e w q d p g n h l m k =
     let a = go_on_ok (read_cell f call r i p e) (λ v. okay (sub_lane w v)) g k in
     let c = h.cell n a.0 a.1 in
     let t : g q ≡ a.0 / 2 ^ (w * q) % 2 ^ w = sym (ap (λ (g : ℕ → ℕ). g q) (ok_same (sub_lane w a.0) g a.2)) in
-    same (g q % 2 ^ w) (part_gives w q l m c.1 (v_gives call (record { row = r; element = i }) s d a.0 c.0)) (sym (ap (λ n. n % 2 ^ w) t ∙ again (a.0 / 2 ^ (w * q)) w))
+    same (g q % 2 ^ w) (part_gives (var_at f.vars p).size w q h.few l m c.1 (v_gives call (record { row = r; element = i }) s d a.0 c.0)) (sym (ap (λ n. n % 2 ^ w) t ∙ again (a.0 / 2 ^ (w * q)) w))
 
 -- a variable whose number is cut into sub-lanes
 abbrev pub has_lanes : VarKind → Bool
@@ -106,7 +107,7 @@ var_lane f call r i s e w q d p g kind.Dest n h l m k = cell_lane f call r i s e
 var_lane f call r i s e w q d p g kind.Temp n h l m k =
     let c = h.temp (sym n) in
     let t : g q ≡ e.temps p / 2 ^ (w * q) % 2 ^ w = sym (ap (λ (g : ℕ → ℕ). g q) (ok_same (sub_lane w (e.temps p)) g k)) in
-    same (g q % 2 ^ w) (part_gives w q l (m refl) c.1 (v_gives call (record { row = r; element = i }) s (temp_of f.vars p) (e.temps p) c.0)) (sym (ap (λ n. n % 2 ^ w) t ∙ again (e.temps p / 2 ^ (w * q)) w))
+    same (g q % 2 ^ w) (part_gives (var_at f.vars p).size w q h.few l (m refl) c.1 (v_gives call (record { row = r; element = i }) s (temp_of f.vars p) (e.temps p) c.0)) (sym (ap (λ n. n % 2 ^ w) t ∙ again (e.temps p / 2 ^ (w * q)) w))
 var_lane f call r i s e w q d p g kind.Param n h l m k =
     let c = h.param (sym n) in
     let t : g q ≡ param_at f call p = sym (ap (λ (g : ℕ → ℕ). g q) (ok_same (λ q. param_at f call p) g k)) in
@@ -137,52 +138,52 @@ abbrev pub both_okay : (ℕ → ℕ) → (ℕ → ℕ) → Result ((ℕ → ℕ)
 both_okay a b = Ok (a, b)
 
 -- what is asked of the sources of an opcode
-abbrev pub AreReady : FunctionValue → Call → ℕ → ℕ → CState → State → Op → ℕ → List Operand → Type 0
-AreReady f call r i s e o q [] = Unit {0}
-AreReady f call r i s e o q (x ∷ []) = IsReady f call r i s e (8 * size_of_source o 0) q 0 x
-AreReady f call r i s e o q (x ∷ y ∷ more) = IsReady f call r i s e (8 * size_of_source o 0) q 0 x × IsReady f call r i s e (8 * size_of_source o 1) q 1 y
+abbrev pub AreReady : FunctionValue → Call → ℕ → ℕ → CState → State → Op → ℕ → ℕ → List Operand → Type 0
+AreReady f call r i s e o q d [] = Unit {0}
+AreReady f call r i s e o q d (x ∷ []) = IsReady f call r i s e (8 * size_of_source o 0) q d x
+AreReady f call r i s e o q d (x ∷ y ∷ more) = IsReady f call r i s e (8 * size_of_source o 0) q d x × IsReady f call r i s e (8 * size_of_source o 1) q (d + cells f.vars x) y
 
 none_lane : (call : Call) (t : Turn) (s : CState) (w : ℕ) (g : ℕ → ℕ) (q : ℕ) → (λ q. 0) ≡ g → Gives (scene call t s) (Number 0) (g q % 2 ^ w)
 none_lane call t s w g q h = same (g q % 2 ^ w) (number (scene call t s) 0) (sym (ap (λ (g : ℕ → ℕ). g q % 2 ^ w) (sym h) ∙ mod-eq_of_lt (pow_pos w)))
 
 -- the two sources of a sub-lane
-pub source_lanes : (f : FunctionValue) (call : Call) (r i : ℕ) (s : CState) (e : State) (o : Op) (q : ℕ) (xs : List Operand) (a b : ℕ → ℕ) → AreReady f call r i s e o q xs → read_sources f call r i o e xs ≡ both_okay a b
-    → Gives (scene call (record { row = r; element = i }) s) (lane_first f.vars o q xs) (source_of o 0 (a q)) × Gives (scene call (record { row = r; element = i }) s) (lane_second f.vars o q xs) (source_of o 1 (b q))
-source_lanes f call r i s e o q [] a b h k =
+pub source_lanes : (f : FunctionValue) (call : Call) (r i : ℕ) (s : CState) (e : State) (o : Op) (q d : ℕ) (xs : List Operand) (a b : ℕ → ℕ) → AreReady f call r i s e o q d xs → read_sources f call r i o e xs ≡ both_okay a b
+    → Gives (scene call (record { row = r; element = i }) s) (lane_first f.vars o q d xs) (source_of o 0 (a q)) × Gives (scene call (record { row = r; element = i }) s) (lane_second f.vars o q d xs) (source_of o 1 (b q))
+source_lanes f call r i s e o q d [] a b h k =
     let p = ok_same ((λ q. 0), (λ q. 0)) (a, b) k in
     let t : Turn = record { row = r; element = i } in
     (none_lane call t s (8 * size_of_source o 0) a q (ap (λ (v : (ℕ → ℕ) × (ℕ → ℕ)). v.0) p), none_lane call t s (8 * size_of_source o 1) b q (ap (λ (v : (ℕ → ℕ) × (ℕ → ℕ)). v.1) p))
-source_lanes f call r i s e o q (x ∷ []) a b h k =
+source_lanes f call r i s e o q d (x ∷ []) a b h k =
     let c = go_on_ok (read_source f call r i (8 * size_of_source o 0) e x) (λ g. both_okay g (λ q. 0)) (a, b) k in
     let p = ok_same (c.0, (λ q. 0)) (a, b) c.2 in
     let z = range_of (wide o) (row_fits o).first in
-    let u = operand_lane f call r i s e (8 * size_of_source o 0) q 0 x c.0 h z.high c.1 in
+    let u = operand_lane f call r i s e (8 * size_of_source o 0) q d x c.0 h z.high c.1 in
     (same (a q % 2 ^ (8 * size_of_source o 0)) u (ap (λ (v : (ℕ → ℕ) × (ℕ → ℕ)). v.0 q % 2 ^ (8 * size_of_source o 0)) p), none_lane call (record { row = r; element = i }) s (8 * size_of_source o 1) b q (ap (λ (v : (ℕ → ℕ) × (ℕ → ℕ)). v.1) p))
-source_lanes f call r i s e o q (x ∷ y ∷ more) a b h k =
+source_lanes f call r i s e o q d (x ∷ y ∷ more) a b h k =
     let c = go_on_ok (read_source f call r i (8 * size_of_source o 0) e x) (λ g. go_on (read_source f call r i (8 * size_of_source o 1) e y) (λ m. both_okay g m)) (a, b) k in
-    let d = go_on_ok (read_source f call r i (8 * size_of_source o 1) e y) (λ m. both_okay c.0 m) (a, b) c.2 in
-    let p = ok_same (c.0, d.0) (a, b) d.2 in
+    let n = go_on_ok (read_source f call r i (8 * size_of_source o 1) e y) (λ m. both_okay c.0 m) (a, b) c.2 in
+    let p = ok_same (c.0, n.0) (a, b) n.2 in
     let z = range_of (wide o) (row_fits o).first in
-    let u = operand_lane f call r i s e (8 * size_of_source o 0) q 0 x c.0 h.0 z.high c.1 in
-    let v = operand_lane f call r i s e (8 * size_of_source o 1) q 1 y d.0 h.1 (size_low (size_of_source o 1) (row_fits o).size) d.1 in
+    let u = operand_lane f call r i s e (8 * size_of_source o 0) q d x c.0 h.0 z.high c.1 in
+    let v = operand_lane f call r i s e (8 * size_of_source o 1) q (d + cells f.vars x) y n.0 h.1 (size_low (size_of_source o 1) (row_fits o).size) n.1 in
     (same (a q % 2 ^ (8 * size_of_source o 0)) u (ap (λ (v : (ℕ → ℕ) × (ℕ → ℕ)). v.0 q % 2 ^ (8 * size_of_source o 0)) p), same (b q % 2 ^ (8 * size_of_source o 1)) v (ap (λ (v : (ℕ → ℕ) × (ℕ → ℕ)). v.1 q % 2 ^ (8 * size_of_source o 1)) p))
 
 -- ---- results
 
 -- the expression of the first result means the first result of the opcode under its prefix, which is k and one
 pub first_result : (f : FunctionValue) (call : Call) (r i : ℕ) (s : CState) (e : State) (insn : Insn) (k : ℕ) (a b : ℕ → ℕ) → insn.prefix ≡ suc k → 0 < size_of_result insn.op 0 → 8 * size_of_result insn.op 0 * suc k ≤ 64
-    → ((q : ℕ) → q ≤ k → AreReady f call r i s e insn.op q insn.sources.items) → read_sources f call r i insn.op e insn.sources.items ≡ both_okay a b
+    → ((q : ℕ) → q ≤ k → AreReady f call r i s e insn.op q (first_free f.vars) insn.sources.items) → read_sources f call r i insn.op e insn.sources.items ≡ both_okay a b
     → Gives (scene call (record { row = r; element = i }) s) (packed (8 * size_of_result insn.op 0) k (first_at f.vars insn)) (lanewise insn.op (suc k) a b).0
 first_result f call r i s e insn k a b p z l h m =
     packed_gives (8 * size_of_result insn.op 0) k (first_at f.vars insn) (λ q. (formula insn.op (a q) (b q)).0) (omega (arith, z)) l
-    (λ q n. let u = source_lanes f call r i s e insn.op q insn.sources.items a b (h q n) m in formula_first insn.op (a q) (b q) u.0 u.1)
+    (λ q n. let u = source_lanes f call r i s e insn.op q (first_free f.vars) insn.sources.items a b (h q n) m in formula_first insn.op (a q) (b q) u.0 u.1)
     (λ q. (formula_below insn.op (a q) (b q)).0)
 
 -- and so does that of the second, of an opcode that has one
 pub second_result : (f : FunctionValue) (call : Call) (r i : ℕ) (s : CState) (e : State) (insn : Insn) (k : ℕ) (a b : ℕ → ℕ) → insn.prefix ≡ suc k → 0 < size_of_result insn.op 1 → 8 * size_of_result insn.op 1 * suc k ≤ 64
-    → ((q : ℕ) → q ≤ k → AreReady f call r i s e insn.op q insn.sources.items) → read_sources f call r i insn.op e insn.sources.items ≡ both_okay a b
+    → ((q : ℕ) → q ≤ k → AreReady f call r i s e insn.op q (first_free f.vars) insn.sources.items) → read_sources f call r i insn.op e insn.sources.items ≡ both_okay a b
     → Gives (scene call (record { row = r; element = i }) s) (packed (8 * size_of_result insn.op 1) k (second_at f.vars insn)) (lanewise insn.op (suc k) a b).1
 second_result f call r i s e insn k a b p z l h m =
     packed_gives (8 * size_of_result insn.op 1) k (second_at f.vars insn) (λ q. (formula insn.op (a q) (b q)).1) (omega (arith, z)) l
-    (λ q n. let u = source_lanes f call r i s e insn.op q insn.sources.items a b (h q n) m in formula_second (lane_second f.vars insn.op q insn.sources.items) insn.op (a q) (b q) z u.0)
+    (λ q n. let u = source_lanes f call r i s e insn.op q (first_free f.vars) insn.sources.items a b (h q n) m in formula_second (lane_second f.vars insn.op q (first_free f.vars) insn.sources.items) insn.op (a q) (b q) z u.0)
     (λ q. (formula_below insn.op (a q) (b q)).1)

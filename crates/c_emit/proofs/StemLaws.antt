@@ -1,5 +1,5 @@
 -- The expression of a stem means the stem's formula, at every width.
-use Rattle.std.proofs.Common.{◌≡◌, ℕ, suc, ◌+◌, ◌-◌, ◌*◌, ◌/◌, ◌%◌, ◌^◌, ◌<◌, ◌≤◌, ◌==◌, ◌⊎◌, inl, inr, min, max, nat_lt, cond, true, false, Some, refl, sym, ap, ap₂, ◌∙◌, arith, subst, pow-add}
+use Rattle.std.proofs.Common.{◌≡◌, ℕ, suc, ◌+◌, ◌-◌, ◌*◌, ◌/◌, ◌%◌, ◌^◌, ◌<◌, ◌≤◌, ◌==◌, ◌⊎◌, inl, inr, min, max, nat_lt, cond, if◌then◌else◌, Bool, true, false, Option, Some, None, refl, sym, ap, ap₂, ◌∙◌, arith, subst, pow-add}
 use Rattle.std.specs.Prelude.{ℤ, pos, negsuc, ◌+ℤ◌, ◌-ℤ◌, ◌*ℤ◌, int_lt, unsigned_abs, bit_and, bit_or, bit_xor}
 use Rattle.std.specs.Int.{int_shr, int_signum}
 use Rattle.std.proofs.lemmas.Int.{ints}
@@ -17,8 +17,9 @@ use Rattle.orc_ops.specs.Stems.{ones, apply}
 use Rattle.c_run.specs.declared.tree.COp.TheVariants.{Sub, Div, And, Or, Xor, Shl, Shr}
 use Rattle.c_run.specs.declared.tree.CExpr.{CExpr}
 use Rattle.c_run.specs.declared.tree.CExpr.TheVariants.{Number, Two, Choose}
-use Rattle.c_emit.specs.Expressions.{low, less, at_most, half, wide, few, first, second}
+use Rattle.c_emit.specs.Expressions.{low, less, at_most, half, wide, number_of, if_below, if_below_by, few, few_by, half_down, half_by, first, second}
 use Rattle.c_emit.proofs.Values.{Scene, Gives, same, number, by_two, add_mod, add, sub_mod, sub, mul_mod, mul, div, shl, shr, choose_less, choose_equal, at_most_gives, without_gives, low_gives, low_cut, cut_twice, turn, turned_gives}
+use Rattle.c_emit.proofs.Known.{number_value}
 use Rattle.c_emit.proofs.Distances.{twice, turn_low, turn_high, distance, wrap_is, wrap_64, clamp_u_is, clamp_s_is, less_signed, shr_is}
 
 -- ---- bounds
@@ -309,19 +310,41 @@ minu_law {z} {x} {y} {a} {b} w t p q = same (min a b) (choose_less y x b a q p (
 
 -- ---- shifts
 
+if_below_gives : {z : Scene} {y : CExpr} {b : ℕ} (w : ℕ) (e : CExpr) (v : ℕ) → Gives z y b → (b < w → Gives z e v) → Gives z (if_below w y e) (cond (nat_lt b w) v 0)
+if_below_gives {z} {y} {b} w e v q h = by (number_of y) refl
+  where
+    picked : (t : Bool) → nat_lt b w ≡ t → Gives z (if t then e else Number 0) (cond t v 0)
+    picked true k = h (grind (arith, nat_tests, k))
+    picked false k = number z 0
+
+    by : (o : Option ℕ) → number_of y ≡ o → Gives z (if_below_by w y e o) (cond (nat_lt b w) v 0)
+    by (Some n) k = subst (λ n. Gives z (if nat_lt n w then e else Number 0) (cond (nat_lt b w) v 0)) (sym (number_value k q)) (picked (nat_lt b w) refl)
+    by None k = choose_less e (Number 0) v 0 q (number z w) h (λ s. number z 0)
+
 pub shl_law : {z : Scene} {x y : CExpr} {a b : ℕ} (w t : ℕ) → w ≤ 64 → t ≤ 64 → Gives z x a → Gives z y b → Gives z (first stem.Shl w t x y) (apply stem.Shl w t a b).0
 shl_law {z} {x} {y} {a} {b} w t h l p q =
-    choose_less (low t (Two Shl x y)) (Number 0) (a * 2 ^ b % 2 ^ t) 0 q (number z w) (λ s. low_cut (a * 2 ^ b) t (shl p q (omega (arith, s, h))) l) (λ s. number z 0)
+    if_below_gives w (low t (Two Shl x y)) (a * 2 ^ b % 2 ^ t) q (λ s. low_cut (a * 2 ^ b) t (shl p q (omega (arith, s, h))) l)
 
 pub shru_law : {z : Scene} {x y : CExpr} {a b : ℕ} (w t : ℕ) → w ≤ 64 → Gives z x a → Gives z y b → Gives z (first stem.Shru w t x y) (apply stem.Shru w t a b).0
-shru_law {z} {x} {y} {a} {b} w t h p q = choose_less (Two Shr x y) (Number 0) (a / 2 ^ b) 0 q (number z w) (λ s. shr p q (omega (arith, s, h))) (λ s. number z 0)
+shru_law {z} {x} {y} {a} {b} w t h p q = if_below_gives w (Two Shr x y) (a / 2 ^ b) q (λ s. shr p q (omega (arith, s, h)))
 
 few_gives : {z : Scene} {y : CExpr} {b : ℕ} (w : ℕ) → 0 < w → Gives z y b → Gives z (few w y) (min b (w - 1))
-few_gives {z} {y} {b} w h q = same (min b (w - 1)) (choose_less y (Number (w - 1)) b (w - 1) q (number z w) (λ s. q) (λ s. number z (w - 1))) (by (cases_lt b w))
+few_gives {z} {y} {b} w h q = any (number_of y) refl
   where
     by : (b < w) ⊎ (w ≤ b) → cond (nat_lt b w) b (w - 1) ≡ min b (w - 1)
     by (inl s) = let t : nat_lt b w ≡ true = grind (arith, nat_tests) in rw t (omega (arith, s))
     by (inr s) = let t : nat_lt b w ≡ false = grind (arith, nat_tests) in rw t (omega (arith, s))
+
+    any : (o : Option ℕ) → number_of y ≡ o → Gives z (few_by w y o) (min b (w - 1))
+    any (Some n) k = same (min b (w - 1)) (number z (min n (w - 1))) (ap (λ n. min n (w - 1)) (number_value k q))
+    any None k = same (min b (w - 1)) (choose_less y (Number (w - 1)) b (w - 1) q (number z w) (λ s. q) (λ s. number z (w - 1))) (by (cases_lt b w))
+
+half_gives : {z : Scene} {y : CExpr} {b : ℕ} (w : ℕ) → 0 < w → w ≤ 64 → Gives z y b → Gives z (half_down w y) (half w / 2 ^ min b (w - 1))
+half_gives {z} {y} {b} w h l q = any (number_of y) refl
+  where
+    any : (o : Option ℕ) → number_of y ≡ o → Gives z (half_by w y o) (half w / 2 ^ min b (w - 1))
+    any (Some n) k = same (half w / 2 ^ min b (w - 1)) (number z (half w / 2 ^ min n (w - 1))) (ap (λ n. half w / 2 ^ min n (w - 1)) (number_value k q))
+    any None k = shr (number z (half w)) (few_gives w h q) (omega (arith, h, l))
 
 pub shrs_law : {z : Scene} {x y : CExpr} {a b : ℕ} (w t : ℕ) → 0 < w → w ≤ 64 → t ≤ 64 → Gives z x a → Gives z y b → a < 2 ^ w → Gives z (first stem.Shrs w t x y) (apply stem.Shrs w t a b).0
 shrs_law {z} {x} {y} {a} {b} w t h l k p q m =
@@ -330,7 +353,7 @@ shrs_law {z} {x} {y} {a} {b} w t h l k p q m =
     let small : c < 64 = omega (arith, h, l) in
     let count = few_gives w h q in
     let moved = shr (turned_gives w p l) count small in
-    let least = shr (number z (half w)) count small in
+    let least = half_gives w h l q in
     let parts : half w ≡ 2 ^ (w - 1 - c) * 2 ^ c = ap (λ n. 2 ^ n) (let e : w - 1 ≡ w - 1 - c + c = omega (arith, h) in e) ∙ pow-add 2 (w - 1 - c) c in
     let quotient : half w / 2 ^ c ≡ 2 ^ (w - 1 - c) = ap (λ n. n / 2 ^ c) (parts ∙ (omega arith)) ∙ div-mul-add (2 ^ (w - 1 - c)) (2 ^ c) 0 (pow_pos c) in
     let s : signed w a ≡ pos A -ℤ pos (half w / 2 ^ c * 2 ^ c) = distance w a h m ∙ ap (λ n. pos A -ℤ pos n) (parts ∙ ap (λ n. n * 2 ^ c) (sym quotient)) in

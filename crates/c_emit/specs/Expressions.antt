@@ -1,12 +1,43 @@
 -- The expressions that stand for the formulas of opcodes. Numbers of w bits are worked on as numbers of 64 bits, without the bits above w; a signed number is worked on as its distance from the least one, which is never negative.
-use Rattle.std.specs.Prelude.{ℕ, zero, suc, ◌+◌, ◌-◌, ◌*◌, ◌/◌, ◌^◌, ◌==◌, ◌&&◌, Bool, true, nat_lt, nat_le, if◌then◌else◌}
+use Rattle.std.specs.Prelude.{ℕ, zero, suc, ◌+◌, ◌-◌, ◌*◌, ◌/◌, ◌^◌, ◌==◌, ◌&&◌, Bool, true, nat_lt, nat_le, min, Option, Some, None, if◌then◌else◌}
 use Rattle.orc_ops.specs.declared.stem.Stem.{Stem}
 use Rattle.orc_ops.specs.declared.stem.Stem.TheVariants as stem
 use Rattle.orc_ops.specs.Stems.{ones}
 use Rattle.c_run.specs.declared.tree.COp.TheVariants.{Add, Sub, Mul, Div, And, Or, Xor, Shl, Shr}
 use Rattle.c_run.specs.declared.tree.CCmp.TheVariants.{Less, Equal}
-use Rattle.c_run.specs.declared.tree.CExpr.{CExpr}
+use Rattle.c_run.specs.declared.tree.CExpr.{CExpr, fold-CExpr}
+use Rattle.c_run.specs.declared.tree.CExpr.TheOpen.{CExpr-F}
 use Rattle.c_run.specs.declared.tree.CExpr.TheVariants.{Number, Two, Test, Choose}
+
+-- ---- what an expression is
+
+-- the number that it is
+abbrev pub number_at : CExpr-F (Option ℕ) → Option ℕ
+number_at (CExpr-F.Number n) = Some n
+number_at (CExpr-F.V d) = None
+number_at (CExpr-F.W d) = None
+number_at (CExpr-F.P d) = None
+number_at (CExpr-F.Byte d x) = None
+number_at (CExpr-F.Two op a b) = None
+number_at (CExpr-F.Test op a b) = None
+number_at (CExpr-F.Choose c a b) = None
+
+abbrev pub number_of : CExpr → Option ℕ
+number_of = fold-CExpr (Option ℕ) number_at
+
+-- the variable that it is
+abbrev pub variable_at : CExpr-F (Option ℕ) → Option ℕ
+variable_at (CExpr-F.Number n) = None
+variable_at (CExpr-F.V d) = Some d
+variable_at (CExpr-F.W d) = None
+variable_at (CExpr-F.P d) = None
+variable_at (CExpr-F.Byte d x) = None
+variable_at (CExpr-F.Two op a b) = None
+variable_at (CExpr-F.Test op a b) = None
+variable_at (CExpr-F.Choose c a b) = None
+
+abbrev pub variable_of : CExpr → Option ℕ
+variable_of = fold-CExpr (Option ℕ) variable_at
 
 -- ---- parts
 
@@ -51,13 +82,29 @@ turned w e = low w (plus e (half w))
 abbrev pub wide : ℕ → CExpr → CExpr
 wide w e = Two Sub (turned w e) (Number (half w))
 
--- a shift's result, or 0 where the count is not below the width
+-- A shift's result, or 0 where the count is not below the width. A count that is a number is tested here, and not in the text.
+abbrev pub if_below_by : ℕ → CExpr → CExpr → Option ℕ → CExpr
+if_below_by w count e (Some n) = if nat_lt n w then e else Number 0
+if_below_by w count e None = Choose (less count (Number w)) e (Number 0)
+
 abbrev pub if_below : ℕ → CExpr → CExpr → CExpr
-if_below w count e = Choose (less count (Number w)) e (Number 0)
+if_below w count e = if_below_by w count e (number_of count)
 
 -- the count of a shift, and one less than the width in place of a greater one
+abbrev pub few_by : ℕ → CExpr → Option ℕ → CExpr
+few_by w count (Some n) = Number (min n (w - 1))
+few_by w count None = Choose (less count (Number w)) count (Number (w - 1))
+
 abbrev pub few : ℕ → CExpr → CExpr
-few w count = Choose (less count (Number w)) count (Number (w - 1))
+few w count = few_by w count (number_of count)
+
+-- half shifted down by such a count
+abbrev pub half_by : ℕ → CExpr → Option ℕ → CExpr
+half_by w count (Some n) = Number (half w / 2 ^ min n (w - 1))
+half_by w count None = Two Shr (Number (half w)) (few w count)
+
+abbrev pub half_down : ℕ → CExpr → CExpr
+half_down w count = half_by w count (number_of count)
 
 -- byte k of an expression at place j
 abbrev pub byte_to : CExpr → ℕ → ℕ → CExpr
@@ -100,7 +147,7 @@ first stem.Mins w t x y = Choose (less (turned w y) (turned w x)) y x
 first stem.Maxu w t x y = Choose (less x y) y x
 first stem.Minu w t x y = Choose (less y x) y x
 first stem.Shl w t x y = if_below w y (low t (Two Shl x y))
-first stem.Shrs w t x y = low t (Two Sub (Two Shr (turned w x) (few w y)) (Two Shr (Number (half w)) (few w y)))
+first stem.Shrs w t x y = low t (Two Sub (Two Shr (turned w x) (few w y)) (half_down w y))
 first stem.Shru w t x y = if_below w y (Two Shr x y)
 first stem.Convs w t x y = low t (wide w x)
 first stem.Low w t x y = low t x

@@ -9,8 +9,8 @@ ghost use Rattle.c_emit.specs.Expressions as expressions;
 ghost use Rattle.c_emit.specs.Expressions.{first, fits};
 
 use crate::build::{
-    at_most, choose, choose_less, copy, down, equal, few, half, if_below, less, low, mask_if,
-    number, ones, plus, swapped, turned, two, up, wide, without,
+    at_most, choose, choose_less, copy, down, equal, few, half, half_down, if_below, less, low,
+    mask_if, number, ones, plus, swapped, turned, two, up, wide, without,
 };
 use c_run::{CExpr, COp};
 use orc_ops::Stem;
@@ -343,10 +343,9 @@ fn shrs(alloc: Global, w: u32, t: u32, x: CExpr, y: CExpr) -> Result<CExpr, Allo
     ensures { IfOk result (λ e. e ≡ first stem.Shrs w t x y) }
 {
     let distance = turned(alloc, w, x)?;
-    let first = few(alloc, w, &y)?;
-    let second = few(alloc, w, &y)?;
-    let moved = two(alloc, COp::Shr, distance, first)?;
-    let least = two(alloc, COp::Shr, number(half(w)), second)?;
+    let count = few(alloc, w, &y)?;
+    let least = half_down(alloc, w, &y)?;
+    let moved = two(alloc, COp::Shr, distance, count)?;
     let rest = two(alloc, COp::Sub, moved, least)?;
     low(alloc, t, rest)
 }
