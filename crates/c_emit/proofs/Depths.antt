@@ -4,6 +4,7 @@ use Rattle.std.specs.List.{list_all}
 use Rattle.std.proofs.lemmas.Bool.Decides.{nat_tests}
 use Rattle.orc_ops.specs.declared.stem.Stem.{Stem}
 use Rattle.orc_ops.specs.declared.stem.Stem.TheVariants as stem
+use Rattle.orc_ops.specs.Stems.{ones}
 use Rattle.c_run.specs.declared.tree.COp.TheVariants.{Add, Sub, Mul, Div, And, Or, Xor, Shl, Shr}
 use Rattle.c_run.specs.declared.tree.CCmp.TheVariants.{Less, Equal}
 use Rattle.c_run.specs.declared.tree.CExpr.{CExpr}
@@ -26,9 +27,9 @@ use Rattle.c_run.specs.declared.tree.CStmt.{CStmt}
 use Rattle.c_run.specs.declared.tree.CStmt.TheVariants.{SetV, SetW, SetByte}
 use Rattle.c_run.specs.Tree.{depth, has_indexes, is_index, is_expr, is_stmt}
 use Rattle.c_emit.specs.Shapes.{Fits}
-use Rattle.c_emit.specs.Body.{temp_of, first_free, cells, all_cells, index_of, bytes_of, moved, stores, reads_var, reads_one, reads, part, lane_of_var, lane_of, lane_first, lane_second, packed, first_at, second_at, first_of, second_of, stores_by, writes_var, writes_one, writes, insn_body, body_of}
+use Rattle.c_emit.specs.Body.{temp_of, first_free, cells, sums_from, sum_count, sum_at, sums, index_of, bytes_of, moved, stores, reads_var, reads_one, reads, part, lane_of_var, lane_of, lane_first, lane_second, packed, first_at, second_at, first_of, second_of, stores_by, writes_var, writes_one, writes, insn_body, body_of}
 use Rattle.c_emit.proofs.All.{range_of}
-use Rattle.c_emit.specs.Expressions.{low, at_most, without, half, turned, number_of, variable_of, if_below, if_below_by, few, few_by, half_down, half_by, swapped, first}
+use Rattle.c_emit.specs.Expressions.{low, at_most, without, half, clamped, turned, has_sum, sum, from_sum, number_of, variable_of, if_below, if_below_by, few, few_by, half_down, half_by, swapped, first}
 
 fine_if : {a b : CExpr} (n : ℕ) (t : Bool) → Fine n a → Fine n b → Fine n (if t then a else b)
 fine_if n true p q = p
@@ -71,12 +72,31 @@ fine_half {y} {n} w p = by (number_of y)
     by (Some k) = fine_more (n + 3) (fine_number (half w / 2 ^ min k (w - 1))) (omega arith)
     by None = fine_more (n + 3) (fine_two Shr (fine_number (half w)) (fine_few w p)) (omega arith)
 
+fine_clamped : {e : CExpr} {n : ℕ} (t k : ℕ) → Fine n e → Fine (n + 3) (clamped t k e)
+fine_clamped {e} {n} t k p = fine_more (n + 3) (fine_choose (fine_test Less p (fine_number (k - half t))) (fine_number (half t)) (fine_choose (fine_test Less (fine_number (k + half t - 1)) p) (fine_number (half t - 1)) (fine_low t p))) (omega arith)
+
+sum_fine : (s : Stem) (w t : ℕ) (x y : CExpr) → Fine 3 x → Fine 3 y → Fine 8 (sum s w t x y)
+sum_fine stem.Addss w t x y fx fy = fine_more 8 (fine_two Add (fine_turned w fx) (fine_turned w fy)) (omega arith)
+sum_fine stem.Addus w t x y fx fy = fine_more 8 (fine_two Add fx fy) (omega arith)
+sum_fine stem.Subss w t x y fx fy = fine_more 8 (fine_two Sub (fine_two Add (fine_turned w fx) (fine_number (2 ^ w))) (fine_turned w fy)) (omega arith)
+sum_fine stem.Convsss w t x y fx fy = fine_more 8 (fine_turned w fx) (omega arith)
+sum_fine stem.Div255 w t x y fx fy = fine_more 8 (fine_low 16 (fine_two Add fx (fine_number 128))) (omega arith)
+sum_fine s w t x y fx fy = fine_more 8 fx (omega arith)
+
+from_sum_fine : {e : CExpr} {n : ℕ} (s : Stem) (w t : ℕ) → Fine n e → Fine (n + 5) (from_sum s w t e)
+from_sum_fine {e} {n} stem.Addss w t p = fine_more (n + 5) (fine_clamped t (2 ^ t) p) (omega arith)
+from_sum_fine {e} {n} stem.Addus w t p = fine_more (n + 5) (fine_at_most (ones t) p) (omega arith)
+from_sum_fine {e} {n} stem.Subss w t p = fine_more (n + 5) (fine_clamped t (2 ^ t) p) (omega arith)
+from_sum_fine {e} {n} stem.Convsss w t p = fine_more (n + 5) (fine_clamped t (half w) p) (omega arith)
+from_sum_fine {e} {n} stem.Div255 w t p = fine_more (n + 5) (fine_two Shr (fine_low 16 (fine_two Add p (fine_two Shr p (fine_number 8)))) (fine_number 8)) (omega arith)
+from_sum_fine {e} {n} s w t p = fine_more (n + 5) p (omega arith)
+
 pub first_fine : (s : Stem) (w t : ℕ) (x y : CExpr) → w ≤ 64 → Fine 3 x → Fine 3 y → Fine 24 (first s w t x y)
 first_fine stem.Add w t x y l fx fy = fine_more 24 (fine_low _ (fine_two Add fx fy)) (omega arith)
-first_fine stem.Addss w t x y l fx fy = fine_more 24 (fine_turned _ (fine_at_most _ (fine_without (fine_two Add (fine_turned _ fx) (fine_turned _ fy)) (fine_number _)))) (omega arith)
-first_fine stem.Addus w t x y l fx fy = fine_more 24 (fine_at_most _ (fine_two Add fx fy)) (omega arith)
+first_fine stem.Addss w t x y l fx fy = fine_more 24 (from_sum_fine stem.Addss w t (sum_fine stem.Addss w t x y fx fy)) (omega arith)
+first_fine stem.Addus w t x y l fx fy = fine_more 24 (from_sum_fine stem.Addus w t (sum_fine stem.Addus w t x y fx fy)) (omega arith)
 first_fine stem.Sub w t x y l fx fy = fine_more 24 (fine_low _ (fine_two Sub fx fy)) (omega arith)
-first_fine stem.Subss w t x y l fx fy = fine_more 24 (fine_turned _ (fine_at_most _ (fine_without (fine_two Add (fine_turned _ fx) (fine_number _)) (fine_turned _ fy)))) (omega arith)
+first_fine stem.Subss w t x y l fx fy = fine_more 24 (from_sum_fine stem.Subss w t (sum_fine stem.Subss w t x y fx fy)) (omega arith)
 first_fine stem.Subus w t x y l fx fy = fine_more 24 (fine_without fx fy) (omega arith)
 first_fine stem.Mull w t x y l fx fy = fine_more 24 (fine_low _ (fine_two Mul fx fy)) (omega arith)
 first_fine stem.Mulhs w t x y l fx fy = fine_more 24 (fine_low _ (fine_two Shr (fine_two Mul (fine_two Sub (fine_turned _ fx) (fine_number _)) (fine_two Sub (fine_turned _ fy) (fine_number _))) (fine_number _))) (omega arith)
@@ -105,8 +125,8 @@ first_fine stem.Shru w t x y l fx fy = fine_more 24 (fine_if_below w fy (fine_tw
 first_fine stem.Convs w t x y l fx fy = fine_more 24 (fine_low _ (fine_two Sub (fine_turned _ fx) (fine_number _))) (omega arith)
 first_fine stem.Low w t x y l fx fy = fine_more 24 (fine_low _ fx) (omega arith)
 first_fine stem.High w t x y l fx fy = fine_more 24 (fine_two Shr fx (fine_number _)) (omega arith)
-first_fine stem.Convsss w t x y l fx fy = fine_more 24 (fine_turned _ (fine_at_most _ (fine_without (fine_turned _ fx) (fine_number _)))) (omega arith)
-first_fine stem.Convsus w t x y l fx fy = fine_more 24 (fine_at_most _ (fine_without (fine_turned _ fx) (fine_number _))) (omega arith)
+first_fine stem.Convsss w t x y l fx fy = fine_more 24 (from_sum_fine stem.Convsss w t (sum_fine stem.Convsss w t x y fx fy)) (omega arith)
+first_fine stem.Convsus w t x y l fx fy = fine_more 24 (fine_choose (fine_test Less fx (fine_number (half w))) (fine_at_most (ones t) fx) (fine_number 0)) (omega arith)
 first_fine stem.Convuss w t x y l fx fy = fine_more 24 (fine_at_most _ fx) (omega arith)
 first_fine stem.Convuus w t x y l fx fy = fine_more 24 (fine_at_most _ fx) (omega arith)
 first_fine stem.Splat w t x y l fx fy = fine_more 24 (fine_two Mul fx (fine_number _)) (omega arith)
@@ -115,7 +135,7 @@ first_fine stem.Merge w t x y l fx fy = fine_more 24 (fine_two Add fx (fine_two 
 first_fine stem.Split w t x y l fx fy = fine_more 24 (fine_two Shr fx (fine_number _)) (omega arith)
 first_fine stem.Swap w t x y l fx fy = fine_more 24 (fine_swapped (w / 8) (w / 8) fx) (omega (arith, l))
 first_fine stem.Exchange w t x y l fx fy = fine_more 24 (fine_two Add (fine_two Shl (fine_low _ fx) (fine_number _)) (fine_two Shr fx (fine_number _))) (omega arith)
-first_fine stem.Div255 w t x y l fx fy = fine_more 24 (fine_two Shr (fine_low 16 (fine_two Add (fine_low 16 (fine_two Add fx (fine_number 128))) (fine_two Shr (fine_low 16 (fine_two Add fx (fine_number 128))) (fine_number 8)))) (fine_number 8)) (omega arith)
+first_fine stem.Div255 w t x y l fx fy = fine_more 24 (from_sum_fine stem.Div255 w t (sum_fine stem.Div255 w t x y fx fy)) (omega arith)
 first_fine stem.Divlu w t x y l fx fy = fine_more 24 (fine_choose (fine_test Equal (fine_low 8 fy) (fine_number 0)) (fine_number 255) (fine_at_most 255 (fine_two Div fx (fine_low 8 fy)))) (omega arith)
 
 -- ---- parts of instructions
@@ -147,10 +167,17 @@ fine_lane_second vars o q d [] = fine_more 3 (fine_number 0) (omega arith)
 fine_lane_second vars o q d (x ∷ []) = fine_more 3 (fine_number 0) (omega arith)
 fine_lane_second vars o q d (x ∷ y ∷ xs) = fine_lane_of vars (8 * size_of_source o 1) q (d + cells vars x) y
 
+fine_sum_at : (vars : List Var) (insn : Insn) (q : ℕ) → Fine 24 (sum_at vars insn q)
+fine_sum_at vars insn q =
+    fine_more 24 (sum_fine (row insn.op).stem (wide insn.op) (to insn.op) (lane_first vars insn.op q (first_free vars) insn.sources.items) (lane_second vars insn.op q (first_free vars) insn.sources.items)
+    (fine_lane_first vars insn.op q (first_free vars) insn.sources.items) (fine_lane_second vars insn.op q (first_free vars) insn.sources.items)) (omega arith)
+
 fine_first_at : (vars : List Var) (insn : Insn) (q : ℕ) → Fine 24 (first_at vars insn q)
 fine_first_at vars insn q =
-    first_fine (row insn.op).stem (wide insn.op) (to insn.op) (lane_first vars insn.op q (first_free vars) insn.sources.items) (lane_second vars insn.op q (first_free vars) insn.sources.items)
-    (let r = range_of (wide insn.op) (row_fits insn.op).first in r.high) (fine_lane_first vars insn.op q (first_free vars) insn.sources.items) (fine_lane_second vars insn.op q (first_free vars) insn.sources.items)
+    fine_if 24 (has_sum (row insn.op).stem)
+    (fine_more 24 (from_sum_fine (row insn.op).stem (wide insn.op) (to insn.op) (fine_v (sums_from vars insn + q))) (omega arith))
+    (first_fine (row insn.op).stem (wide insn.op) (to insn.op) (lane_first vars insn.op q (first_free vars) insn.sources.items) (lane_second vars insn.op q (first_free vars) insn.sources.items)
+    (let r = range_of (wide insn.op) (row_fits insn.op).first in r.high) (fine_lane_first vars insn.op q (first_free vars) insn.sources.items) (fine_lane_second vars insn.op q (first_free vars) insn.sources.items))
 
 fine_second_at : (vars : List Var) (insn : Insn) (q : ℕ) → Fine 24 (second_at vars insn q)
 fine_second_at vars insn q = fine_more 24 (fine_low (to insn.op) (fine_lane_first vars insn.op q (first_free vars) insn.sources.items)) (omega arith)
@@ -260,11 +287,18 @@ writes_fine vars d insn (x ∷ y ∷ more) l z h =
     (writes_one_fine vars (d + 1) (first_of vars insn) x (first_of_fine vars insn l) z a.0)
     (writes_one_fine vars (d + 1) (V d) y (fine_more 40 (fine_v d) (omega arith)) z b.0))
 
+sums_fine : (vars : List Var) (insn : Insn) (n : ℕ) → list_all is_stmt (sums vars insn n) ≡ true
+sums_fine vars insn zero = refl
+sums_fine vars insn (suc n) =
+    all_both (sums vars insn n) (SetV (sums_from vars insn + n) (sum_at vars insn n) ∷ []) (sums_fine vars insn n)
+    (one_of (SetV (sums_from vars insn + n) (sum_at vars insn n)) (expr_of (fine_sum_at vars insn n) (omega arith)))
+
 pub insn_body_fine : (vars : List Var) (insn : Insn) → Sizes vars → Fits vars insn → list_all is_stmt (insn_body vars insn) ≡ true
 unfolding insn_body
 insn_body_fine vars insn z h =
-    let d : ℕ = first_free vars + all_cells vars insn.sources.items in
-    all_both (reads vars (first_free vars) insn.sources.items) (writes vars d insn insn.results.items) (reads_fine vars (first_free vars) insn.sources.items z h.sources) (writes_fine vars d insn insn.results.items h.few z h.results)
+    let d : ℕ = sums_from vars insn + sum_count insn in
+    all_both (reads vars (first_free vars) insn.sources.items) (sums vars insn (sum_count insn) ++ writes vars d insn insn.results.items) (reads_fine vars (first_free vars) insn.sources.items z h.sources)
+    (all_both (sums vars insn (sum_count insn)) (writes vars d insn insn.results.items) (sums_fine vars insn (sum_count insn)) (writes_fine vars d insn insn.results.items h.few z h.results))
 
 -- each instruction of a list fits
 pub body_fine : (vars : List Var) (insns : List Insn) → Sizes vars → ((k : ℕ) (d : Insn) → k < length insns → Fits vars (get_or insns k d)) → list_all is_stmt (body_of vars insns) ≡ true

@@ -1,9 +1,10 @@
 -- The loops of a function in C and in emulation, with their statements.
-use Rattle.std.proofs.Common.{◌≡◌, ℕ, zero, suc, ◌+◌, ◌*◌, ◌<◌, ◌≤◌, ◌&&◌, ◌==◌, ⊎_elim, nat_lt, if◌then◌else◌, Bool, true, false, List, [], ◌∷◌, ◌++◌, length, length-append, Option, Some, None, Result, Ok, Err, refl, sym, ap, ◌∙◌, subst, arith, true≢false}
+use Rattle.std.proofs.Common.{◌≡◌, ℕ, zero, suc, ◌+◌, ◌*◌, ◌<◌, ◌≤◌, ◌&&◌, ◌==◌, ⊎_elim, nat_lt, if◌then◌else◌, Bool, true, false, List, [], ◌∷◌, ◌++◌, length, length-append, get_or, Option, Some, None, Result, Ok, Err, refl, sym, ap, ◌∙◌, subst, arith, true≢false}
 use Rattle.std.proofs.lemmas.Bool.{cases_lt}
 use Rattle.std.proofs.lemmas.Bool.Decides.{nat_tests}
 use Rattle.std.proofs.lemmas.List.{get_or_past}
 use Rattle.orc_bits.specs.Memory.{Memory}
+use Rattle.orc_ops.specs.Table.{row}
 use Rattle.orc_program.specs.declared.program.Var.{Var}
 use Rattle.orc_program.specs.declared.program.VarKind.{VarKind}
 use Rattle.orc_program.specs.declared.program.VarKind.TheVariants as kind
@@ -29,11 +30,12 @@ use Rattle.c_run.specs.Tree.{CFunctionValue}
 use Rattle.c_run.specs.Meaning as meaning
 use Rattle.c_run.specs.Meaning.{CState, Turn, Stop, Budget, go_on, counted, count, begin_turn, times}
 use Rattle.c_emit.specs.CAs.{IsCall}
-use Rattle.c_emit.specs.Expressions.{variable_of}
-use Rattle.c_emit.specs.Body.{first_free, cells, all_cells, index_of, reads_var, reads_one, reads, first_of, stores, stores_by, writes_var, writes_one, writes, insn_body, body_of, variables_of}
+use Rattle.c_emit.specs.Expressions.{variable_of, has_sum}
+use Rattle.c_emit.specs.Body.{first_free, cells, sums_from, sum_count, sums, index_of, reads_var, reads_one, reads, first_of, stores, stores_by, writes_var, writes_one, writes, insn_body, body_of, variables_of}
 use Rattle.c_emit.proofs.Doing.{Does, does_none, does_both, counting}
 use Rattle.c_emit.proofs.Passes.{checked}
 use Rattle.c_emit.proofs.Agree.{Agrees, agrees_less}
+use Rattle.c_emit.proofs.Insns.{insn_fits}
 use Rattle.c_emit.proofs.Reading.{room_both}
 use Rattle.c_emit.proofs.Writing.{HasDone, insn_does}
 
@@ -90,26 +92,37 @@ writes_few vars d insn (x ∷ y ∷ more) h =
     let n = length-append (writes_one vars (d + 1) (first_of vars insn) x) (writes_one vars (d + 1) (V d) y) in
     omega (arith, a, b, n)
 
-insn_few : (vars : List Var) (insn : Insn) → ((q : ℕ) → (var_at vars q).size ≤ 8) → length (insn_body vars insn) ≤ 21
-unfolding insn_body
-insn_few vars insn h =
-    let d : ℕ = first_free vars + all_cells vars insn.sources.items in
-    let a = reads_few vars (first_free vars) insn.sources.items in
-    let c = writes_few vars d insn insn.results.items h in
-    let n = length-append (reads vars (first_free vars) insn.sources.items) (writes vars d insn insn.results.items) in
-    omega (arith, a, c, n)
+sums_few : (vars : List Var) (insn : Insn) (n : ℕ) → length (sums vars insn n) ≡ n
+sums_few vars insn zero = refl
+sums_few vars insn (suc n) = length-append (sums vars insn n) _ ∙ (let r = sums_few vars insn n in omega (arith, r))
 
-body_few : (vars : List Var) (insns : List Insn) → ((q : ℕ) → (var_at vars q).size ≤ 8) → length (body_of vars insns) ≤ 21 * length insns
-body_few vars [] h = omega arith
-body_few vars (x ∷ xs) h =
-    let a = insn_few vars x h in
-    let b = body_few vars xs h in
+count_few : (t : Bool) (n : ℕ) → n ≤ 4 → (if t then n else 0) ≤ 4
+count_few true n h = h
+count_few false n h = omega arith
+
+insn_few : (vars : List Var) (insn : Insn) → ((q : ℕ) → (var_at vars q).size ≤ 8) → insn.prefix ≤ 4 → length (insn_body vars insn) ≤ 25
+unfolding insn_body
+insn_few vars insn h l =
+    let d : ℕ = sums_from vars insn + sum_count insn in
+    let a = reads_few vars (first_free vars) insn.sources.items in
+    let b = sums_few vars insn (sum_count insn) in
+    let k : sum_count insn ≤ 4 = count_few (has_sum (row insn.op).stem) insn.prefix l in
+    let c = writes_few vars d insn insn.results.items h in
+    let m = length-append (reads vars (first_free vars) insn.sources.items) (sums vars insn (sum_count insn) ++ writes vars d insn insn.results.items) in
+    let n = length-append (sums vars insn (sum_count insn)) (writes vars d insn insn.results.items) in
+    omega (arith, a, b, k, c, m, n)
+
+body_few : (vars : List Var) (insns : List Insn) → ((q : ℕ) → (var_at vars q).size ≤ 8) → ((k : ℕ) (d : Insn) → k < length insns → (get_or insns k d).prefix ≤ 4) → length (body_of vars insns) ≤ 25 * length insns
+body_few vars [] h l = omega arith
+body_few vars (x ∷ xs) h l =
+    let a = insn_few vars x h (l 0 x (omega arith)) in
+    let b = body_few vars xs h (λ k d m. l (suc k) d (omega (arith, m))) in
     let n = length-append (insn_body vars x) (body_of vars xs) in
     omega (arith, a, b, n)
 
--- at most twenty-one statements an instruction
-pub statements_few : (f : FunctionValue) → is_function f ≡ true → length (body_of f.vars f.insns) ≤ 21 * length f.insns
-statements_few f h = body_few f.vars f.insns (any_size f h)
+-- at most twenty-five statements an instruction
+pub statements_few : (f : FunctionValue) → is_function f ≡ true → length (body_of f.vars f.insns) ≤ 25 * length f.insns
+statements_few f h = body_few f.vars f.insns (any_size f h) (λ k d l. (insn_fits f h k d l).few)
 
 -- ---- steps of so many statements
 

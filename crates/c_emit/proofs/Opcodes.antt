@@ -1,5 +1,5 @@
 -- Opcodes on sub-lanes: the expressions of sources and results mean what emulation reads and computes.
-use Rattle.std.proofs.Common.{◌≡◌, ℕ, suc, ◌*◌, ◌/◌, ◌%◌, ◌^◌, ◌<◌, ◌≤◌, ◌||◌, ◌==◌, ⊎_elim, Bool, true, false, List, [], ◌∷◌, Some, Result, Ok, refl, sym, ap, ◌∙◌, arith}
+use Rattle.std.proofs.Common.{◌≡◌, ℕ, suc, ◌*◌, ◌/◌, ◌%◌, ◌^◌, ◌<◌, ◌≤◌, ◌||◌, ◌==◌, ⊎_elim, ◌+◌, if◌then◌else◌, Bool, true, false, List, [], ◌∷◌, Some, Result, Ok, refl, sym, ap, ◌∙◌, arith}
 use Rattle.std.specs.Prelude.{slice_get}
 use Rattle.std.proofs.lemmas.Bool.Decides.{nat_tests}
 use Rattle.std.proofs.lemmas.Nat.{pow_pos, mod_below}
@@ -24,15 +24,15 @@ use Rattle.orc_program.specs.declared.program.Insn.{Insn}
 use Rattle.orc_program.specs.Meaning.{State, Gap, go_on, sub_lane, read_cell, read_var, read_source, read_sources, param_at, lanewise}
 use Rattle.orc_program.proofs.Steps.{go_on_ok, ok_same}
 use Rattle.c_run.specs.declared.tree.CExpr.{CExpr}
-use Rattle.c_run.specs.declared.tree.CExpr.TheVariants.{Number, P}
+use Rattle.c_run.specs.declared.tree.CExpr.TheVariants.{Number, V, P}
 use Rattle.c_run.specs.Meaning.{CState, Turn}
 use Rattle.c_run.proofs.Trees.{value_p}
-use Rattle.c_emit.specs.Expressions.{first, second}
-use Rattle.c_emit.specs.Body.{temp_of, first_free, cells, lane_of_var, lane_of, lane_first, lane_second, first_at, second_at, packed}
+use Rattle.c_emit.specs.Expressions.{has_sum, sum, from_sum, first, second}
+use Rattle.c_emit.specs.Body.{temp_of, first_free, cells, sums_from, sum_at, lane_of_var, lane_of, lane_first, lane_second, first_at, second_at, packed}
 use Rattle.c_emit.proofs.Values.{Scene, Gives, same, number, low_gives}
 use Rattle.c_emit.proofs.StemLaws.{top_64}
 use Rattle.c_emit.proofs.StemLaws as law
-use Rattle.c_emit.proofs.All.{range_of, first_law}
+use Rattle.c_emit.proofs.All.{range_of, sum_value, sum_law, from_sum_law, first_law}
 use Rattle.c_emit.proofs.Rows.{widths_fit}
 use Rattle.c_emit.proofs.Doing.{scene, v_gives, part_gives, packed_gives}
 
@@ -48,6 +48,21 @@ formula_first o a b p q =
     let d = mod_below b (2 ^ (8 * size_of_source o 1)) (pow_pos (8 * size_of_source o 1)) in
     let t = top_64 (8 * size_of_source o 1) (size_low (size_of_source o 1) r.size) in
     first_law (row o).stem (wide o) (to o) (range_of (wide o) r.first) (range_of (to o) r.result) (widths_fit o) p q c (r.second b) (omega (arith, d, t))
+
+-- the sum of an opcode that has one
+abbrev pub sum_of : Op → ℕ → ℕ → ℕ
+sum_of o a b = sum_value (row o).stem (wide o) (to o) (source_of o 0 a) (source_of o 1 b)
+
+formula_sum : {z : Scene} {x y : CExpr} (o : Op) (a b : ℕ) → has_sum (row o).stem ≡ true → Gives z x (source_of o 0 a) → Gives z y (source_of o 1 b) → Gives z (sum (row o).stem (wide o) (to o) x y) (sum_of o a b)
+formula_sum o a b h p q =
+    let r = row_fits o in
+    sum_law (row o).stem (wide o) (to o) (range_of (wide o) r.first) (widths_fit o) h p q (mod_below a (2 ^ wide o) (pow_pos (wide o))) (r.second b)
+
+formula_from : {z : Scene} {e : CExpr} (o : Op) (a b : ℕ) → has_sum (row o).stem ≡ true → Gives z e (sum_of o a b) → Gives z (from_sum (row o).stem (wide o) (to o) e) (formula o a b).0
+unfolding formula
+formula_from o a b h g =
+    let r = row_fits o in
+    from_sum_law (row o).stem (wide o) (to o) (range_of (wide o) r.first) (range_of (to o) r.result) (widths_fit o) h g (mod_below a (2 ^ wide o) (pow_pos (wide o))) (r.second b)
 
 abbrev is_split : Stem → Bool
 is_split stem.Split = true
@@ -170,13 +185,34 @@ source_lanes f call r i s e o q d (x ∷ y ∷ more) a b h k =
 
 -- ---- results
 
+-- the sum of a sub-lane
+pub sum_lane : (f : FunctionValue) (call : Call) (r i : ℕ) (s : CState) (e : State) (insn : Insn) (q : ℕ) (a b : ℕ → ℕ) → has_sum (row insn.op).stem ≡ true → AreReady f call r i s e insn.op q (first_free f.vars) insn.sources.items → read_sources f call r i insn.op e insn.sources.items ≡ both_okay a b
+    → Gives (scene call (record { row = r; element = i }) s) (sum_at f.vars insn q) (sum_of insn.op (a q) (b q))
+sum_lane f call r i s e insn q a b t h m = let u = source_lanes f call r i s e insn.op q (first_free f.vars) insn.sources.items a b h m in formula_sum insn.op (a q) (b q) t u.0 u.1
+
+-- the variables of the sums have them
+abbrev pub AreSummed : FunctionValue → CState → Insn → (ℕ → ℕ) → (ℕ → ℕ) → Type 0
+AreSummed f s insn a b = (q : ℕ) → q < insn.prefix → has_sum (row insn.op).stem ≡ true → s.v (sums_from f.vars insn + q) ≡ Some (sum_of insn.op (a q) (b q))
+
+first_lane : (f : FunctionValue) (call : Call) (r i : ℕ) (s : CState) (e : State) (insn : Insn) (q : ℕ) (a b : ℕ → ℕ) → q < insn.prefix → AreSummed f s insn a b → AreReady f call r i s e insn.op q (first_free f.vars) insn.sources.items → read_sources f call r i insn.op e insn.sources.items ≡ both_okay a b
+    → Gives (scene call (record { row = r; element = i }) s) (first_at f.vars insn q) (formula insn.op (a q) (b q)).0
+first_lane f call r i s e insn q a b l sums h m = by (has_sum (row insn.op).stem) refl
+  where
+    z : Scene
+    z = scene call (record { row = r; element = i }) s
+
+    by : (t : Bool) → has_sum (row insn.op).stem ≡ t
+        → Gives z (if t then from_sum (row insn.op).stem (wide insn.op) (to insn.op) (V (sums_from f.vars insn + q)) else first (row insn.op).stem (wide insn.op) (to insn.op) (lane_first f.vars insn.op q (first_free f.vars) insn.sources.items) (lane_second f.vars insn.op q (first_free f.vars) insn.sources.items)) (formula insn.op (a q) (b q)).0
+    by true t = formula_from insn.op (a q) (b q) t (v_gives call (record { row = r; element = i }) s (sums_from f.vars insn + q) (sum_of insn.op (a q) (b q)) (sums q l t))
+    by false t = let u = source_lanes f call r i s e insn.op q (first_free f.vars) insn.sources.items a b h m in formula_first insn.op (a q) (b q) u.0 u.1
+
 -- the expression of the first result means the first result of the opcode under its prefix, which is k and one
-pub first_result : (f : FunctionValue) (call : Call) (r i : ℕ) (s : CState) (e : State) (insn : Insn) (k : ℕ) (a b : ℕ → ℕ) → insn.prefix ≡ suc k → 0 < size_of_result insn.op 0 → 8 * size_of_result insn.op 0 * suc k ≤ 64
+pub first_result : (f : FunctionValue) (call : Call) (r i : ℕ) (s : CState) (e : State) (insn : Insn) (k : ℕ) (a b : ℕ → ℕ) → insn.prefix ≡ suc k → 0 < size_of_result insn.op 0 → 8 * size_of_result insn.op 0 * suc k ≤ 64 → AreSummed f s insn a b
     → ((q : ℕ) → q ≤ k → AreReady f call r i s e insn.op q (first_free f.vars) insn.sources.items) → read_sources f call r i insn.op e insn.sources.items ≡ both_okay a b
     → Gives (scene call (record { row = r; element = i }) s) (packed (8 * size_of_result insn.op 0) k (first_at f.vars insn)) (lanewise insn.op (suc k) a b).0
-first_result f call r i s e insn k a b p z l h m =
+first_result f call r i s e insn k a b p z l sums h m =
     packed_gives (8 * size_of_result insn.op 0) k (first_at f.vars insn) (λ q. (formula insn.op (a q) (b q)).0) (omega (arith, z)) l
-    (λ q n. let u = source_lanes f call r i s e insn.op q (first_free f.vars) insn.sources.items a b (h q n) m in formula_first insn.op (a q) (b q) u.0 u.1)
+    (λ q n. first_lane f call r i s e insn q a b (omega (arith, n, p)) sums (h q n) m)
     (λ q. (formula_below insn.op (a q) (b q)).0)
 
 -- and so does that of the second, of an opcode that has one

@@ -1,11 +1,13 @@
 -- An instruction's reads and results, in C and in emulation.
-use Rattle.std.proofs.Common.{◌≡◌, ◌≢◌, ℕ, suc, ◌+◌, ◌-◌, ◌*◌, ◌^◌, ◌<◌, ◌≤◌, Bool, true, false, List, [], ◌∷◌, ◌++◌, length, Option, Some, Result, Ok, refl, sym, ap, ◌∙◌, subst, arith, true≢false}
+use Rattle.std.proofs.Common.{◌≡◌, ◌≢◌, ℕ, zero, suc, ◌⊎◌, inl, inr, if◌then◌else◌, ◌+◌, ◌-◌, ◌*◌, ◌^◌, ◌<◌, ◌≤◌, Bool, true, false, List, [], ◌∷◌, ◌++◌, length, Option, Some, Result, Ok, refl, sym, ap, ◌∙◌, subst, arith, true≢false}
 use Rattle.std.proofs.lemmas.Option.{slice_get-get_or}
+use Rattle.std.proofs.lemmas.Bool.{cases_eq}
+use Rattle.orc_bits.specs.Lanes.{change}
 use Rattle.orc_bits.specs.Memory.{Memory, read, number, value}
 use Rattle.orc_bits.proofs.LaneLaws.{pow256}
 use Rattle.orc_bits.proofs.Memories.{Bytewide, bind_some, some_one, value_small}
 use Rattle.orc_ops.specs.declared.opcode.Op.{Op}
-use Rattle.orc_ops.specs.Table.{size_of_result, size_of_source}
+use Rattle.orc_ops.specs.Table.{row, size_of_result, size_of_source}
 use Rattle.orc_program.specs.declared.program.VarKind.{VarKind}
 use Rattle.orc_program.specs.declared.program.VarKind.TheVariants as kind
 use Rattle.orc_program.specs.declared.program.Operand.{Operand}
@@ -26,11 +28,12 @@ use Rattle.c_run.specs.declared.tree.CStmt.TheVariants.{SetV}
 use Rattle.c_run.specs.Tree.{CFunctionValue}
 use Rattle.c_run.specs.Meaning.{CState}
 use Rattle.c_emit.specs.CAs.{IsCall}
-use Rattle.c_emit.specs.Body.{first_free, cells_of_kind, cells, all_cells, bytes_of, reads_var, reads_one, reads, first_of, second_of, variables_of}
+use Rattle.c_emit.specs.Expressions.{has_sum}
+use Rattle.c_emit.specs.Body.{first_free, cells_of_kind, cells, all_cells, sums_from, sum_count, sum_at, sums, bytes_of, reads_var, reads_one, reads, first_of, second_of, variables_of}
 use Rattle.c_emit.proofs.Values.{Gives, same}
 use Rattle.c_emit.proofs.Doing.{Does, does_none, does_both, does_v, counting, with_v, scene}
 use Rattle.c_emit.proofs.Cells.{bytes_give}
-use Rattle.c_emit.proofs.Opcodes.{IsReady, AreReady, both_okay, first_result, second_result}
+use Rattle.c_emit.proofs.Opcodes.{IsReady, AreReady, AreSummed, sum_of, sum_lane, both_okay, first_result, second_result}
 use Rattle.c_emit.proofs.Places.{is_at, size_at}
 use Rattle.c_emit.proofs.Passes.{IsRead, AreRead, IsChecked}
 use Rattle.c_emit.proofs.Agree.{Agrees, agrees_v, change_same, change_other}
@@ -61,12 +64,12 @@ held_still : (f : FunctionValue) (call : Call) (r i : ℕ) (s t : CState) (e : S
 held_still f call r i s t e d (operand.Var p) k h = λ a v q. (k (cells_array (var_at f.vars p).kind a) ∙ (h a v q).0, (h a v q).1)
 held_still f call r i s t e d (operand.Number n) k h = tt
 
-pub are_held_still : (f : FunctionValue) (call : Call) (r i : ℕ) (s t : CState) (e : State) (d : ℕ) (xs : List Operand) → ((k : ℕ) → k ≢ d + all_cells f.vars xs → t.v k ≡ s.v k) → AreHeld f call r i s e d xs → AreHeld f call r i t e d xs
+pub are_held_still : (f : FunctionValue) (call : Call) (r i : ℕ) (s t : CState) (e : State) (d : ℕ) (xs : List Operand) → ((k : ℕ) → k < d + all_cells f.vars xs → t.v k ≡ s.v k) → AreHeld f call r i s e d xs → AreHeld f call r i t e d xs
 are_held_still f call r i s t e d [] k h = tt
-are_held_still f call r i s t e d (x ∷ []) k h = held_still f call r i s t e d x (λ one. k d (λ z. omega (arith, z, one))) h
+are_held_still f call r i s t e d (x ∷ []) k h = held_still f call r i s t e d x (λ one. k d (omega (arith, one))) h
 are_held_still f call r i s t e d (x ∷ y ∷ more) k h = (
-  held_still f call r i s t e d x (λ one. k d (λ z. omega (arith, z, one))) h.0,
-  held_still f call r i s t e (d + cells f.vars x) y (λ one. k (d + cells f.vars x) (λ z. omega (arith, z, one))) h.1,
+  held_still f call r i s t e d x (λ one. k d (omega (arith, one))) h.0,
+  held_still f call r i s t e (d + cells f.vars x) y (λ one. k (d + cells f.vars x) (omega (arith, one))) h.1,
 )
 
 -- the state after statements that read one source
@@ -83,6 +86,14 @@ pub record HasReads (f : FunctionValue) (c : CFunctionValue) (call : Call) (r i 
   pub does : Does c call (record { row = r; element = i }) xs s state
   pub agrees : Agrees f made state e
   pub held : AreHeld f call r i state e (first_free f.vars) os
+
+-- the state after those that set n sums
+pub record HasSums (f : FunctionValue) (c : CFunctionValue) (call : Call) (r i : ℕ) (made : ℕ → Bool) (insn : Insn) (n : ℕ) (a b : ℕ → ℕ) (xs : List CStmt) (s : CState) (e : State) : Type 0 where
+  pub state : CState
+  pub does : Does c call (record { row = r; element = i }) xs s state
+  pub agrees : Agrees f made state e
+  pub held : AreHeld f call r i state e (first_free f.vars) insn.sources.items
+  pub sums : (q : ℕ) → q < n → state.v (sums_from f.vars insn + q) ≡ Some (sum_of insn.op (a q) (b q))
 
 -- the variables that statements set are declared
 pub set_room : (d n : ℕ) (e : CExpr) (xs : List CStmt) → variables_of (SetV d e ∷ xs) ≤ n → (d < n) × (variables_of xs ≤ n)
@@ -182,9 +193,9 @@ module _ (f : FunctionValue) (call : Call) (mem : Memory) (kept : is_function f 
     prefix_is : insn.prefix ≡ suc (insn.prefix - 1)
     prefix_is = let l = ok.some in omega (arith, l)
 
-    pub first_gives : (s : CState) → Agrees f (λ p. is_set earlier p) s e → AreHeld f call r i s e (first_free f.vars) insn.sources.items → Gives (scene call (record { row = r; element = i }) s) (first_of f.vars insn) (lanewise insn.op insn.prefix a b).0
-    first_gives s g held = same (lanewise insn.op insn.prefix a b).0
-        (first_result f call r i s e insn (insn.prefix - 1) a b prefix_is ok.first (subst (λ n. 8 * size_of_result insn.op 0 * n ≤ 64) prefix_is ok.first_fits)
+    pub first_gives : (s : CState) → Agrees f (λ p. is_set earlier p) s e → AreHeld f call r i s e (first_free f.vars) insn.sources.items → AreSummed f s insn a b → Gives (scene call (record { row = r; element = i }) s) (first_of f.vars insn) (lanewise insn.op insn.prefix a b).0
+    first_gives s g held sums = same (lanewise insn.op insn.prefix a b).0
+        (first_result f call r i s e insn (insn.prefix - 1) a b prefix_is ok.first (subst (λ n. 8 * size_of_result insn.op 0 * n ≤ 64) prefix_is ok.first_fits) sums
         (λ q l. ready_all earlier insn.op insn.prefix s e q (first_free f.vars) insn.sources.items (omega (arith, l, ok.some)) ok.reads g held) h)
         (ap (λ n. (lanewise insn.op n a b).0) (sym prefix_is))
 
@@ -193,3 +204,36 @@ module _ (f : FunctionValue) (call : Call) (mem : Memory) (kept : is_function f 
         (second_result f call r i s e insn (insn.prefix - 1) a b prefix_is z (subst (λ n. 8 * size_of_result insn.op 1 * n ≤ 64) prefix_is ok.second_fits)
         (λ q l. ready_all earlier insn.op insn.prefix s e q (first_free f.vars) insn.sources.items (omega (arith, l, ok.some)) ok.reads g held) h)
         (ap (λ n. (lanewise insn.op n a b).1) (sym prefix_is))
+
+    sums_do : (n : ℕ) (s : CState) → n ≤ insn.prefix → has_sum (row insn.op).stem ≡ true → variables_of (sums f.vars insn n) ≤ c.temps → Agrees f (λ p. is_set earlier p) s e → AreHeld f call r i s e (first_free f.vars) insn.sources.items → HasSums f c call r i (λ p. is_set earlier p) insn n a b (sums f.vars insn n) s e
+    sums_do zero s l t room g held = record { state = s; does = does_none c call (record { row = r; element = i }) s; agrees = g; held = held; sums = λ q m. absurd (omega (arith, m)) }
+    sums_do (suc n) s l t room g held =
+        let d : ℕ = sums_from f.vars insn + n in
+        let v : ℕ = sum_of insn.op (a n) (b n) in
+        let rooms = room_both (sums f.vars insn n) (SetV d (sum_at f.vars insn n) ∷ []) c.temps room in
+        let x = sums_do n s (omega (arith, l)) t rooms.0 g held in
+        let gives = sum_lane f call r i x.state e insn n a b t (ready_all earlier insn.op insn.prefix x.state e n (first_free f.vars) insn.sources.items (omega (arith, l)) ok.reads x.agrees x.held) h in
+        let end : CState = counting (with_v x.state d v) in
+        record {
+          state = end;
+          does = does_both x.does (does_v c call (record { row = r; element = i }) x.state d v (sum_at f.vars insn n) (set_room d c.temps (sum_at f.vars insn n) [] rooms.1).0 gives);
+          agrees = agrees_v d v (omega arith) x.agrees;
+          held = are_held_still f call r i x.state end e (first_free f.vars) insn.sources.items (λ k m. change_other x.state.v d k (Some v) (λ z. omega (arith, m, z))) x.held;
+          sums = λ q m. one x.state.v d v q m x.sums (cases_eq q n);
+        }
+      where
+        one : (g : ℕ → Option ℕ) (d v q : ℕ) → q < suc n → ((q : ℕ) → q < n → g (sums_from f.vars insn + q) ≡ Some (sum_of insn.op (a q) (b q))) → (q ≡ n) ⊎ (q ≢ n)
+            → change g (sums_from f.vars insn + n) (Some (sum_of insn.op (a n) (b n))) (sums_from f.vars insn + q) ≡ Some (sum_of insn.op (a q) (b q))
+        one g d v q m old (inl z) = subst (λ (p : ℕ). change g (sums_from f.vars insn + n) (Some (sum_of insn.op (a n) (b n))) (sums_from f.vars insn + p) ≡ Some (sum_of insn.op (a p) (b p))) (sym z) (change_same g (sums_from f.vars insn + n) (Some (sum_of insn.op (a n) (b n))))
+        one g d v q m old (inr ne) = change_other g (sums_from f.vars insn + n) (sums_from f.vars insn + q) (Some (sum_of insn.op (a n) (b n))) (λ z. ne (omega (arith, z))) ∙ old q (omega (arith, m, ne))
+
+    -- those of a stem that has sums
+    pub all_sums_do : (s : CState) → variables_of (sums f.vars insn (sum_count insn)) ≤ c.temps → Agrees f (λ p. is_set earlier p) s e → AreHeld f call r i s e (first_free f.vars) insn.sources.items → HasSums f c call r i (λ p. is_set earlier p) insn (sum_count insn) a b (sums f.vars insn (sum_count insn)) s e
+    all_sums_do s room g held = by (has_sum (row insn.op).stem) refl room
+      where
+        by : (t : Bool) → has_sum (row insn.op).stem ≡ t → variables_of (sums f.vars insn (if t then insn.prefix else 0)) ≤ c.temps → HasSums f c call r i (λ p. is_set earlier p) insn (if t then insn.prefix else 0) a b (sums f.vars insn (if t then insn.prefix else 0)) s e
+        by true t room = sums_do insn.prefix s (omega arith) t room g held
+        by false t room = record { state = s; does = does_none c call (record { row = r; element = i }) s; agrees = g; held = held; sums = λ q m. absurd (omega (arith, m)) }
+
+    pub count_is : has_sum (row insn.op).stem ≡ true → sum_count insn ≡ insn.prefix
+    count_is t = ap (λ t. if t then insn.prefix else 0) t

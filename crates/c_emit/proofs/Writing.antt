@@ -36,16 +36,16 @@ use Rattle.c_run.specs.Meaning.{CState, Turn}
 use Rattle.c_run.proofs.Trees.{value_w}
 use Rattle.c_emit.specs.CAs.{IsCall}
 use Rattle.c_emit.specs.Expressions.{low, variable_of}
-use Rattle.c_emit.specs.Body.{temp_of, first_free, all_cells, index_of, stores, stores_by, reads, first_of, second_of, writes_var, writes_one, writes, insn_body, variables_of}
+use Rattle.c_emit.specs.Body.{temp_of, first_free, sums_from, sum_count, sums, index_of, stores, stores_by, reads, first_of, second_of, writes_var, writes_one, writes, insn_body, variables_of}
 use Rattle.c_emit.proofs.Values.{Gives, add_mod, low_cut}
 use Rattle.c_emit.proofs.Doing.{Does, does_none, does_both, does_v, does_w, counting, with_v, with_w, scene, v_gives}
 use Rattle.c_emit.proofs.Known.{variable_value}
 use Rattle.c_emit.proofs.Cells.{stores_do, store_one, filled}
-use Rattle.c_emit.proofs.Opcodes.{both_okay}
+use Rattle.c_emit.proofs.Opcodes.{AreSummed, both_okay}
 use Rattle.c_emit.proofs.Places.{is_at, size_at}
 use Rattle.c_emit.proofs.Passes.{IsChecked, IsSized, AreSized}
 use Rattle.c_emit.proofs.Agree.{Agrees, agrees_less, agrees_v, change_same, change_other, numbers_apart, fill_same, store_maps, byte_small, lanewise_fits, lanewise_second_fits}
-use Rattle.c_emit.proofs.Reading.{AreHeld, are_held_still, set_room, room_both, reads_do, first_gives, second_gives}
+use Rattle.c_emit.proofs.Reading.{AreHeld, are_held_still, set_room, room_both, reads_do, all_sums_do, count_is, first_gives, second_gives}
 
 abbrev done : State → Result State Gap
 done e = Ok e
@@ -284,7 +284,7 @@ module _ (f : FunctionValue) (call : Call) (mem : Memory) (kept : is_function f 
     made p = is_set earlier p
 
     free : ℕ
-    free = first_free f.vars + all_cells f.vars insn.sources.items
+    free = sums_from f.vars insn + sum_count insn
 
     small : v.0 < 2 ^ (8 * (size_of_result insn.op 0 * insn.prefix))
     small = subst (λ n. v.0 < 2 ^ n) (sizes_same (size_of_result insn.op 0) insn.prefix) (lanewise_fits insn.op insn.prefix a b)
@@ -292,18 +292,18 @@ module _ (f : FunctionValue) (call : Call) (mem : Memory) (kept : is_function f 
     second_small : v.1 < 2 ^ (8 * (size_of_result insn.op 1 * insn.prefix))
     second_small = subst (λ n. v.1 < 2 ^ n) (sizes_same (size_of_result insn.op 1) insn.prefix) (lanewise_second_fits insn.op insn.prefix a b)
 
-    writes_do : (s : CState) (xs : List Operand) → length xs ≤ 2 → (1 < length xs → 0 < size_of_result insn.op 1) → list_all (is_in_range f.vars) xs ≡ true → AreSized f.vars insn.op insn.prefix 0 xs → variables_of (writes f.vars free insn xs) ≤ c.temps → Agrees f made s e → AreHeld f call r i s e (first_free f.vars) insn.sources.items
+    writes_do : (s : CState) (xs : List Operand) → length xs ≤ 2 → (1 < length xs → 0 < size_of_result insn.op 1) → list_all (is_in_range f.vars) xs ≡ true → AreSized f.vars insn.op insn.prefix 0 xs → variables_of (writes f.vars free insn xs) ≤ c.temps → Agrees f made s e → AreHeld f call r i s e (first_free f.vars) insn.sources.items → AreSummed f s insn a b
         → write_results f call r i v e xs ≡ done e1 → HasDone f c call r i (λ q. made q || list_any (is_place q) xs) (writes f.vars free insn xs) s e1
-    writes_do s [] l two n sized room g held h = record {
+    writes_do s [] l two n sized room g held sums h = record {
       state = s;
       does = does_none c call (record { row = r; element = i }) s;
       agrees = subst (λ e. Agrees f (λ q. made q || false) s e) (ok_same e e1 h) (agrees_less (λ q. made q || false) (λ q k h. made_before (made q) false h refl) g);
     }
-    writes_do s (x ∷ []) l two n sized room g held h =
-        let gives = first_gives f call mem kept counts is good c r i row low_i earlier insn ok e a b read s g held in
+    writes_do s (x ∷ []) l two n sized room g held sums h =
+        let gives = first_gives f call mem kept counts is good c r i row low_i earlier insn ok e a b read s g held sums in
         let w = write_operand made s e free v.0 (size_of_result insn.op 0 * insn.prefix) (first_of f.vars insn) x (both (is_in_range f.vars x) true n).0 (omega arith) room gives sized.0 small g e1 h in
         record { state = w.state; does = w.does; agrees = agrees_less (λ q. made q || (is_place q x || false)) (λ q k h. or_assoc (made q) (is_place q x) false (or_one (made q) (is_place q x) h)) (agrees_less (λ q. (made q || is_place q x) || false) (λ q k h. made_before (made q || is_place q x) false h refl) w.agrees) }
-    writes_do s (x ∷ y ∷ []) l two n sized room g held h =
+    writes_do s (x ∷ y ∷ []) l two n sized room g held sums h =
         let d : ℕ = free in
         let t : Turn = record { row = r; element = i } in
         let rooms = set_room d c.temps (second_of f.vars insn) (writes_one f.vars (d + 1) (first_of f.vars insn) x ++ writes_one f.vars (d + 1) (V d) y) room in
@@ -313,14 +313,15 @@ module _ (f : FunctionValue) (call : Call) (mem : Memory) (kept : is_function f 
         let s1 : CState = counting (with_v s d v.1) in
         let one = does_v c call t s d v.1 (second_of f.vars insn) rooms.0 last in
         let g1 : Agrees f made s1 e = agrees_v d v.1 (omega arith) g in
-        let held1 : AreHeld f call r i s1 e (first_free f.vars) insn.sources.items = are_held_still f call r i s s1 e (first_free f.vars) insn.sources.items (λ k ne. change_other s.v d k (Some v.1) ne) held in
-        let gives = first_gives f call mem kept counts is good c r i row low_i earlier insn ok e a b read s1 g1 held1 in
+        let held1 : AreHeld f call r i s1 e (first_free f.vars) insn.sources.items = are_held_still f call r i s s1 e (first_free f.vars) insn.sources.items (λ k m. change_other s.v d k (Some v.1) (λ z. omega (arith, m, z))) held in
+        let sums1 : AreSummed f s1 insn a b = λ q m t. change_other s.v d (sums_from f.vars insn + q) (Some v.1) (λ z. let k = count_is f call mem kept counts is good c r i row low_i earlier insn ok e a b read t in omega (arith, m, z, k)) ∙ sums q m t in
+        let gives = first_gives f call mem kept counts is good c r i row low_i earlier insn ok e a b read s1 g1 held1 sums1 in
         let u = go_on_ok (write_result f call r i v.0 e x) (λ t. write_result f call r i v.1 t y) e1 h in
         let w = write_operand made s1 e (d + 1) v.0 (size_of_result insn.op 0 * insn.prefix) (first_of f.vars insn) x m.0 (omega arith) both_rooms.0 gives sized.0 small g1 u.0 u.1 in
         let kept_last : w.state.v d ≡ Some v.1 = w.other d (omega arith) (λ z. omega (arith, z)) ∙ change_same s.v d (Some v.1) in
         let z = write_operand (λ q. made q || is_place q x) w.state u.0 (d + 1) v.1 (size_of_result insn.op 1 * insn.prefix) (V d) y (both (is_in_range f.vars y) true m.1).0 (omega arith) both_rooms.1 (v_gives call t w.state d v.1 kept_last) sized.1.0 second_small w.agrees e1 u.2 in
         record { state = z.state; does = does_both one (does_both w.does z.does); agrees = agrees_less (λ q. made q || (is_place q x || (is_place q y || false))) (λ q k h. or_assoc (made q) (is_place q x) (is_place q y) h) z.agrees }
-    writes_do s (x ∷ y ∷ z ∷ more) l two n sized room g held h = absurd (omega (arith, l))
+    writes_do s (x ∷ y ∷ z ∷ more) l two n sized room g held sums h = absurd (omega (arith, l))
 
   -- ---- one instruction
 
@@ -328,13 +329,17 @@ module _ (f : FunctionValue) (call : Call) (mem : Memory) (kept : is_function f 
   unfolding act insn_body
   insn_does earlier insn s e e1 ok room g h =
       let d : ℕ = first_free f.vars in
-      let rooms = room_both (reads f.vars d insn.sources.items) (writes f.vars (d + all_cells f.vars insn.sources.items) insn insn.results.items) c.temps room in
+      let d1 : ℕ = sums_from f.vars insn + sum_count insn in
+      let rooms = room_both (reads f.vars d insn.sources.items) (sums f.vars insn (sum_count insn) ++ writes f.vars d1 insn insn.results.items) c.temps room in
+      let later = room_both (sums f.vars insn (sum_count insn)) (writes f.vars d1 insn insn.results.items) c.temps rooms.1 in
       let x = go_on_ok (read_sources f call r i insn.op e insn.sources.items) (λ x. write_results f call r i (lanewise insn.op insn.prefix x.0 x.1) e insn.results.items) e1 h in
       let m = reads_do f call mem kept counts is good c r i row low_i (λ p. is_set earlier p) earlier insn.op insn.prefix s e insn.sources.items x.0.0 x.0.1 rooms.0 ok.reads g x.1 in
-      let w = writes_do earlier insn ok e e1 x.0.0 x.0.1 x.1 m.state insn.results.items ok.few ok.second ok.results ok.sizes rooms.1 m.agrees m.held x.2 in
+      let n = all_sums_do f call mem kept counts is good c r i row low_i earlier insn ok e x.0.0 x.0.1 x.1 m.state later.0 m.agrees m.held in
+      let summed : AreSummed f n.state insn x.0.0 x.0.1 = λ q l t. n.sums q (let k = count_is f call mem kept counts is good c r i row low_i earlier insn ok e x.0.0 x.0.1 x.1 t in omega (arith, l, k)) in
+      let w = writes_do earlier insn ok e e1 x.0.0 x.0.1 x.1 n.state insn.results.items ok.few ok.second ok.results ok.sizes later.1 n.agrees n.held summed x.2 in
       record {
         state = w.state;
-        does = does_both m.does w.does;
+        does = does_both m.does (does_both n.does w.does);
         agrees = agrees_less (λ p. is_set (earlier ++ insn ∷ []) p) (λ p k h. more p (sym (list_any-append (λ (insn : Insn). list_any (is_place p) insn.results.items) earlier (insn ∷ [])) ∙ h)) w.agrees;
       }
     where

@@ -16,9 +16,9 @@ use Rattle.c_run.specs.declared.tree.CExpr.TheVariants.{Number, V, W, P, Byte, T
 use Rattle.c_run.specs.declared.tree.CStmt.{CStmt}
 use Rattle.c_run.specs.declared.tree.CStmt.TheVariants.{SetV, SetW, SetByte}
 use Rattle.c_run.specs.Tree.{CFunctionValue}
-use Rattle.c_emit.specs.Expressions.{low, up, down, variable_of, first, second}
+use Rattle.c_emit.specs.Expressions.{low, up, down, variable_of, has_sum, sum, from_sum, first, second}
 
--- ---- variables: one for each temp, and behind them those of an instruction: the cells of its sources, and a result
+-- ---- variables: one for each temp, and behind them those of an instruction: the cells of its sources, its sums, and a result
 
 abbrev pub temp_of : List Var → ℕ → ℕ
 temp_of vars p = count_before kind.Temp vars p
@@ -116,9 +116,27 @@ abbrev pub packed : ℕ → ℕ → (ℕ → CExpr) → CExpr
 packed t zero g = g 0
 packed t (suc k) g = Two Add (packed t k g) (up (g (suc k)) (t * suc k))
 
+-- the variables behind those of the cells: one for the sum of each sub-lane
+abbrev pub sums_from : List Var → Insn → ℕ
+sums_from vars insn = first_free vars + all_cells vars insn.sources.items
+
+abbrev pub sum_count : Insn → ℕ
+sum_count insn = if has_sum (row insn.op).stem then insn.prefix else 0
+
+abbrev pub sum_at : List Var → Insn → ℕ → CExpr
+sum_at vars insn q = sum (row insn.op).stem (wide insn.op) (to insn.op) (lane_first vars insn.op q (first_free vars) insn.sources.items) (lane_second vars insn.op q (first_free vars) insn.sources.items)
+
+-- those of the sub-lanes below n
+abbrev pub sums : List Var → Insn → ℕ → List CStmt
+sums vars insn zero = []
+sums vars insn (suc n) = sums vars insn n ++ SetV (sums_from vars insn + n) (sum_at vars insn n) ∷ []
+
 -- the first and the second result on sub-lane q
 abbrev pub first_at : List Var → Insn → ℕ → CExpr
-first_at vars insn q = first (row insn.op).stem (wide insn.op) (to insn.op) (lane_first vars insn.op q (first_free vars) insn.sources.items) (lane_second vars insn.op q (first_free vars) insn.sources.items)
+first_at vars insn q =
+    if has_sum (row insn.op).stem
+    then from_sum (row insn.op).stem (wide insn.op) (to insn.op) (V (sums_from vars insn + q))
+    else first (row insn.op).stem (wide insn.op) (to insn.op) (lane_first vars insn.op q (first_free vars) insn.sources.items) (lane_second vars insn.op q (first_free vars) insn.sources.items)
 
 abbrev pub second_at : List Var → Insn → ℕ → CExpr
 second_at vars insn q = second (row insn.op).stem (wide insn.op) (to insn.op) (lane_first vars insn.op q (first_free vars) insn.sources.items) (lane_second vars insn.op q (first_free vars) insn.sources.items)
@@ -155,7 +173,7 @@ writes vars d insn (x ∷ y ∷ more) = SetV d (second_of vars insn) ∷ (writes
 -- ---- the whole
 
 unfoldable pub insn_body : List Var → Insn → List CStmt
-insn_body vars insn = reads vars (first_free vars) insn.sources.items ++ writes vars (first_free vars + all_cells vars insn.sources.items) insn insn.results.items
+insn_body vars insn = reads vars (first_free vars) insn.sources.items ++ (sums vars insn (sum_count insn) ++ writes vars (sums_from vars insn + sum_count insn) insn insn.results.items)
 
 abbrev pub body_of : List Var → List Insn → List CStmt
 body_of vars [] = []

@@ -67,14 +67,19 @@ at_most n e = Choose (less (Number n) e) (Number n) e
 abbrev pub without : CExpr → CExpr → CExpr
 without a b = Choose (less a b) (Number 0) (Two Sub a b)
 
+-- half of what w bits can hold
+abbrev pub half : ℕ → ℕ
+half w = 2 ^ (w - 1)
+
+-- The number of t bits of an expression less k, a multiple of 2 ^ t, as a signed one: the least or the greatest where that is past them.
+abbrev pub clamped : ℕ → ℕ → CExpr → CExpr
+clamped t k e = Choose (less e (Number (k - half t))) (Number (half t)) (Choose (less (Number (k + half t - 1)) e) (Number (half t - 1)) (low t e))
+
 -- all ones where a test holds, else 0
 abbrev pub mask_if : ℕ → CExpr → CExpr
 mask_if t c = Choose c (Number (ones t)) (Number 0)
 
 -- the distance of the signed reading from the least number of w bits; and, as that is a half turn of 2 ^ w, back again
-abbrev pub half : ℕ → ℕ
-half w = 2 ^ (w - 1)
-
 abbrev pub turned : ℕ → CExpr → CExpr
 turned w e = low w (plus e (half w))
 
@@ -117,13 +122,40 @@ swapped e n (suc k) = Two Add (swapped e n k) (byte_to e k (n - 1 - k))
 
 -- ---- formulas
 
+-- the stems whose formula has a number more than once, which a variable keeps
+abbrev pub has_sum : Stem → Bool
+has_sum stem.Addss = true
+has_sum stem.Addus = true
+has_sum stem.Subss = true
+has_sum stem.Convsss = true
+has_sum stem.Div255 = true
+has_sum s = false
+
+-- that number
+abbrev pub sum : Stem → ℕ → ℕ → CExpr → CExpr → CExpr
+sum stem.Addss w t x y = Two Add (turned w x) (turned w y)
+sum stem.Addus w t x y = Two Add x y
+sum stem.Subss w t x y = Two Sub (plus (turned w x) (2 ^ w)) (turned w y)
+sum stem.Convsss w t x y = turned w x
+sum stem.Div255 w t x y = low 16 (plus x 128)
+sum s w t x y = x
+
+-- and the result from it
+abbrev pub from_sum : Stem → ℕ → ℕ → CExpr → CExpr
+from_sum stem.Addss w t e = clamped t (2 ^ t) e
+from_sum stem.Addus w t e = at_most (ones t) e
+from_sum stem.Subss w t e = clamped t (2 ^ t) e
+from_sum stem.Convsss w t e = clamped t (half w) e
+from_sum stem.Div255 w t e = down (low 16 (Two Add e (down e 8))) 8
+from_sum s w t e = e
+
 -- The first result of a stem from sources of w bits to t bits, by the expressions of its sources. The second is a 64-bit count for a shift.
 abbrev pub first : Stem → ℕ → ℕ → CExpr → CExpr → CExpr
 first stem.Add w t x y = low t (Two Add x y)
-first stem.Addss w t x y = turned t (at_most (ones t) (without (Two Add (turned w x) (turned w y)) (Number (half t))))
-first stem.Addus w t x y = at_most (ones t) (Two Add x y)
+first stem.Addss w t x y = from_sum stem.Addss w t (sum stem.Addss w t x y)
+first stem.Addus w t x y = from_sum stem.Addus w t (sum stem.Addus w t x y)
 first stem.Sub w t x y = low t (Two Sub x y)
-first stem.Subss w t x y = turned t (at_most (ones t) (without (plus (turned w x) (half t)) (turned w y)))
+first stem.Subss w t x y = from_sum stem.Subss w t (sum stem.Subss w t x y)
 first stem.Subus w t x y = without x y
 first stem.Mull w t x y = low t (Two Mul x y)
 first stem.Mulhs w t x y = low t (down (Two Mul (wide w x) (wide w y)) w)
@@ -152,8 +184,8 @@ first stem.Shru w t x y = if_below w y (Two Shr x y)
 first stem.Convs w t x y = low t (wide w x)
 first stem.Low w t x y = low t x
 first stem.High w t x y = down x t
-first stem.Convsss w t x y = turned t (at_most (ones t) (without (turned w x) (Number (half w - half t))))
-first stem.Convsus w t x y = at_most (ones t) (without (turned w x) (Number (half w)))
+first stem.Convsss w t x y = from_sum stem.Convsss w t (sum stem.Convsss w t x y)
+first stem.Convsus w t x y = Choose (less x (Number (half w))) (at_most (ones t) x) (Number 0)
 first stem.Convuss w t x y = at_most (half t - 1) x
 first stem.Convuus w t x y = at_most (ones t) x
 first stem.Splat w t x y = Two Mul x (Number (ones t / 255))
@@ -162,7 +194,7 @@ first stem.Merge w t x y = Two Add x (up y w)
 first stem.Split w t x y = down x t
 first stem.Swap w t x y = swapped x (w / 8) (w / 8)
 first stem.Exchange w t x y = Two Add (up (low (w / 2) x) (w / 2)) (down x (w / 2))
-first stem.Div255 w t x y = let z = low 16 (plus x 128) in down (low 16 (Two Add z (down z 8))) 8
+first stem.Div255 w t x y = from_sum stem.Div255 w t (sum stem.Div255 w t x y)
 first stem.Divlu w t x y = let d = low 8 y in Choose (Test Equal d (Number 0)) (Number 255) (at_most 255 (Two Div x d))
 
 -- the second result, which only a split has

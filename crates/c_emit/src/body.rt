@@ -3,7 +3,7 @@
 ghost use Rattle.std.specs.Prelude.{◌≡◌, ◌<◌, ◌≤◌, ◌+◌, ◌*◌, ◌-◌, ◌++◌, true, IfOk, OnOk, length};
 ghost use Rattle.std.specs.List.{list_all};
 ghost use Rattle.orc_bits.specs.Widths.{IsWidth};
-ghost use Rattle.orc_ops.specs.Table.{size_of_source};
+ghost use Rattle.orc_ops.specs.Table.{row, wide, to, size_of_source};
 ghost use Rattle.orc_program.specs.Program as program;
 ghost use Rattle.orc_program.specs.Program.{var_at};
 ghost use Rattle.orc_program.specs.Kept.{is_in_range};
@@ -12,7 +12,7 @@ ghost use Rattle.c_emit.specs.Body as body;
 ghost use Rattle.c_emit.specs.Shapes.{Fits, is_there};
 
 use crate::build::{down, low, number, two, up, variable_of};
-use crate::formulas::first;
+use crate::formulas::{first, from_sum, has_sum, sum};
 use c_run::{CBody, CExpr, CIndex, COp, CStmt};
 use orc_bits::cut;
 use orc_emul::{array_number, count, count_before, variable};
@@ -229,10 +229,79 @@ fn lane_second(
     }
 }
 
-/// The first result on a sub-lane.
-fn first_at(alloc: Global, f: &Function, insn: &Insn, q: u8) -> Result<CExpr, AllocError>
+/// The first variable behind those of the cells.
+fn sums_from(f: &Function, insn: &Insn) -> u8
     requires { Fits f.now.vars insn.now }
-    ensures { IfOk result (λ e. e ≡ body.first_at f.now.vars insn.now q) }
+    ensures value { result ≡ body.sums_from f.now.vars insn.now }
+    ensures few { result ≤ 186 }
+{
+    first_free(f) + all_cells(f, insn.sources.as_slice())
+}
+
+/// How many sums an instruction keeps.
+fn sum_count(insn: &Insn) -> u8
+    ensures value { result ≡ body.sum_count insn.now }
+    ensures few { result ≤ insn.now.prefix }
+{
+    if has_sum(stem_of(insn.op)) {
+        insn.prefix
+    } else {
+        0
+    }
+}
+
+/// The sum of a sub-lane.
+fn sum_at(alloc: Global, f: &Function, insn: &Insn, q: u8) -> Result<CExpr, AllocError>
+    requires { Fits f.now.vars insn.now }
+    ensures { IfOk result (λ e. e ≡ body.sum_at f.now.vars insn.now q) }
+{
+    let from = insn.sources.as_slice();
+    let x = lane_first(alloc, f, insn.op, q, from)?;
+    let y = lane_second(alloc, f, insn.op, q, from)?;
+    sum(
+        alloc,
+        stem_of(insn.op),
+        wide_of(insn.op),
+        to_of(insn.op),
+        x,
+        y,
+    )
+}
+
+/// The sums go to variables.
+fn add_sums(alloc: Global, f: &Function, to: &mut CBody, insn: &Insn) -> Result<(), AllocError>
+    requires { Fits f.now.vars insn.now }
+    ensures { OnOk result (to.new ≡ to.old ++ body.sums f.now.vars insn.now (body.sum_count insn.now)) }
+{
+    for q in 0..sum_count(insn) {
+        let e = sum_at(alloc, f, insn, q)?;
+        to.push(CStmt::SetV(sums_from(f, insn) + q, e))?;
+    }
+    Ok(())
+}
+
+/// The first result on a sub-lane by its sum.
+fn first_by_sum(alloc: Global, f: &Function, insn: &Insn, q: u8) -> Result<CExpr, AllocError>
+    requires fits { Fits f.now.vars insn.now }
+    requires few { q < 4 }
+    ensures { IfOk result (λ e. e ≡
+        expressions.from_sum (row insn.now.op).stem (wide insn.now.op) (to insn.now.op) (CExpr.V (body.sums_from f.now.vars insn.now + q))) }
+{
+    from_sum(
+        alloc,
+        stem_of(insn.op),
+        wide_of(insn.op),
+        to_of(insn.op),
+        CExpr::V(sums_from(f, insn) + q),
+    )
+}
+
+/// The first result on a sub-lane by its sources.
+fn first_by_lanes(alloc: Global, f: &Function, insn: &Insn, q: u8) -> Result<CExpr, AllocError>
+    requires { Fits f.now.vars insn.now }
+    ensures { IfOk result (λ e. e ≡ expressions.first (row insn.now.op).stem (wide insn.now.op) (to insn.now.op)
+        (body.lane_first f.now.vars insn.now.op q (body.first_free f.now.vars) insn.now.sources.items)
+        (body.lane_second f.now.vars insn.now.op q (body.first_free f.now.vars) insn.now.sources.items)) }
 {
     let from = insn.sources.as_slice();
     let x = lane_first(alloc, f, insn.op, q, from)?;
@@ -245,6 +314,19 @@ fn first_at(alloc: Global, f: &Function, insn: &Insn, q: u8) -> Result<CExpr, Al
         x,
         y,
     )
+}
+
+/// The first result on a sub-lane.
+fn first_at(alloc: Global, f: &Function, insn: &Insn, q: u8) -> Result<CExpr, AllocError>
+    requires fits { Fits f.now.vars insn.now }
+    requires few { q < 4 }
+    ensures { IfOk result (λ e. e ≡ body.first_at f.now.vars insn.now q) }
+{
+    if has_sum(stem_of(insn.op)) {
+        first_by_sum(alloc, f, insn, q)
+    } else {
+        first_by_lanes(alloc, f, insn, q)
+    }
 }
 
 /// The second result on a sub-lane.
@@ -458,13 +540,13 @@ fn add_writes(
     }
 }
 
-/// The statements of an instruction: its sources are read from the left, and its results are computed and written.
+/// The statements of an instruction: its sources are read from the left, its sums are kept, and its results are computed and written.
 #[tactic(auto, unfolding(crate::specs::Body::insn_body))]
 pub fn add_insn(alloc: Global, f: &Function, to: &mut CBody, insn: &Insn) -> Result<(), AllocError>
     requires { Fits f.now.vars insn.now }
     ensures { OnOk result (to.new ≡ to.old ++ body.insn_body f.now.vars insn.now) }
 {
     add_reads(alloc, f, to, insn.sources.as_slice())?;
-    let d = first_free(f) + all_cells(f, insn.sources.as_slice());
-    add_writes(alloc, f, to, d, insn)
+    add_sums(alloc, f, to, insn)?;
+    add_writes(alloc, f, to, sums_from(f, insn) + sum_count(insn), insn)
 }

@@ -1,6 +1,6 @@
 //! Expressions from their parts.
 
-ghost use Rattle.std.specs.Prelude.{◌≡◌, ◌<◌, ◌≤◌, ◌/◌, ◌^◌, IfOk};
+ghost use Rattle.std.specs.Prelude.{◌≡◌, ◌<◌, ◌≤◌, ◌+◌, ◌/◌, ◌^◌, IfOk};
 ghost use Rattle.orc_bits.specs.Widths.{IsWidth};
 ghost use Rattle.orc_ops.specs.Stems.{ones};
 ghost use Rattle.c_run.specs.declared.tree.CCmp.TheVariants.{Equal};
@@ -159,6 +159,21 @@ pub fn without(alloc: Global, a: CExpr, b: CExpr) -> Result<CExpr, AllocError>
     let second = copy(alloc, &b)?;
     let rest = two(alloc, COp::Sub, a, b)?;
     choose_less(alloc, first, second, number(0), rest)
+}
+
+/// The number of t bits of an expression less k as a signed one: the least or the greatest where that is past them.
+pub fn clamped(alloc: Global, t: u32, k: u64, e: CExpr) -> Result<CExpr, AllocError>
+    requires width { IsWidth t }
+    requires least { expressions.half t ≤ k }
+    requires greatest { k + expressions.half t < 2 ^ 64 }
+    ensures { IfOk result (λ r. r ≡ expressions.clamped t k e) }
+{
+    let first = copy(alloc, &e)?;
+    let second = copy(alloc, &e)?;
+    let rest = low(alloc, t, e)?;
+    let greatest = number(k + half(t) - 1);
+    let upper = choose_less(alloc, greatest, second, number(half(t) - 1), rest)?;
+    choose_less(alloc, first, number(k - half(t)), number(half(t)), upper)
 }
 
 /// All ones where a test holds, else 0.
