@@ -52,17 +52,17 @@ sum_law {z} {x} {y} {a} {b} stem.Convsss w t r e h p q k m = law.convsss_sum y w
 sum_law {z} {x} {y} {a} {b} stem.Div255 w t r e h p q k m = let i = both (w == 16) (t == 16) e in law.div255_sum y p (subst (λ w. a < 2 ^ w) (is w 16 i.0) k)
 sum_law s w t r e h p q k m = absurd (true≢false (sym h))
 
-pub from_sum_law : {z : Scene} {e : CExpr} {a b : ℕ} (s : Stem) (w t : ℕ) → Range w → Range t → fits s w t ≡ true → has_sum s ≡ true → Gives z e (sum_value s w t a b) → a < 2 ^ w → TakesSecond s w b → Gives z (from_sum s w t e) (apply s w t a b).0
-from_sum_law {z} {e} {a} {b} stem.Addss w t r u f h g k m = let p0 : 0 < w = (let i = r.low in omega (arith, i)) in one w t 32 (λ t. Gives z (from_sum stem.Addss w t e) (apply stem.Addss w t a b).0) f (λ l. law.addss_law w p0 l g k m)
-from_sum_law {z} {e} {a} {b} stem.Addus w t r u f h g k m = one w t 32 (λ t. Gives z (from_sum stem.Addus w t e) (apply stem.Addus w t a b).0) f (λ l. law.addus_law w g)
-from_sum_law {z} {e} {a} {b} stem.Subss w t r u f h g k m = let p0 : 0 < w = (let i = r.low in omega (arith, i)) in one w t 32 (λ t. Gives z (from_sum stem.Subss w t e) (apply stem.Subss w t a b).0) f (λ l. law.subss_law w p0 l g k m)
-from_sum_law {z} {e} {a} {b} stem.Convsss w t r u f h g k m = law.convsss_law b w t (let i = u.low in omega (arith, i)) (is (t + t) w f) r.high g k
-from_sum_law {z} {e} {a} {b} stem.Div255 w t r u f h g k m = law.div255_law b g
-from_sum_law s w t r u f h g k m = absurd (true≢false (sym h))
+pub from_sum_law : {z : Scene} {e : CExpr} (a b : ℕ) (s : Stem) (w t : ℕ) → Range w → Range t → fits s w t ≡ true → has_sum s ≡ true → Gives z e (sum_value s w t a b) → a < 2 ^ w → TakesSecond s w b → Gives z (from_sum s w t e) (apply s w t a b).0
+from_sum_law {z} {e} a b stem.Addss w t r u f h g k m = let p0 : 0 < w = (let i = r.low in omega (arith, i)) in one w t 32 (λ t. Gives z (from_sum stem.Addss w t e) (apply stem.Addss w t a b).0) f (λ l. law.addss_law w p0 l g k m)
+from_sum_law {z} {e} a b stem.Addus w t r u f h g k m = one w t 32 (λ t. Gives z (from_sum stem.Addus w t e) (apply stem.Addus w t a b).0) f (λ l. law.addus_law a b w g)
+from_sum_law {z} {e} a b stem.Subss w t r u f h g k m = let p0 : 0 < w = (let i = r.low in omega (arith, i)) in one w t 32 (λ t. Gives z (from_sum stem.Subss w t e) (apply stem.Subss w t a b).0) f (λ l. law.subss_law w p0 l g k m)
+from_sum_law {z} {e} a b stem.Convsss w t r u f h g k m = law.convsss_law b w t (let i = u.low in omega (arith, i)) (is (t + t) w f) r.high g k
+from_sum_law {z} {e} a b stem.Div255 w t r u f h g k m = law.div255_law a b g
+from_sum_law a b s w t r u f h g k m = absurd (true≢false (sym h))
 
 -- a formula with a sum
 first_by_sum : {z : Scene} {x y : CExpr} {a b : ℕ} (s : Stem) (w t : ℕ) → Range w → Range t → fits s w t ≡ true → has_sum s ≡ true → Gives z x a → Gives z y b → a < 2 ^ w → TakesSecond s w b → b < 2 ^ 64 → Gives z (from_sum s w t (sum s w t x y)) (apply s w t a b).0
-first_by_sum s w t r u e h p q k m g = from_sum_law s w t r u e h (sum_law s w t r e h p q k m) k m
+first_by_sum {a = a} {b = b} s w t r u e h p q k m g = from_sum_law a b s w t r u e h (sum_law s w t r e h p q k m) k m
 
 -- ---- all stems
 

@@ -62,7 +62,7 @@ formula_from : {z : Scene} {e : CExpr} (o : Op) (a b : ℕ) → has_sum (row o).
 unfolding formula
 formula_from o a b h g =
     let r = row_fits o in
-    from_sum_law (row o).stem (wide o) (to o) (range_of (wide o) r.first) (range_of (to o) r.result) (widths_fit o) h g (mod_below a (2 ^ wide o) (pow_pos (wide o))) (r.second b)
+    from_sum_law (source_of o 0 a) (source_of o 1 b) (row o).stem (wide o) (to o) (range_of (wide o) r.first) (range_of (to o) r.result) (widths_fit o) h g (mod_below a (2 ^ wide o) (pow_pos (wide o))) (r.second b)
 
 abbrev is_split : Stem → Bool
 is_split stem.Split = true

@@ -103,6 +103,10 @@ pub room_both : (xs ys : List CStmt) (n : ℕ) → variables_of (xs ++ ys) ≤ n
 room_both [] ys n h = (omega arith, h)
 room_both (x ∷ xs) ys n h = let r = room_both xs ys n (omega (arith, h)) in (let a = r.0 in omega (arith, h, a), r.1)
 
+-- an instruction that has sums
+abbrev pub is_summed : Insn → Bool
+is_summed insn = has_sum (row insn.op).stem
+
 module _ (f : FunctionValue) (call : Call) (mem : Memory) (kept : is_function f ≡ true) (counts : HasCounts f call) (is : IsCall call) (good : GoodArrays f call mem) (c : CFunctionValue) (r i : ℕ) (row : r < rows f call) (low : i < call.n) where
   -- ---- reads
 
@@ -205,7 +209,7 @@ module _ (f : FunctionValue) (call : Call) (mem : Memory) (kept : is_function f 
         (λ q l. ready_all earlier insn.op insn.prefix s e q (first_free f.vars) insn.sources.items (omega (arith, l, ok.some)) ok.reads g held) h)
         (ap (λ n. (lanewise insn.op n a b).1) (sym prefix_is))
 
-    sums_do : (n : ℕ) (s : CState) → n ≤ insn.prefix → has_sum (row insn.op).stem ≡ true → variables_of (sums f.vars insn n) ≤ c.temps → Agrees f (λ p. is_set earlier p) s e → AreHeld f call r i s e (first_free f.vars) insn.sources.items → HasSums f c call r i (λ p. is_set earlier p) insn n a b (sums f.vars insn n) s e
+    sums_do : (n : ℕ) (s : CState) → n ≤ insn.prefix → is_summed insn ≡ true → variables_of (sums f.vars insn n) ≤ c.temps → Agrees f (λ p. is_set earlier p) s e → AreHeld f call r i s e (first_free f.vars) insn.sources.items → HasSums f c call r i (λ p. is_set earlier p) insn n a b (sums f.vars insn n) s e
     sums_do zero s l t room g held = record { state = s; does = does_none c call (record { row = r; element = i }) s; agrees = g; held = held; sums = λ q m. absurd (omega (arith, m)) }
     sums_do (suc n) s l t room g held =
         let d : ℕ = sums_from f.vars insn + n in
@@ -229,11 +233,11 @@ module _ (f : FunctionValue) (call : Call) (mem : Memory) (kept : is_function f 
 
     -- those of a stem that has sums
     pub all_sums_do : (s : CState) → variables_of (sums f.vars insn (sum_count insn)) ≤ c.temps → Agrees f (λ p. is_set earlier p) s e → AreHeld f call r i s e (first_free f.vars) insn.sources.items → HasSums f c call r i (λ p. is_set earlier p) insn (sum_count insn) a b (sums f.vars insn (sum_count insn)) s e
-    all_sums_do s room g held = by (has_sum (row insn.op).stem) refl room
+    all_sums_do s room g held = by (is_summed insn) refl room
       where
-        by : (t : Bool) → has_sum (row insn.op).stem ≡ t → variables_of (sums f.vars insn (if t then insn.prefix else 0)) ≤ c.temps → HasSums f c call r i (λ p. is_set earlier p) insn (if t then insn.prefix else 0) a b (sums f.vars insn (if t then insn.prefix else 0)) s e
+        by : (t : Bool) → is_summed insn ≡ t → variables_of (sums f.vars insn (if t then insn.prefix else 0)) ≤ c.temps → HasSums f c call r i (λ p. is_set earlier p) insn (if t then insn.prefix else 0) a b (sums f.vars insn (if t then insn.prefix else 0)) s e
         by true t room = sums_do insn.prefix s (omega arith) t room g held
         by false t room = record { state = s; does = does_none c call (record { row = r; element = i }) s; agrees = g; held = held; sums = λ q m. absurd (omega (arith, m)) }
 
-    pub count_is : has_sum (row insn.op).stem ≡ true → sum_count insn ≡ insn.prefix
+    pub count_is : is_summed insn ≡ true → sum_count insn ≡ insn.prefix
     count_is t = ap (λ t. if t then insn.prefix else 0) t

@@ -93,8 +93,8 @@ addss_law {z} {e} {a} {b} w h l g k m =
 pub addus_sum : {z : Scene} {x y : CExpr} {a b : ℕ} (w : ℕ) → w ≤ 32 → Gives z x a → Gives z y b → a < 2 ^ w → b < 2 ^ w → Gives z (sum stem.Addus w w x y) (a + b)
 addus_sum {z} {x} {y} {a} {b} w l p q k m = let r = top_32 w l in add p q (omega (arith, r, k, m))
 
-pub addus_law : {z : Scene} {e : CExpr} {a b : ℕ} (w : ℕ) → Gives z e (a + b) → Gives z (from_sum stem.Addus w w e) (apply stem.Addus w w a b).0
-addus_law {z} {e} {a} {b} w g = same (clamp_u w (pos (a + b))) (at_most_gives (ones w) g) (sym (clamp_u_is w (a + b) 0 (pos (a + b)) (omega (arith, ints)) ∙ (omega arith)))
+pub addus_law : {z : Scene} {e : CExpr} (a b w : ℕ) → Gives z e (a + b) → Gives z (from_sum stem.Addus w w e) (apply stem.Addus w w a b).0
+addus_law {z} {e} a b w g = same (clamp_u w (pos (a + b))) (at_most_gives (ones w) g) (sym (clamp_u_is w (a + b) 0 (pos (a + b)) (omega (arith, ints)) ∙ (omega arith)))
 
 pub sub_law : {z : Scene} {x y : CExpr} {a b : ℕ} (w : ℕ) → w ≤ 64 → Gives z x a → Gives z y b → b < 2 ^ w → Gives z (first stem.Sub w w x y) (apply stem.Sub w w a b).0
 sub_law {z} {x} {y} {a} {b} w l p q m =
@@ -500,8 +500,8 @@ exchange_law {z} {x} {a} y b w t f l p m =
 pub div255_sum : {z : Scene} {x : CExpr} {a : ℕ} (y : CExpr) → Gives z x a → a < 2 ^ 16 → Gives z (sum stem.Div255 16 16 x y) ((a + 128) % 2 ^ 16)
 div255_sum {z} {x} {a} y p m = low_gives 16 (add p (number z 128) (let i : a + 128 < 2 ^ 64 = omega (arith, m) in i)) (omega (arith, m)) (omega arith)
 
-pub div255_law : {z : Scene} {e : CExpr} {a : ℕ} (b : ℕ) → Gives z e ((a + 128) % 2 ^ 16) → Gives z (from_sum stem.Div255 16 16 e) (apply stem.Div255 16 16 a b).0
-div255_law {z} {e} {a} b near =
+pub div255_law : {z : Scene} {e : CExpr} (a b : ℕ) → Gives z e ((a + 128) % 2 ^ 16) → Gives z (from_sum stem.Div255 16 16 e) (apply stem.Div255 16 16 a b).0
+div255_law {z} {e} a b near =
     let s : ℕ = (a + 128) % 2 ^ 16 in
     let part = shr near (number z 8) (omega arith) in
     let whole = add near part (let i : s + s / 2 ^ 8 < 2 ^ 64 = omega arith in i) in

@@ -277,13 +277,13 @@ module _ (f : FunctionValue) (call : Call) (mem : Memory) (kept : is_function f 
   sizes_same r k = grind arith
 
   module _ (earlier : List Insn) (insn : Insn) (ok : IsChecked f.vars earlier insn) (e e1 : State) (a b : ℕ → ℕ) (read : read_sources f call r i insn.op e insn.sources.items ≡ both_okay a b) where
-    v : ℕ × ℕ
+    abbrev v : ℕ × ℕ
     v = lanewise insn.op insn.prefix a b
 
-    made : ℕ → Bool
+    abbrev made : ℕ → Bool
     made p = is_set earlier p
 
-    free : ℕ
+    abbrev free : ℕ
     free = sums_from f.vars insn + sum_count insn
 
     small : v.0 < 2 ^ (8 * (size_of_result insn.op 0 * insn.prefix))

@@ -1,5 +1,5 @@
 -- The expressions that stand for the formulas of opcodes. Numbers of w bits are worked on as numbers of 64 bits, without the bits above w; a signed number is worked on as its distance from the least one, which is never negative.
-use Rattle.std.specs.Prelude.{ℕ, zero, suc, ◌+◌, ◌-◌, ◌*◌, ◌/◌, ◌^◌, ◌==◌, ◌&&◌, Bool, true, nat_lt, nat_le, min, Option, Some, None, if◌then◌else◌}
+use Rattle.std.specs.Prelude.{ℕ, zero, suc, ◌+◌, ◌-◌, ◌*◌, ◌/◌, ◌^◌, ◌==◌, ◌&&◌, Bool, true, false, nat_lt, nat_le, min, Option, Some, None, if◌then◌else◌}
 use Rattle.orc_ops.specs.declared.stem.Stem.{Stem}
 use Rattle.orc_ops.specs.declared.stem.Stem.TheVariants as stem
 use Rattle.orc_ops.specs.Stems.{ones}
