@@ -17,8 +17,9 @@ use Rattle.orc_program.specs.Program.{FunctionValue, var_at, same_kind, count_be
 use Rattle.orc_program.specs.Meaning.{State, lanewise}
 use Rattle.orc_program.proofs.Counts.{count_cons}
 use Rattle.orc_emul.proofs.Packed.{pack_below}
+use Rattle.orc_emul.proofs.Functions.{before_all}
 use Rattle.c_run.specs.Meaning.{CState}
-use Rattle.c_emit.specs.Body.{temp_of}
+use Rattle.c_emit.specs.Body.{temp_of, first_free}
 use Rattle.c_emit.proofs.Doing.{counting, with_v}
 
 -- ---- one place changed
@@ -58,7 +59,7 @@ numbers_apart k vars p q l m a b ne = λ e. ⊎_elim
 pub record Agrees (f : FunctionValue) (made : ℕ → Bool) (s : CState) (e : State) : Type 0 where
   pub memory : s.memory ≡ e.memory
   pub bytes : Bytewide e.memory
-  pub temps : (p : ℕ) → p < length f.vars → (var_at f.vars p).kind ≡ kind.Temp → made p ≡ true → (s.v (temp_of f.vars p) ≡ Some (e.temps p)) × (e.temps p < 2 ^ 64)
+  pub temps : (p : ℕ) → p < length f.vars → (var_at f.vars p).kind ≡ kind.Temp → made p ≡ true → (s.v (temp_of f.vars p) ≡ Some (e.temps p)) × (e.temps p < 2 ^ (8 * (var_at f.vars p).size))
   pub sums : (p : ℕ) → p < length f.vars → (var_at f.vars p).kind ≡ kind.Accumulator → (s.w (count_before kind.Accumulator f.vars p) ≡ Some (e.sums p)) × (e.sums p < 2 ^ 64)
   pub g : s.g ≡ []
 
@@ -66,12 +67,12 @@ pub record Agrees (f : FunctionValue) (made : ℕ → Bool) (s : CState) (e : St
 pub agrees_less : {f : FunctionValue} {made : ℕ → Bool} {s : CState} {e : State} (fewer : ℕ → Bool) → ((p : ℕ) → (var_at f.vars p).kind ≡ kind.Temp → fewer p ≡ true → made p ≡ true) → Agrees f made s e → Agrees f fewer s e
 agrees_less fewer h a = record { memory = a.memory; bytes = a.bytes; temps = λ p l k m. a.temps p l k (h p k m); sums = a.sums; g = a.g }
 
--- a variable before those of the temps is set
-pub agrees_v : {f : FunctionValue} {made : ℕ → Bool} {s : CState} {e : State} (d x : ℕ) → d < 4 → Agrees f made s e → Agrees f made (counting (with_v s d x)) e
+-- a variable behind those of the temps is set
+pub agrees_v : {f : FunctionValue} {made : ℕ → Bool} {s : CState} {e : State} (d x : ℕ) → first_free f.vars ≤ d → Agrees f made s e → Agrees f made (counting (with_v s d x)) e
 agrees_v {f} {made} {s} {e} d x l a = record {
   memory = a.memory;
   bytes = a.bytes;
-  temps = λ p i k m. (change_other s.v d (temp_of f.vars p) (Some x) (λ z. omega (arith, z, l)) ∙ (a.temps p i k m).0, (a.temps p i k m).1);
+  temps = λ p i k m. (change_other s.v d (temp_of f.vars p) (Some x) (λ z. let b = before_all kind.Temp f.vars p i (ap (same_kind kind.Temp) k) in omega (arith, z, l, b)) ∙ (a.temps p i k m).0, (a.temps p i k m).1);
   sums = a.sums;
   g = a.g;
 }
@@ -103,14 +104,8 @@ bytes_low n h = subst (λ k. k ≤ 2 ^ 64) (sym (pow256 n)) (pow_mono {i = 8 * n
 
 -- ---- results
 
-pub lanewise_low : (o : Op) (k : ℕ) (a b : ℕ → ℕ) → 8 * size_of_result o 0 * k ≤ 64 → (lanewise o k a b).0 < 2 ^ 64
-lanewise_low o k a b h =
-    let p = pack_below (8 * size_of_result o 0) k (λ q. (formula o (a q) (b q)).0) (λ q. (formula_below o (a q) (b q)).0) in
-    let m : 2 ^ (8 * size_of_result o 0 * k) ≤ 2 ^ 64 = pow_mono {i = 8 * size_of_result o 0 * k} {j = 64} h in
-    omega (arith, p, m)
+pub lanewise_fits : (o : Op) (k : ℕ) (a b : ℕ → ℕ) → (lanewise o k a b).0 < 2 ^ (8 * size_of_result o 0 * k)
+lanewise_fits o k a b = pack_below (8 * size_of_result o 0) k (λ q. (formula o (a q) (b q)).0) (λ q. (formula_below o (a q) (b q)).0)
 
-pub lanewise_second_low : (o : Op) (k : ℕ) (a b : ℕ → ℕ) → 8 * size_of_result o 1 * k ≤ 64 → (lanewise o k a b).1 < 2 ^ 64
-lanewise_second_low o k a b h =
-    let p = pack_below (8 * size_of_result o 1) k (λ q. (formula o (a q) (b q)).1) (λ q. (formula_below o (a q) (b q)).1) in
-    let m : 2 ^ (8 * size_of_result o 1 * k) ≤ 2 ^ 64 = pow_mono {i = 8 * size_of_result o 1 * k} {j = 64} h in
-    omega (arith, p, m)
+pub lanewise_second_fits : (o : Op) (k : ℕ) (a b : ℕ → ℕ) → (lanewise o k a b).1 < 2 ^ (8 * size_of_result o 1 * k)
+lanewise_second_fits o k a b = pack_below (8 * size_of_result o 1) k (λ q. (formula o (a q) (b q)).1) (λ q. (formula_below o (a q) (b q)).1)

@@ -8,7 +8,9 @@ use Rattle.orc_bits.proofs.LaneLaws.{pow256}
 use Rattle.orc_program.specs.declared.program.Var.{Var}
 use Rattle.orc_program.specs.declared.call.Call.{Call}
 use Rattle.orc_program.specs.Program.{var_at, array_number}
+use Rattle.c_run.specs.declared.tree.CExpr.{CExpr}
 use Rattle.c_run.specs.declared.tree.CExpr.TheVariants.{V}
+use Rattle.c_run.specs.declared.tree.CStmt.TheVariants.{SetByte}
 use Rattle.c_run.specs.Tree.{CFunctionValue}
 use Rattle.c_run.specs.Meaning.{CState, Turn, byte_address}
 use Rattle.c_run.proofs.Trees.{value_byte}
@@ -72,3 +74,11 @@ stores_do c call t s vars p a d x (suc n) h l k m v =
         let b : x / 2 ^ (8 * n) % 256 ≡ x / 256 ^ n % 256 = ap (λ i. x / i % 256) (sym (pow256 n)) in
         let e : s.done + n + 1 ≡ s.done + suc n = omega arith in
         subst (λ (y : CState). Does c call t (stores vars p d (suc n)) s y) (ap₂ (λ b i. let y : CState = record s { memory = put (fill n s.memory a (λ j. x / 256 ^ j % 256)) ((a + n) % 2 ^ 64) b; done = i } in y) b e) r
+
+-- an expression goes to a cell of one byte
+pub store_one : (c : CFunctionValue) (call : Call) (t : Turn) (s : CState) (vars : List Var) (p a x : ℕ) (e : CExpr) → IsAt call t vars p a → 0 < (var_at vars p).size → is_some (s.memory ((a + 0) % 2 ^ 64)) ≡ true → Gives (scene call t s) e x → Does c call t (SetByte (array_number vars p) (index_of vars p 0) e ∷ []) s (filled s a x 1)
+unfolding fill
+store_one c call t s vars p a x e h l m g =
+    let b : x % 256 ≡ x / 256 ^ 0 % 256 = omega arith in
+    subst (λ b. Does c call t (SetByte (array_number vars p) (index_of vars p 0) e ∷ []) s (counting (with_byte s ((a + 0) % 2 ^ 64) b))) b
+    (does_byte c call t s (array_number vars p) ((a + 0) % 2 ^ 64) x (index_of vars p 0) e (h.address 0 l) m g)

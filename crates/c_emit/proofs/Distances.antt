@@ -33,7 +33,7 @@ distance w a h l = by (cases_lt a (half w))
     by (inr k) = let t : nat_lt a (2 ^ (w - 1)) ≡ false = grind (arith, nat_tests) in let e = turn_high w a h k l in let d = twice w h in ap (λ c. cond c (pos a) (pos a -ℤ pos (2 ^ w))) t ∙ (omega (arith, ints, e, d))
 
 -- numbers that differ by multiples of q are the same modulo q
-same_mod : (x y k l q : ℕ) → x + k * q ≡ y + l * q → x % q ≡ y % q
+pub same_mod : (x y k l q : ℕ) → x + k * q ≡ y + l * q → x % q ≡ y % q
 same_mod x y k l q e = sym (add-mul-mod_self_right x k q) ∙ ap (λ n. n % q) e ∙ add-mul-mod_self_right y l q
 
 -- the low bits of a difference

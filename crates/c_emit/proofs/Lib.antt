@@ -1,4 +1,5 @@
 pub mod Values
+pub mod Known
 pub mod Distances
 pub mod StemLaws
 pub mod Rows

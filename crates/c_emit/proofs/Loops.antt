@@ -1,9 +1,10 @@
 -- The loops of a function in C and in emulation, with their statements.
-use Rattle.std.proofs.Common.{◌≡◌, ℕ, zero, suc, ◌+◌, ◌*◌, ◌<◌, ◌≤◌, ◌&&◌, ⊎_elim, nat_lt, if◌then◌else◌, Bool, true, false, List, [], ◌∷◌, ◌++◌, length, length-append, Option, Some, Result, Ok, Err, refl, sym, ap, ◌∙◌, subst, arith, true≢false}
+use Rattle.std.proofs.Common.{◌≡◌, ℕ, zero, suc, ◌+◌, ◌*◌, ◌<◌, ◌≤◌, ◌&&◌, ◌==◌, ⊎_elim, nat_lt, if◌then◌else◌, Bool, true, false, List, [], ◌∷◌, ◌++◌, length, length-append, get_or, Option, Some, None, Result, Ok, Err, refl, sym, ap, ◌∙◌, subst, arith, true≢false}
 use Rattle.std.proofs.lemmas.Bool.{cases_lt}
 use Rattle.std.proofs.lemmas.Bool.Decides.{nat_tests}
 use Rattle.std.proofs.lemmas.List.{get_or_past}
 use Rattle.orc_bits.specs.Memory.{Memory}
+use Rattle.orc_ops.specs.Table.{row}
 use Rattle.orc_program.specs.declared.program.Var.{Var}
 use Rattle.orc_program.specs.declared.program.VarKind.{VarKind}
 use Rattle.orc_program.specs.declared.program.VarKind.TheVariants as kind
@@ -11,7 +12,7 @@ use Rattle.orc_program.specs.declared.program.Operand.{Operand}
 use Rattle.orc_program.specs.declared.program.Operand.TheVariants as operand
 use Rattle.orc_program.specs.declared.program.Insn.{Insn}
 use Rattle.orc_program.specs.declared.call.Call.{Call}
-use Rattle.orc_program.specs.Program.{FunctionValue, var_at, no_var, count_of}
+use Rattle.orc_program.specs.Program.{FunctionValue, var_at, no_var, count_of, array_number}
 use Rattle.orc_program.specs.Kept.{is_function, is_shaped, has_no_fault, all_pass}
 use Rattle.orc_program.specs.Checks.{is_set, insn_fault}
 use Rattle.orc_program.specs.Good.{GoodArrays}
@@ -21,15 +22,21 @@ use Rattle.orc_program.proofs.Sizes.{both, kept_of}
 use Rattle.orc_program.proofs.Steps.{go_on_ok, ok_same}
 use Rattle.orc_emul.specs.State.{HasCounts}
 use Rattle.orc_emul.proofs.Functions.{size_low}
+use Rattle.c_run.specs.declared.tree.CExpr.{CExpr}
+use Rattle.c_run.specs.declared.tree.CExpr.TheVariants.{V}
 use Rattle.c_run.specs.declared.tree.CStmt.{CStmt}
+use Rattle.c_run.specs.declared.tree.CStmt.TheVariants.{SetV, SetByte}
 use Rattle.c_run.specs.Tree.{CFunctionValue}
 use Rattle.c_run.specs.Meaning as meaning
 use Rattle.c_run.specs.Meaning.{CState, Turn, Stop, Budget, go_on, counted, count, begin_turn, times}
 use Rattle.c_emit.specs.CAs.{IsCall}
-use Rattle.c_emit.specs.Body.{reads_var, reads_one, reads, computes_by, stores, writes_var, writes_one, writes, insn_body, body_of}
+use Rattle.c_emit.specs.Expressions.{variable_of, has_sum}
+use Rattle.c_emit.specs.Body.{first_free, cells, sums_from, sum_count, sums, index_of, reads_var, reads_one, reads, first_of, stores, stores_by, writes_var, writes_one, writes, insn_body, body_of, variables_of}
 use Rattle.c_emit.proofs.Doing.{Does, does_none, does_both, counting}
 use Rattle.c_emit.proofs.Passes.{checked}
 use Rattle.c_emit.proofs.Agree.{Agrees, agrees_less}
+use Rattle.c_emit.proofs.Insns.{insn_fits}
+use Rattle.c_emit.proofs.Reading.{room_both}
 use Rattle.c_emit.proofs.Writing.{HasDone, insn_does}
 
 -- ---- the statements of an element
@@ -49,56 +56,73 @@ reads_one_few : (vars : List Var) (d : ℕ) (x : Operand) → length (reads_one 
 reads_one_few vars d (operand.Var p) = reads_var_few vars d p (var_at vars p).kind
 reads_one_few vars d (operand.Number n) = omega arith
 
-reads_few : (vars : List Var) (xs : List Operand) → length (reads vars xs) ≤ 2
-reads_few vars [] = omega arith
-reads_few vars (x ∷ []) = let a = reads_one_few vars 0 x in omega (arith, a)
-reads_few vars (x ∷ y ∷ more) = let a = reads_one_few vars 0 x in let b = reads_one_few vars 1 y in let n = length-append (reads_one vars 0 x) (reads_one vars 1 y) in omega (arith, a, b, n)
-
-computes_few : (vars : List Var) (insn : Insn) (xs : List Operand) → length (computes_by vars insn xs) ≤ 2
-computes_few vars insn [] = omega arith
-computes_few vars insn (x ∷ []) = omega arith
-computes_few vars insn (x ∷ y ∷ more) = omega arith
+reads_few : (vars : List Var) (d : ℕ) (xs : List Operand) → length (reads vars d xs) ≤ 2
+reads_few vars d [] = omega arith
+reads_few vars d (x ∷ []) = let a = reads_one_few vars d x in omega (arith, a)
+reads_few vars d (x ∷ y ∷ more) = let a = reads_one_few vars d x in let b = reads_one_few vars (d + cells vars x) y in let n = length-append (reads_one vars d x) (reads_one vars (d + cells vars x) y) in omega (arith, a, b, n)
 
 stores_few : (vars : List Var) (p d n : ℕ) → length (stores vars p d n) ≡ n
 stores_few vars p d zero = refl
 stores_few vars p d (suc n) = length-append (stores vars p d n) _ ∙ (let r = stores_few vars p d n in omega (arith, r))
 
-writes_var_few : (vars : List Var) (d p : ℕ) (k : VarKind) → (var_at vars p).size ≤ 8 → length (writes_var vars d p k) ≤ 8
-writes_var_few vars d p kind.Dest h = let n = stores_few vars p d (var_at vars p).size in omega (arith, n, h)
-writes_var_few vars d p kind.Temp h = omega arith
-writes_var_few vars d p kind.Accumulator h = omega arith
-writes_var_few vars d p k h = omega arith
+stores_by_few : (vars : List Var) (d p : ℕ) (x : CExpr) (o : Option ℕ) → (var_at vars p).size ≤ 8 → length (stores_by vars d p x o) ≤ 9
+stores_by_few vars d p x (Some k) h = let n = stores_few vars p k (var_at vars p).size in omega (arith, n, h)
+stores_by_few vars d p x None h = by ((var_at vars p).size == 1)
+  where
+    by : (b : Bool) → length (if b then SetByte (array_number vars p) (index_of vars p 0) x ∷ [] else SetV d x ∷ stores vars p d (var_at vars p).size) ≤ 9
+    by true = omega arith
+    by false = let n = stores_few vars p d (var_at vars p).size in omega (arith, n, h)
 
-writes_one_few : (vars : List Var) (d : ℕ) (x : Operand) → ((q : ℕ) → (var_at vars q).size ≤ 8) → length (writes_one vars d x) ≤ 8
-writes_one_few vars d (operand.Var p) h = writes_var_few vars d p (var_at vars p).kind (h p)
-writes_one_few vars d (operand.Number n) h = omega arith
+writes_var_few : (vars : List Var) (d p : ℕ) (x : CExpr) (k : VarKind) → (var_at vars p).size ≤ 8 → length (writes_var vars d p x k) ≤ 9
+writes_var_few vars d p x kind.Dest h = stores_by_few vars d p x (variable_of x) h
+writes_var_few vars d p x kind.Temp h = omega arith
+writes_var_few vars d p x kind.Accumulator h = omega arith
+writes_var_few vars d p x k h = omega arith
 
-writes_few : (vars : List Var) (xs : List Operand) → ((q : ℕ) → (var_at vars q).size ≤ 8) → length (writes vars xs) ≤ 16
-writes_few vars [] h = omega arith
-writes_few vars (x ∷ []) h = let a = writes_one_few vars 2 x h in omega (arith, a)
-writes_few vars (x ∷ y ∷ more) h = let a = writes_one_few vars 2 x h in let b = writes_one_few vars 3 y h in let n = length-append (writes_one vars 2 x) (writes_one vars 3 y) in omega (arith, a, b, n)
+writes_one_few : (vars : List Var) (d : ℕ) (e : CExpr) (x : Operand) → ((q : ℕ) → (var_at vars q).size ≤ 8) → length (writes_one vars d e x) ≤ 9
+writes_one_few vars d e (operand.Var p) h = writes_var_few vars d p e (var_at vars p).kind (h p)
+writes_one_few vars d e (operand.Number n) h = omega arith
 
-insn_few : (vars : List Var) (insn : Insn) → ((q : ℕ) → (var_at vars q).size ≤ 8) → length (insn_body vars insn) ≤ 20
+writes_few : (vars : List Var) (d : ℕ) (insn : Insn) (xs : List Operand) → ((q : ℕ) → (var_at vars q).size ≤ 8) → length (writes vars d insn xs) ≤ 19
+writes_few vars d insn [] h = omega arith
+writes_few vars d insn (x ∷ []) h = let a = writes_one_few vars d (first_of vars insn) x h in omega (arith, a)
+writes_few vars d insn (x ∷ y ∷ more) h =
+    let a = writes_one_few vars (d + 1) (first_of vars insn) x h in
+    let b = writes_one_few vars (d + 1) (V d) y h in
+    let n = length-append (writes_one vars (d + 1) (first_of vars insn) x) (writes_one vars (d + 1) (V d) y) in
+    omega (arith, a, b, n)
+
+sums_few : (vars : List Var) (insn : Insn) (n : ℕ) → length (sums vars insn n) ≡ n
+sums_few vars insn zero = refl
+sums_few vars insn (suc n) = length-append (sums vars insn n) _ ∙ (let r = sums_few vars insn n in omega (arith, r))
+
+count_few : (t : Bool) (n : ℕ) → n ≤ 4 → (if t then n else 0) ≤ 4
+count_few true n h = h
+count_few false n h = omega arith
+
+insn_few : (vars : List Var) (insn : Insn) → ((q : ℕ) → (var_at vars q).size ≤ 8) → insn.prefix ≤ 4 → length (insn_body vars insn) ≤ 25
 unfolding insn_body
-insn_few vars insn h =
-    let a = reads_few vars insn.sources.items in
-    let b = computes_few vars insn insn.results.items in
-    let c = writes_few vars insn.results.items h in
-    let m = length-append (reads vars insn.sources.items) (computes_by vars insn insn.results.items) in
-    let n = length-append (reads vars insn.sources.items ++ computes_by vars insn insn.results.items) (writes vars insn.results.items) in
-    omega (arith, a, b, c, m, n)
+insn_few vars insn h l =
+    let d : ℕ = sums_from vars insn + sum_count insn in
+    let a = reads_few vars (first_free vars) insn.sources.items in
+    let b = sums_few vars insn (sum_count insn) in
+    let k : sum_count insn ≤ 4 = count_few (has_sum (row insn.op).stem) insn.prefix l in
+    let c = writes_few vars d insn insn.results.items h in
+    let m = length-append (reads vars (first_free vars) insn.sources.items) (sums vars insn (sum_count insn) ++ writes vars d insn insn.results.items) in
+    let n = length-append (sums vars insn (sum_count insn)) (writes vars d insn insn.results.items) in
+    omega (arith, a, b, k, c, m, n)
 
-body_few : (vars : List Var) (insns : List Insn) → ((q : ℕ) → (var_at vars q).size ≤ 8) → length (body_of vars insns) ≤ 20 * length insns
-body_few vars [] h = omega arith
-body_few vars (x ∷ xs) h =
-    let a = insn_few vars x h in
-    let b = body_few vars xs h in
+body_few : (vars : List Var) (insns : List Insn) → ((q : ℕ) → (var_at vars q).size ≤ 8) → ((k : ℕ) (d : Insn) → k < length insns → (get_or insns k d).prefix ≤ 4) → length (body_of vars insns) ≤ 25 * length insns
+body_few vars [] h l = omega arith
+body_few vars (x ∷ xs) h l =
+    let a = insn_few vars x h (l 0 x (omega arith)) in
+    let b = body_few vars xs h (λ k d m. l (suc k) d (omega (arith, m))) in
     let n = length-append (insn_body vars x) (body_of vars xs) in
     omega (arith, a, b, n)
 
--- at most twenty statements an instruction
-pub statements_few : (f : FunctionValue) → is_function f ≡ true → length (body_of f.vars f.insns) ≤ 20 * length f.insns
-statements_few f h = body_few f.vars f.insns (any_size f h)
+-- at most twenty-five statements an instruction
+pub statements_few : (f : FunctionValue) → is_function f ≡ true → length (body_of f.vars f.insns) ≤ 25 * length f.insns
+statements_few f h = body_few f.vars f.insns (any_size f h) (λ k d l. (insn_fits f h k d l).few)
 
 -- ---- steps of so many statements
 
@@ -144,22 +168,23 @@ pub record Went (f : FunctionValue) (go : ℕ → CState → Result CState Stop)
   pub steps : Steps go n s state
   pub agrees : Agrees f none state e
 
-module _ (f : FunctionValue) (call : Call) (mem : Memory) (kept : is_function f ≡ true) (counts : HasCounts f call) (is : IsCall call) (good : GoodArrays f call mem) (c : CFunctionValue) (temps : c.temps ≡ 4 + count_of kind.Temp f.vars) (accs : c.accs ≡ count_of kind.Accumulator f.vars) where
-  insns_do : (r i : ℕ) → r < rows f call → i < call.n → (earlier insns : List Insn) (s : CState) (e e1 : State) → all_pass f.vars earlier insns ≡ true → Agrees f (λ p. is_set earlier p) s e → emulation.element f call r i insns e ≡ done e1 → HasDone f c call r i none (body_of f.vars insns) s e1
-  insns_do r i row low earlier [] s e e1 p g h = record { state = s; does = does_none c call (record { row = r; element = i }) s; agrees = subst (λ e. Agrees f none s e) (ok_same e e1 h) (agrees_less none (λ p k n. absurd (true≢false (sym n))) g) }
-  insns_do r i row low earlier (insn ∷ insns) s e e1 p g h =
+module _ (f : FunctionValue) (call : Call) (mem : Memory) (kept : is_function f ≡ true) (counts : HasCounts f call) (is : IsCall call) (good : GoodArrays f call mem) (c : CFunctionValue) (temps : c.temps ≡ variables_of (body_of f.vars f.insns)) (accs : c.accs ≡ count_of kind.Accumulator f.vars) where
+  insns_do : (r i : ℕ) → r < rows f call → i < call.n → (earlier insns : List Insn) (s : CState) (e e1 : State) → all_pass f.vars earlier insns ≡ true → variables_of (body_of f.vars insns) ≤ c.temps → Agrees f (λ p. is_set earlier p) s e → emulation.element f call r i insns e ≡ done e1 → HasDone f c call r i none (body_of f.vars insns) s e1
+  insns_do r i row low earlier [] s e e1 p room g h = record { state = s; does = does_none c call (record { row = r; element = i }) s; agrees = subst (λ e. Agrees f none s e) (ok_same e e1 h) (agrees_less none (λ p k n. absurd (true≢false (sym n))) g) }
+  insns_do r i row low earlier (insn ∷ insns) s e e1 p room g h =
+      let rooms = room_both (insn_body f.vars insn) (body_of f.vars insns) c.temps room in
       let a = both (is_shaped f.vars insn) (has_no_fault (insn_fault f.vars earlier insn) && all_pass f.vars (earlier ++ insn ∷ []) insns) p in
       let b = both (has_no_fault (insn_fault f.vars earlier insn)) (all_pass f.vars (earlier ++ insn ∷ []) insns) a.1 in
       let u = go_on_ok (act f call r i insn e) (emulation.element f call r i insns) e1 h in
-      let x = insn_does f call mem kept counts is good c temps accs r i row low earlier insn s e u.0 (checked f.vars earlier insn a.0 b.0) g u.1 in
-      let y = insns_do r i row low (earlier ++ insn ∷ []) insns x.state u.0 e1 b.1 x.agrees u.2 in
+      let x = insn_does f call mem kept counts is good c accs r i row low earlier insn s e u.0 (checked f.vars earlier insn a.0 b.0) rooms.0 g u.1 in
+      let y = insns_do r i row low (earlier ++ insn ∷ []) insns x.state u.0 e1 b.1 rooms.1 x.agrees u.2 in
       record { state = y.state; does = does_both x.does y.does; agrees = y.agrees }
 
   module _ (body : c.body ≡ body_of f.vars f.insns) where
     element_goes : (r i : ℕ) → r < rows f call → i < call.n → (s : CState) (e e1 : State) → Agrees f none s e → emulation.element f call r i f.insns e ≡ done e1 → Went f (λ budget. meaning.element c call budget r i) (1 + length c.body) s e1
     element_goes r i row low s e e1 g h =
         let t : Turn = record { row = r; element = i } in
-        let x = insns_do r i row low [] f.insns (counting s) e e1 (kept_of f kept).insns (agrees_less (λ p. is_set [] p) (λ p k n. absurd (true≢false (sym n))) (agrees_count g)) h in
+        let x = insns_do r i row low [] f.insns (counting s) e e1 (kept_of f kept).insns (omega (arith, temps)) (agrees_less (λ p. is_set [] p) (λ p k n. absurd (true≢false (sym n))) (agrees_count g)) h in
         let d : Does c call t c.body (counting s) x.state = subst (λ (b : List CStmt). Does c call t b (counting s) x.state) (sym body) x.does in
         let begin : Steps begin_turn 1 s (counting s) = steps_one (λ s. Some s) s s refl refl in
         let rest : Steps (λ budget. meaning.body_of c call budget t c.body) (length c.body) (counting s) x.state = record { runs = d.runs; done = d.done } in

@@ -28,7 +28,7 @@ gapless (Ok y) h = (y, refl)
 gapless (Err g) h = absurd h
 
 -- the statements are within the budget
-enough : (m n k body accs : ℕ) → body ≤ 20 * k → accs ≤ 4 → accs + (m * (1 + n * (1 + body)) + accs) ≤ 8 + m * (4 + n * (8 + 32 * k))
+enough : (m n k body accs : ℕ) → body ≤ 25 * k → accs ≤ 4 → accs + (m * (1 + n * (1 + body)) + accs) ≤ 8 + m * (4 + n * (8 + 32 * k))
 enough m n k body accs b a =
     let x : n * (1 + body) ≤ n * (8 + 32 * k) = mul-le-mul_left n (omega (arith, b)) in
     let y : m * (1 + n * (1 + body)) ≤ m * (4 + n * (8 + 32 * k)) = mul-le-mul_left m (omega (arith, x)) in

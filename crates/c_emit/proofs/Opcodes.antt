@@ -1,5 +1,5 @@
 -- Opcodes on sub-lanes: the expressions of sources and results mean what emulation reads and computes.
-use Rattle.std.proofs.Common.{◌≡◌, ℕ, suc, ◌*◌, ◌/◌, ◌%◌, ◌^◌, ◌<◌, ◌≤◌, ◌||◌, ◌==◌, ⊎_elim, Bool, true, false, List, [], ◌∷◌, Some, Result, Ok, refl, sym, ap, ◌∙◌, arith}
+use Rattle.std.proofs.Common.{◌≡◌, ℕ, suc, ◌*◌, ◌/◌, ◌%◌, ◌^◌, ◌<◌, ◌≤◌, ◌||◌, ◌==◌, ⊎_elim, ◌+◌, if◌then◌else◌, Bool, true, false, List, [], ◌∷◌, Some, Result, Ok, refl, sym, ap, ◌∙◌, arith}
 use Rattle.std.specs.Prelude.{slice_get}
 use Rattle.std.proofs.lemmas.Bool.Decides.{nat_tests}
 use Rattle.std.proofs.lemmas.Nat.{pow_pos, mod_below}
@@ -24,15 +24,15 @@ use Rattle.orc_program.specs.declared.program.Insn.{Insn}
 use Rattle.orc_program.specs.Meaning.{State, Gap, go_on, sub_lane, read_cell, read_var, read_source, read_sources, param_at, lanewise}
 use Rattle.orc_program.proofs.Steps.{go_on_ok, ok_same}
 use Rattle.c_run.specs.declared.tree.CExpr.{CExpr}
-use Rattle.c_run.specs.declared.tree.CExpr.TheVariants.{Number, P}
+use Rattle.c_run.specs.declared.tree.CExpr.TheVariants.{Number, V, P}
 use Rattle.c_run.specs.Meaning.{CState, Turn}
 use Rattle.c_run.proofs.Trees.{value_p}
-use Rattle.c_emit.specs.Expressions.{first, second}
-use Rattle.c_emit.specs.Body.{temp_of, lane_of_var, lane_of, lane_first, lane_second, first_at, second_at, packed}
+use Rattle.c_emit.specs.Expressions.{has_sum, sum, from_sum, first, second}
+use Rattle.c_emit.specs.Body.{temp_of, first_free, cells, sums_from, sum_at, lane_of_var, lane_of, lane_first, lane_second, first_at, second_at, packed}
 use Rattle.c_emit.proofs.Values.{Scene, Gives, same, number, low_gives}
 use Rattle.c_emit.proofs.StemLaws.{top_64}
 use Rattle.c_emit.proofs.StemLaws as law
-use Rattle.c_emit.proofs.All.{range_of, first_law}
+use Rattle.c_emit.proofs.All.{range_of, sum_value, sum_law, from_sum_law, first_law}
 use Rattle.c_emit.proofs.Rows.{widths_fit}
 use Rattle.c_emit.proofs.Doing.{scene, v_gives, part_gives, packed_gives}
 
@@ -48,6 +48,21 @@ formula_first o a b p q =
     let d = mod_below b (2 ^ (8 * size_of_source o 1)) (pow_pos (8 * size_of_source o 1)) in
     let t = top_64 (8 * size_of_source o 1) (size_low (size_of_source o 1) r.size) in
     first_law (row o).stem (wide o) (to o) (range_of (wide o) r.first) (range_of (to o) r.result) (widths_fit o) p q c (r.second b) (omega (arith, d, t))
+
+-- the sum of an opcode that has one
+abbrev pub sum_of : Op → ℕ → ℕ → ℕ
+sum_of o a b = sum_value (row o).stem (wide o) (to o) (source_of o 0 a) (source_of o 1 b)
+
+formula_sum : {z : Scene} {x y : CExpr} (o : Op) (a b : ℕ) → has_sum (row o).stem ≡ true → Gives z x (source_of o 0 a) → Gives z y (source_of o 1 b) → Gives z (sum (row o).stem (wide o) (to o) x y) (sum_of o a b)
+formula_sum o a b h p q =
+    let r = row_fits o in
+    sum_law (row o).stem (wide o) (to o) (range_of (wide o) r.first) (widths_fit o) h p q (mod_below a (2 ^ wide o) (pow_pos (wide o))) (r.second b)
+
+formula_from : {z : Scene} {e : CExpr} (o : Op) (a b : ℕ) → has_sum (row o).stem ≡ true → Gives z e (sum_of o a b) → Gives z (from_sum (row o).stem (wide o) (to o) e) (formula o a b).0
+unfolding formula
+formula_from o a b h g =
+    let r = row_fits o in
+    from_sum_law (source_of o 0 a) (source_of o 1 b) (row o).stem (wide o) (to o) (range_of (wide o) r.first) (range_of (to o) r.result) (widths_fit o) h g (mod_below a (2 ^ wide o) (pow_pos (wide o))) (r.second b)
 
 abbrev is_split : Stem → Bool
 is_split stem.Split = true
@@ -75,8 +90,9 @@ formula_second {z} {x} y o a b h p =
 
 -- what the state of C has for the variable at place p, whose cell is in variable d
 pub record Ready (f : FunctionValue) (call : Call) (r i : ℕ) (s : CState) (e : State) (d p : ℕ) : Type 0 where
-  pub cell : is_array_kind (var_at f.vars p).kind ≡ true → (v : ℕ) → read_cell f call r i p e ≡ Ok v → (s.v d ≡ Some v) × (v < 2 ^ 64)
-  pub temp : (var_at f.vars p).kind ≡ kind.Temp → (s.v (temp_of f.vars p) ≡ Some (e.temps p)) × (e.temps p < 2 ^ 64)
+  pub cell : is_array_kind (var_at f.vars p).kind ≡ true → (v : ℕ) → read_cell f call r i p e ≡ Ok v → (s.v d ≡ Some v) × (v < 2 ^ (8 * (var_at f.vars p).size))
+  pub temp : (var_at f.vars p).kind ≡ kind.Temp → (s.v (temp_of f.vars p) ≡ Some (e.temps p)) × (e.temps p < 2 ^ (8 * (var_at f.vars p).size))
+  pub few : (var_at f.vars p).size ≤ 8
   pub param : (var_at f.vars p).kind ≡ kind.Param → (slice_get call.params.items (count_before kind.Param f.vars p) ≡ Some (param_at f call p)) × (param_at f call p < 2 ^ 64)
 
 again : (x w : ℕ) → x % 2 ^ w % 2 ^ w ≡ x % 2 ^ w
@@ -91,7 +107,7 @@ cell_lane f call r i s e w q d p g n h l m k =
     let a = go_on_ok (read_cell f call r i p e) (λ v. okay (sub_lane w v)) g k in
     let c = h.cell n a.0 a.1 in
     let t : g q ≡ a.0 / 2 ^ (w * q) % 2 ^ w = sym (ap (λ (g : ℕ → ℕ). g q) (ok_same (sub_lane w a.0) g a.2)) in
-    same (g q % 2 ^ w) (part_gives w q l m c.1 (v_gives call (record { row = r; element = i }) s d a.0 c.0)) (sym (ap (λ n. n % 2 ^ w) t ∙ again (a.0 / 2 ^ (w * q)) w))
+    same (g q % 2 ^ w) (part_gives (var_at f.vars p).size w q h.few l m c.1 (v_gives call (record { row = r; element = i }) s d a.0 c.0)) (sym (ap (λ n. n % 2 ^ w) t ∙ again (a.0 / 2 ^ (w * q)) w))
 
 -- a variable whose number is cut into sub-lanes
 abbrev pub has_lanes : VarKind → Bool
@@ -106,7 +122,7 @@ var_lane f call r i s e w q d p g kind.Dest n h l m k = cell_lane f call r i s e
 var_lane f call r i s e w q d p g kind.Temp n h l m k =
     let c = h.temp (sym n) in
     let t : g q ≡ e.temps p / 2 ^ (w * q) % 2 ^ w = sym (ap (λ (g : ℕ → ℕ). g q) (ok_same (sub_lane w (e.temps p)) g k)) in
-    same (g q % 2 ^ w) (part_gives w q l (m refl) c.1 (v_gives call (record { row = r; element = i }) s (temp_of f.vars p) (e.temps p) c.0)) (sym (ap (λ n. n % 2 ^ w) t ∙ again (e.temps p / 2 ^ (w * q)) w))
+    same (g q % 2 ^ w) (part_gives (var_at f.vars p).size w q h.few l (m refl) c.1 (v_gives call (record { row = r; element = i }) s (temp_of f.vars p) (e.temps p) c.0)) (sym (ap (λ n. n % 2 ^ w) t ∙ again (e.temps p / 2 ^ (w * q)) w))
 var_lane f call r i s e w q d p g kind.Param n h l m k =
     let c = h.param (sym n) in
     let t : g q ≡ param_at f call p = sym (ap (λ (g : ℕ → ℕ). g q) (ok_same (λ q. param_at f call p) g k)) in
@@ -137,52 +153,73 @@ abbrev pub both_okay : (ℕ → ℕ) → (ℕ → ℕ) → Result ((ℕ → ℕ)
 both_okay a b = Ok (a, b)
 
 -- what is asked of the sources of an opcode
-abbrev pub AreReady : FunctionValue → Call → ℕ → ℕ → CState → State → Op → ℕ → List Operand → Type 0
-AreReady f call r i s e o q [] = Unit {0}
-AreReady f call r i s e o q (x ∷ []) = IsReady f call r i s e (8 * size_of_source o 0) q 0 x
-AreReady f call r i s e o q (x ∷ y ∷ more) = IsReady f call r i s e (8 * size_of_source o 0) q 0 x × IsReady f call r i s e (8 * size_of_source o 1) q 1 y
+abbrev pub AreReady : FunctionValue → Call → ℕ → ℕ → CState → State → Op → ℕ → ℕ → List Operand → Type 0
+AreReady f call r i s e o q d [] = Unit {0}
+AreReady f call r i s e o q d (x ∷ []) = IsReady f call r i s e (8 * size_of_source o 0) q d x
+AreReady f call r i s e o q d (x ∷ y ∷ more) = IsReady f call r i s e (8 * size_of_source o 0) q d x × IsReady f call r i s e (8 * size_of_source o 1) q (d + cells f.vars x) y
 
 none_lane : (call : Call) (t : Turn) (s : CState) (w : ℕ) (g : ℕ → ℕ) (q : ℕ) → (λ q. 0) ≡ g → Gives (scene call t s) (Number 0) (g q % 2 ^ w)
 none_lane call t s w g q h = same (g q % 2 ^ w) (number (scene call t s) 0) (sym (ap (λ (g : ℕ → ℕ). g q % 2 ^ w) (sym h) ∙ mod-eq_of_lt (pow_pos w)))
 
 -- the two sources of a sub-lane
-pub source_lanes : (f : FunctionValue) (call : Call) (r i : ℕ) (s : CState) (e : State) (o : Op) (q : ℕ) (xs : List Operand) (a b : ℕ → ℕ) → AreReady f call r i s e o q xs → read_sources f call r i o e xs ≡ both_okay a b
-    → Gives (scene call (record { row = r; element = i }) s) (lane_first f.vars o q xs) (source_of o 0 (a q)) × Gives (scene call (record { row = r; element = i }) s) (lane_second f.vars o q xs) (source_of o 1 (b q))
-source_lanes f call r i s e o q [] a b h k =
+pub source_lanes : (f : FunctionValue) (call : Call) (r i : ℕ) (s : CState) (e : State) (o : Op) (q d : ℕ) (xs : List Operand) (a b : ℕ → ℕ) → AreReady f call r i s e o q d xs → read_sources f call r i o e xs ≡ both_okay a b
+    → Gives (scene call (record { row = r; element = i }) s) (lane_first f.vars o q d xs) (source_of o 0 (a q)) × Gives (scene call (record { row = r; element = i }) s) (lane_second f.vars o q d xs) (source_of o 1 (b q))
+source_lanes f call r i s e o q d [] a b h k =
     let p = ok_same ((λ q. 0), (λ q. 0)) (a, b) k in
     let t : Turn = record { row = r; element = i } in
     (none_lane call t s (8 * size_of_source o 0) a q (ap (λ (v : (ℕ → ℕ) × (ℕ → ℕ)). v.0) p), none_lane call t s (8 * size_of_source o 1) b q (ap (λ (v : (ℕ → ℕ) × (ℕ → ℕ)). v.1) p))
-source_lanes f call r i s e o q (x ∷ []) a b h k =
+source_lanes f call r i s e o q d (x ∷ []) a b h k =
     let c = go_on_ok (read_source f call r i (8 * size_of_source o 0) e x) (λ g. both_okay g (λ q. 0)) (a, b) k in
     let p = ok_same (c.0, (λ q. 0)) (a, b) c.2 in
     let z = range_of (wide o) (row_fits o).first in
-    let u = operand_lane f call r i s e (8 * size_of_source o 0) q 0 x c.0 h z.high c.1 in
+    let u = operand_lane f call r i s e (8 * size_of_source o 0) q d x c.0 h z.high c.1 in
     (same (a q % 2 ^ (8 * size_of_source o 0)) u (ap (λ (v : (ℕ → ℕ) × (ℕ → ℕ)). v.0 q % 2 ^ (8 * size_of_source o 0)) p), none_lane call (record { row = r; element = i }) s (8 * size_of_source o 1) b q (ap (λ (v : (ℕ → ℕ) × (ℕ → ℕ)). v.1) p))
-source_lanes f call r i s e o q (x ∷ y ∷ more) a b h k =
+source_lanes f call r i s e o q d (x ∷ y ∷ more) a b h k =
     let c = go_on_ok (read_source f call r i (8 * size_of_source o 0) e x) (λ g. go_on (read_source f call r i (8 * size_of_source o 1) e y) (λ m. both_okay g m)) (a, b) k in
-    let d = go_on_ok (read_source f call r i (8 * size_of_source o 1) e y) (λ m. both_okay c.0 m) (a, b) c.2 in
-    let p = ok_same (c.0, d.0) (a, b) d.2 in
+    let n = go_on_ok (read_source f call r i (8 * size_of_source o 1) e y) (λ m. both_okay c.0 m) (a, b) c.2 in
+    let p = ok_same (c.0, n.0) (a, b) n.2 in
     let z = range_of (wide o) (row_fits o).first in
-    let u = operand_lane f call r i s e (8 * size_of_source o 0) q 0 x c.0 h.0 z.high c.1 in
-    let v = operand_lane f call r i s e (8 * size_of_source o 1) q 1 y d.0 h.1 (size_low (size_of_source o 1) (row_fits o).size) d.1 in
+    let u = operand_lane f call r i s e (8 * size_of_source o 0) q d x c.0 h.0 z.high c.1 in
+    let v = operand_lane f call r i s e (8 * size_of_source o 1) q (d + cells f.vars x) y n.0 h.1 (size_low (size_of_source o 1) (row_fits o).size) n.1 in
     (same (a q % 2 ^ (8 * size_of_source o 0)) u (ap (λ (v : (ℕ → ℕ) × (ℕ → ℕ)). v.0 q % 2 ^ (8 * size_of_source o 0)) p), same (b q % 2 ^ (8 * size_of_source o 1)) v (ap (λ (v : (ℕ → ℕ) × (ℕ → ℕ)). v.1 q % 2 ^ (8 * size_of_source o 1)) p))
 
 -- ---- results
 
+-- the sum of a sub-lane
+pub sum_lane : (f : FunctionValue) (call : Call) (r i : ℕ) (s : CState) (e : State) (insn : Insn) (q : ℕ) (a b : ℕ → ℕ) → has_sum (row insn.op).stem ≡ true → AreReady f call r i s e insn.op q (first_free f.vars) insn.sources.items → read_sources f call r i insn.op e insn.sources.items ≡ both_okay a b
+    → Gives (scene call (record { row = r; element = i }) s) (sum_at f.vars insn q) (sum_of insn.op (a q) (b q))
+sum_lane f call r i s e insn q a b t h m = let u = source_lanes f call r i s e insn.op q (first_free f.vars) insn.sources.items a b h m in formula_sum insn.op (a q) (b q) t u.0 u.1
+
+-- the variables of the sums have them
+abbrev pub AreSummed : FunctionValue → CState → Insn → (ℕ → ℕ) → (ℕ → ℕ) → Type 0
+AreSummed f s insn a b = (q : ℕ) → q < insn.prefix → has_sum (row insn.op).stem ≡ true → s.v (sums_from f.vars insn + q) ≡ Some (sum_of insn.op (a q) (b q))
+
+first_lane : (f : FunctionValue) (call : Call) (r i : ℕ) (s : CState) (e : State) (insn : Insn) (q : ℕ) (a b : ℕ → ℕ) → q < insn.prefix → AreSummed f s insn a b → AreReady f call r i s e insn.op q (first_free f.vars) insn.sources.items → read_sources f call r i insn.op e insn.sources.items ≡ both_okay a b
+    → Gives (scene call (record { row = r; element = i }) s) (first_at f.vars insn q) (formula insn.op (a q) (b q)).0
+first_lane f call r i s e insn q a b l sums h m = by (has_sum (row insn.op).stem) refl
+  where
+    z : Scene
+    z = scene call (record { row = r; element = i }) s
+
+    by : (t : Bool) → has_sum (row insn.op).stem ≡ t
+        → Gives z (if t then from_sum (row insn.op).stem (wide insn.op) (to insn.op) (V (sums_from f.vars insn + q)) else first (row insn.op).stem (wide insn.op) (to insn.op) (lane_first f.vars insn.op q (first_free f.vars) insn.sources.items) (lane_second f.vars insn.op q (first_free f.vars) insn.sources.items)) (formula insn.op (a q) (b q)).0
+    by true t = formula_from insn.op (a q) (b q) t (v_gives call (record { row = r; element = i }) s (sums_from f.vars insn + q) (sum_of insn.op (a q) (b q)) (sums q l t))
+    by false t = let u = source_lanes f call r i s e insn.op q (first_free f.vars) insn.sources.items a b h m in formula_first insn.op (a q) (b q) u.0 u.1
+
 -- the expression of the first result means the first result of the opcode under its prefix, which is k and one
-pub first_result : (f : FunctionValue) (call : Call) (r i : ℕ) (s : CState) (e : State) (insn : Insn) (k : ℕ) (a b : ℕ → ℕ) → insn.prefix ≡ suc k → 0 < size_of_result insn.op 0 → 8 * size_of_result insn.op 0 * suc k ≤ 64
-    → ((q : ℕ) → q ≤ k → AreReady f call r i s e insn.op q insn.sources.items) → read_sources f call r i insn.op e insn.sources.items ≡ both_okay a b
+pub first_result : (f : FunctionValue) (call : Call) (r i : ℕ) (s : CState) (e : State) (insn : Insn) (k : ℕ) (a b : ℕ → ℕ) → insn.prefix ≡ suc k → 0 < size_of_result insn.op 0 → 8 * size_of_result insn.op 0 * suc k ≤ 64 → AreSummed f s insn a b
+    → ((q : ℕ) → q ≤ k → AreReady f call r i s e insn.op q (first_free f.vars) insn.sources.items) → read_sources f call r i insn.op e insn.sources.items ≡ both_okay a b
     → Gives (scene call (record { row = r; element = i }) s) (packed (8 * size_of_result insn.op 0) k (first_at f.vars insn)) (lanewise insn.op (suc k) a b).0
-first_result f call r i s e insn k a b p z l h m =
+first_result f call r i s e insn k a b p z l sums h m =
     packed_gives (8 * size_of_result insn.op 0) k (first_at f.vars insn) (λ q. (formula insn.op (a q) (b q)).0) (omega (arith, z)) l
-    (λ q n. let u = source_lanes f call r i s e insn.op q insn.sources.items a b (h q n) m in formula_first insn.op (a q) (b q) u.0 u.1)
+    (λ q n. first_lane f call r i s e insn q a b (omega (arith, n, p)) sums (h q n) m)
     (λ q. (formula_below insn.op (a q) (b q)).0)
 
 -- and so does that of the second, of an opcode that has one
 pub second_result : (f : FunctionValue) (call : Call) (r i : ℕ) (s : CState) (e : State) (insn : Insn) (k : ℕ) (a b : ℕ → ℕ) → insn.prefix ≡ suc k → 0 < size_of_result insn.op 1 → 8 * size_of_result insn.op 1 * suc k ≤ 64
-    → ((q : ℕ) → q ≤ k → AreReady f call r i s e insn.op q insn.sources.items) → read_sources f call r i insn.op e insn.sources.items ≡ both_okay a b
+    → ((q : ℕ) → q ≤ k → AreReady f call r i s e insn.op q (first_free f.vars) insn.sources.items) → read_sources f call r i insn.op e insn.sources.items ≡ both_okay a b
     → Gives (scene call (record { row = r; element = i }) s) (packed (8 * size_of_result insn.op 1) k (second_at f.vars insn)) (lanewise insn.op (suc k) a b).1
 second_result f call r i s e insn k a b p z l h m =
     packed_gives (8 * size_of_result insn.op 1) k (second_at f.vars insn) (λ q. (formula insn.op (a q) (b q)).1) (omega (arith, z)) l
-    (λ q n. let u = source_lanes f call r i s e insn.op q insn.sources.items a b (h q n) m in formula_second (lane_second f.vars insn.op q insn.sources.items) insn.op (a q) (b q) z u.0)
+    (λ q n. let u = source_lanes f call r i s e insn.op q (first_free f.vars) insn.sources.items a b (h q n) m in formula_second (lane_second f.vars insn.op q (first_free f.vars) insn.sources.items) insn.op (a q) (b q) z u.0)
     (λ q. (formula_below insn.op (a q) (b q)).1)

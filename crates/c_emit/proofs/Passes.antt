@@ -17,9 +17,9 @@ use Rattle.orc_program.specs.declared.program.Operand.TheVariants as operand
 use Rattle.orc_program.specs.declared.program.Insn.{Insn}
 use Rattle.orc_program.specs.declared.fault.Fault.{Fault}
 use Rattle.orc_program.specs.declared.fault.Fault.TheVariants as fault
-use Rattle.orc_program.specs.Program.{var_at, same_kind}
+use Rattle.orc_program.specs.Program.{var_at, same_kind, operand_kind}
 use Rattle.orc_program.specs.Kept.{is_shaped, is_in_range, has_no_fault, result_count, source_count}
-use Rattle.orc_program.specs.Checks.{insn_fault, check, or_else, first_of, is_bad_prefix, is_sum_kind, is_shift_kind, is_count, is_set, is_unset, is_wrong_size, operand_sizes, source_kind_fault, source_fault, sources_fault, results_fault, is_too_many}
+use Rattle.orc_program.specs.Checks.{insn_fault, check, or_else, first_of, is_bad_prefix, is_sum_kind, is_shift_kind, is_count, is_set, is_unset, is_wrong_size, operand_sizes, is_scalar, source_kind_fault, source_fault, sources_fault, result_kind_fault, result_fault, results_fault, is_too_many}
 use Rattle.orc_program.proofs.Sizes.{both}
 use Rattle.orc_emul.proofs.Functions as emulated
 use Rattle.c_emit.proofs.Opcodes.{has_lanes}
@@ -152,6 +152,32 @@ two_at_most true t = omega arith
 two_at_most false true = omega arith
 two_at_most false false = omega arith
 
+-- a result that is a temp has the size of the opcode's, under the prefix
+abbrev pub IsSized : List Var → ℕ → Operand → Type 0
+IsSized vars n (operand.Var p) = (var_at vars p).kind ≡ kind.Temp → (var_at vars p).size ≡ n
+IsSized vars n (operand.Number k) = Unit {0}
+
+abbrev pub AreSized : List Var → Op → ℕ → ℕ → List Operand → Type 0
+AreSized vars o prefix k [] = Unit {0}
+AreSized vars o prefix k (x ∷ xs) = IsSized vars (size_of_result o k * prefix) x × AreSized vars o prefix (k + 1) xs
+
+sized_one : (vars : List Var) (o : Op) (prefix k : ℕ) (x : Operand) → has_no_fault (result_fault vars o prefix k x) ≡ true → IsSized vars (size_of_result o k * prefix) x
+sized_one vars o prefix k (operand.Number n) h = tt
+sized_one vars o prefix k (operand.Var p) h =
+    let n : ℕ = size_of_result o k * prefix in
+    let a = none_left (result_kind_fault (row o).kind (operand_kind vars (operand.Var p))) (check (is_wrong_size vars n (operand.Var p)) fault.SizeMismatch) h in
+    let u = unchecked (is_wrong_size vars n (operand.Var p)) fault.SizeMismatch a.1 in
+    λ t. equal (var_at vars p).size n (sym (ap (λ (k : VarKind). not (is_scalar (Some k)) && not ((var_at vars p).size == n)) t) ∙ u)
+  where
+    equal : (m n : ℕ) → true && not (m == n) ≡ false → m ≡ n
+    equal m n h = grind (arith, nat_tests, h)
+
+sized_all : (vars : List Var) (o : Op) (prefix k : ℕ) (xs : List Operand) → has_no_fault (results_fault vars o prefix k xs) ≡ true → AreSized vars o prefix k xs
+sized_all vars o prefix k [] h = tt
+sized_all vars o prefix k (x ∷ xs) h =
+    let a = none_left (result_fault vars o prefix k x) (results_fault vars o prefix (k + 1) xs) h in
+    (sized_one vars o prefix k x a.0, sized_all vars o prefix (k + 1) xs a.1)
+
 -- ---- the whole
 
 pub record IsChecked (vars : List Var) (earlier : List Insn) (insn : Insn) : Type 0 where
@@ -161,6 +187,7 @@ pub record IsChecked (vars : List Var) (earlier : List Insn) (insn : Insn) : Typ
   pub second : 1 < length insn.results.items → 0 < size_of_result insn.op 1
   pub second_fits : 8 * size_of_result insn.op 1 * insn.prefix ≤ 64
   pub results : list_all (is_in_range vars) insn.results.items ≡ true
+  pub sizes : AreSized vars insn.op insn.prefix 0 insn.results.items
   pub reads : AreRead vars earlier insn.op insn.prefix insn.sources.items
   pub few : length insn.results.items ≤ 2
 
@@ -188,6 +215,7 @@ checked vars earlier insn shaped h =
       second = λ l. one_or_none (size_of_result insn.op 0 == 0) (size_of_result insn.op 1) (subst (λ n. 1 < n) many l);
       second_fits = fits.second;
       results = fits.results;
+      sizes = sized_all vars insn.op insn.prefix 0 insn.results.items d.0;
       reads = read_all vars earlier insn.op insn.prefix (source_cases insn.op insn.prefix (unchecked (is_bad_prefix insn.op insn.prefix) fault.BadPrefix c.0)) insn.sources.items fits.sources e.0;
       few = (let t = two_at_most (size_of_result insn.op 0 == 0) (size_of_result insn.op 1 == 0) in omega (arith, many, t));
     }

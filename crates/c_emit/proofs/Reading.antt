@@ -1,10 +1,13 @@
 -- An instruction's reads and results, in C and in emulation.
-use Rattle.std.proofs.Common.{◌≡◌, ◌≢◌, ℕ, suc, ◌+◌, ◌-◌, ◌*◌, ◌^◌, ◌<◌, ◌≤◌, Bool, true, false, List, [], ◌∷◌, ◌++◌, length, Option, Some, Result, Ok, refl, sym, ap, ◌∙◌, subst, arith, true≢false}
+use Rattle.std.proofs.Common.{◌≡◌, ◌≢◌, ℕ, zero, suc, ◌⊎◌, inl, inr, if◌then◌else◌, ◌+◌, ◌-◌, ◌*◌, ◌^◌, ◌<◌, ◌≤◌, Bool, true, false, List, [], ◌∷◌, ◌++◌, length, Option, Some, Result, Ok, refl, sym, ap, ◌∙◌, subst, arith, true≢false}
 use Rattle.std.proofs.lemmas.Option.{slice_get-get_or}
+use Rattle.std.proofs.lemmas.Bool.{cases_eq}
+use Rattle.orc_bits.specs.Lanes.{change}
 use Rattle.orc_bits.specs.Memory.{Memory, read, number, value}
+use Rattle.orc_bits.proofs.LaneLaws.{pow256}
 use Rattle.orc_bits.proofs.Memories.{Bytewide, bind_some, some_one, value_small}
 use Rattle.orc_ops.specs.declared.opcode.Op.{Op}
-use Rattle.orc_ops.specs.Table.{size_of_result, size_of_source}
+use Rattle.orc_ops.specs.Table.{row, size_of_result, size_of_source}
 use Rattle.orc_program.specs.declared.program.VarKind.{VarKind}
 use Rattle.orc_program.specs.declared.program.VarKind.TheVariants as kind
 use Rattle.orc_program.specs.declared.program.Operand.{Operand}
@@ -18,42 +21,56 @@ use Rattle.orc_program.specs.Good.{IsArray, GoodArrays}
 use Rattle.orc_program.specs.Meaning.{State, Gap, go_on, rows, cell, gap_at, read_cell, read_var, read_source, read_sources, sub_lane, lanewise}
 use Rattle.orc_program.proofs.Steps.{go_on_ok, or_gap_ok, ok_same}
 use Rattle.orc_emul.specs.State.{HasCounts}
-use Rattle.orc_emul.proofs.Functions.{before_all}
+use Rattle.orc_emul.proofs.Functions.{before_all, size_low}
+use Rattle.c_run.specs.declared.tree.CExpr.{CExpr}
 use Rattle.c_run.specs.declared.tree.CStmt.{CStmt}
 use Rattle.c_run.specs.declared.tree.CStmt.TheVariants.{SetV}
 use Rattle.c_run.specs.Tree.{CFunctionValue}
 use Rattle.c_run.specs.Meaning.{CState}
 use Rattle.c_emit.specs.CAs.{IsCall}
-use Rattle.c_emit.specs.Body.{bytes_of, reads_var, reads_one, reads, packed, first_at, second_at, computes_by}
+use Rattle.c_emit.specs.Expressions.{has_sum}
+use Rattle.c_emit.specs.Body.{first_free, cells_of_kind, cells, all_cells, sums_from, sum_count, sum_at, sums, bytes_of, reads_var, reads_one, reads, first_of, second_of, variables_of}
 use Rattle.c_emit.proofs.Values.{Gives, same}
 use Rattle.c_emit.proofs.Doing.{Does, does_none, does_both, does_v, counting, with_v, scene}
 use Rattle.c_emit.proofs.Cells.{bytes_give}
-use Rattle.c_emit.proofs.Opcodes.{IsReady, AreReady, both_okay, first_result, second_result}
+use Rattle.c_emit.proofs.Opcodes.{IsReady, AreReady, AreSummed, sum_of, sum_lane, both_okay, first_result, second_result}
 use Rattle.c_emit.proofs.Places.{is_at, size_at}
 use Rattle.c_emit.proofs.Passes.{IsRead, AreRead, IsChecked}
-use Rattle.c_emit.proofs.Agree.{Agrees, agrees_v, change_same, change_other, bytes_low}
+use Rattle.c_emit.proofs.Agree.{Agrees, agrees_v, change_same, change_other}
 
 abbrev okay : (ℕ → ℕ) → Result (ℕ → ℕ) Gap
 okay g = Ok g
 
 -- variable d holds the cell of an operand that is an array
 abbrev pub Held : FunctionValue → Call → ℕ → ℕ → CState → State → ℕ → Operand → Type 0
-Held f call r i s e d (operand.Var p) = is_array_kind (var_at f.vars p).kind ≡ true → (v : ℕ) → read_cell f call r i p e ≡ Ok v → (s.v d ≡ Some v) × (v < 2 ^ 64)
+Held f call r i s e d (operand.Var p) = is_array_kind (var_at f.vars p).kind ≡ true → (v : ℕ) → read_cell f call r i p e ≡ Ok v → (s.v d ≡ Some v) × (v < 2 ^ (8 * (var_at f.vars p).size))
 Held f call r i s e d (operand.Number n) = Unit {0}
 
-abbrev pub AreHeld : FunctionValue → Call → ℕ → ℕ → CState → State → List Operand → Type 0
-AreHeld f call r i s e [] = Unit {0}
-AreHeld f call r i s e (x ∷ []) = Held f call r i s e 0 x
-AreHeld f call r i s e (x ∷ y ∷ more) = Held f call r i s e 0 x × Held f call r i s e 1 y
+abbrev pub AreHeld : FunctionValue → Call → ℕ → ℕ → CState → State → ℕ → List Operand → Type 0
+AreHeld f call r i s e d [] = Unit {0}
+AreHeld f call r i s e d (x ∷ []) = Held f call r i s e d x
+AreHeld f call r i s e d (x ∷ y ∷ more) = Held f call r i s e d x × Held f call r i s e (d + cells f.vars x) y
 
-held_still : (f : FunctionValue) (call : Call) (r i : ℕ) (s t : CState) (e : State) (d : ℕ) (x : Operand) → t.v d ≡ s.v d → Held f call r i s e d x → Held f call r i t e d x
-held_still f call r i s t e d (operand.Var p) k h = λ a v q. (k ∙ (h a v q).0, (h a v q).1)
+cells_array : (k : VarKind) → is_array_kind k ≡ true → cells_of_kind k ≡ 1
+cells_array kind.Source h = refl
+cells_array kind.Dest h = refl
+cells_array kind.Temp h = absurd (true≢false (sym h))
+cells_array kind.Param h = absurd (true≢false (sym h))
+cells_array kind.Const h = absurd (true≢false (sym h))
+cells_array kind.Accumulator h = absurd (true≢false (sym h))
+
+-- the variable of a cell, where there is one, stays as it is
+held_still : (f : FunctionValue) (call : Call) (r i : ℕ) (s t : CState) (e : State) (d : ℕ) (x : Operand) → (cells f.vars x ≡ 1 → t.v d ≡ s.v d) → Held f call r i s e d x → Held f call r i t e d x
+held_still f call r i s t e d (operand.Var p) k h = λ a v q. (k (cells_array (var_at f.vars p).kind a) ∙ (h a v q).0, (h a v q).1)
 held_still f call r i s t e d (operand.Number n) k h = tt
 
-are_held_still : (f : FunctionValue) (call : Call) (r i : ℕ) (s t : CState) (e : State) (xs : List Operand) → ((d : ℕ) → d < 2 → t.v d ≡ s.v d) → AreHeld f call r i s e xs → AreHeld f call r i t e xs
-are_held_still f call r i s t e [] k h = tt
-are_held_still f call r i s t e (x ∷ []) k h = held_still f call r i s t e 0 x (k 0 (omega arith)) h
-are_held_still f call r i s t e (x ∷ y ∷ more) k h = (held_still f call r i s t e 0 x (k 0 (omega arith)) h.0, held_still f call r i s t e 1 y (k 1 (omega arith)) h.1)
+pub are_held_still : (f : FunctionValue) (call : Call) (r i : ℕ) (s t : CState) (e : State) (d : ℕ) (xs : List Operand) → ((k : ℕ) → k < d + all_cells f.vars xs → t.v k ≡ s.v k) → AreHeld f call r i s e d xs → AreHeld f call r i t e d xs
+are_held_still f call r i s t e d [] k h = tt
+are_held_still f call r i s t e d (x ∷ []) k h = held_still f call r i s t e d x (λ one. k d (omega (arith, one))) h
+are_held_still f call r i s t e d (x ∷ y ∷ more) k h = (
+  held_still f call r i s t e d x (λ one. k d (omega (arith, one))) h.0,
+  held_still f call r i s t e (d + cells f.vars x) y (λ one. k (d + cells f.vars x) (omega (arith, one))) h.1,
+)
 
 -- the state after statements that read one source
 pub record HasRead (f : FunctionValue) (c : CFunctionValue) (call : Call) (r i : ℕ) (made : ℕ → Bool) (d : ℕ) (x : Operand) (xs : List CStmt) (s : CState) (e : State) : Type 0 where
@@ -68,21 +85,33 @@ pub record HasReads (f : FunctionValue) (c : CFunctionValue) (call : Call) (r i 
   pub state : CState
   pub does : Does c call (record { row = r; element = i }) xs s state
   pub agrees : Agrees f made state e
-  pub held : AreHeld f call r i state e os
+  pub held : AreHeld f call r i state e (first_free f.vars) os
 
--- after those that set the results
-pub record HasResults (f : FunctionValue) (c : CFunctionValue) (call : Call) (r i : ℕ) (made : ℕ → Bool) (n : ℕ) (v : ℕ × ℕ) (xs : List CStmt) (s : CState) (e : State) : Type 0 where
+-- the state after those that set n sums
+pub record HasSums (f : FunctionValue) (c : CFunctionValue) (call : Call) (r i : ℕ) (made : ℕ → Bool) (insn : Insn) (n : ℕ) (a b : ℕ → ℕ) (xs : List CStmt) (s : CState) (e : State) : Type 0 where
   pub state : CState
   pub does : Does c call (record { row = r; element = i }) xs s state
   pub agrees : Agrees f made state e
-  pub first : 0 < n → state.v 2 ≡ Some v.0
-  pub second : 1 < n → state.v 3 ≡ Some v.1
+  pub held : AreHeld f call r i state e (first_free f.vars) insn.sources.items
+  pub sums : (q : ℕ) → q < n → state.v (sums_from f.vars insn + q) ≡ Some (sum_of insn.op (a q) (b q))
 
-module _ (f : FunctionValue) (call : Call) (mem : Memory) (kept : is_function f ≡ true) (counts : HasCounts f call) (is : IsCall call) (good : GoodArrays f call mem) (c : CFunctionValue) (room : 4 ≤ c.temps) (r i : ℕ) (row : r < rows f call) (low : i < call.n) where
+-- the variables that statements set are declared
+pub set_room : (d n : ℕ) (e : CExpr) (xs : List CStmt) → variables_of (SetV d e ∷ xs) ≤ n → (d < n) × (variables_of xs ≤ n)
+set_room d n e xs h = (omega (arith, h), omega (arith, h))
+
+pub room_both : (xs ys : List CStmt) (n : ℕ) → variables_of (xs ++ ys) ≤ n → (variables_of xs ≤ n) × (variables_of ys ≤ n)
+room_both [] ys n h = (omega arith, h)
+room_both (x ∷ xs) ys n h = let r = room_both xs ys n (omega (arith, h)) in (let a = r.0 in omega (arith, h, a), r.1)
+
+-- an instruction that has sums
+abbrev pub is_summed : Insn → Bool
+is_summed insn = has_sum (row insn.op).stem
+
+module _ (f : FunctionValue) (call : Call) (mem : Memory) (kept : is_function f ≡ true) (counts : HasCounts f call) (is : IsCall call) (good : GoodArrays f call mem) (c : CFunctionValue) (r i : ℕ) (row : r < rows f call) (low : i < call.n) where
   -- ---- reads
 
   -- the bytes of a cell give its number
-  cell_gives : (made : ℕ → Bool) (s : CState) (e : State) (p v : ℕ) → IsArray f p → Agrees f made s e → read_cell f call r i p e ≡ Ok v → Gives (scene call (record { row = r; element = i }) s) (bytes_of f.vars p 0 ((var_at f.vars p).size - 1)) v × (v < 2 ^ 64)
+  cell_gives : (made : ℕ → Bool) (s : CState) (e : State) (p v : ℕ) → IsArray f p → Agrees f made s e → read_cell f call r i p e ≡ Ok v → Gives (scene call (record { row = r; element = i }) s) (bytes_of f.vars p 0 ((var_at f.vars p).size - 1)) v × (v < 2 ^ (8 * (var_at f.vars p).size))
   cell_gives made s e p v a g h =
       let size : ℕ = (var_at f.vars p).size in
       let at : ℕ = cell f call p r i in
@@ -94,51 +123,54 @@ module _ (f : FunctionValue) (call : Call) (mem : Memory) (kept : is_function f 
       ap (λ (m : Memory). read (suc (size - 1)) m (at + 0)) g.memory ∙ ap (λ n. read n e.memory (at + 0)) (sym n) ∙ ap (λ n. read size e.memory n) (let q : at + 0 ≡ at = omega arith in q) ∙ b.1 in
       let wide : Bytewide s.memory = subst Bytewide (sym g.memory) g.bytes in
       let gives = bytes_give call (record { row = r; element = i }) s f.vars p at (is_at f call mem kept counts is good p r i a row low) wide (size - 1) 0 b.0 (omega (arith, n)) (omega (arith, n, z)) h2 in
-      (same v gives (some_one (number b.0) v b.2), (let l = value_small size e.memory at v g.bytes h1 in let m = bytes_low size z.1 in omega (arith, l, m)))
+      (same v gives (some_one (number b.0) v b.2), subst (λ n. v < n) (pow256 size) (value_small size e.memory at v g.bytes h1))
 
   read_nothing : (made : ℕ → Bool) (s : CState) (e : State) (d p : ℕ) → Agrees f made s e → is_array_kind (var_at f.vars p).kind ≡ false → HasRead f c call r i made d (operand.Var p) [] s e
   read_nothing made s e d p g n = record { state = s; does = does_none c call (record { row = r; element = i }) s; agrees = g; held = λ a v h. absurd (true≢false (sym a ∙ n)); other = λ k ne. refl }
 
-  read_array : (made : ℕ → Bool) (s : CState) (e : State) (d p : ℕ) (w : ℕ) (a : ℕ → ℕ) → d < 4 → IsArray f p → Agrees f made s e → go_on (read_cell f call r i p e) (λ v. okay (sub_lane w v)) ≡ okay a → HasRead f c call r i made d (operand.Var p) (SetV d (bytes_of f.vars p 0 ((var_at f.vars p).size - 1)) ∷ []) s e
-  read_array made s e d p w a l is g h =
+  read_array : (made : ℕ → Bool) (s : CState) (e : State) (d p : ℕ) (w : ℕ) (a : ℕ → ℕ) → first_free f.vars ≤ d → variables_of (SetV d (bytes_of f.vars p 0 ((var_at f.vars p).size - 1)) ∷ []) ≤ c.temps → IsArray f p → Agrees f made s e → go_on (read_cell f call r i p e) (λ v. okay (sub_lane w v)) ≡ okay a
+      → HasRead f c call r i made d (operand.Var p) (SetV d (bytes_of f.vars p 0 ((var_at f.vars p).size - 1)) ∷ []) s e
+  read_array made s e d p w a l room is g h =
       let x = go_on_ok (read_cell f call r i p e) (λ v. okay (sub_lane w v)) a h in
       let v = cell_gives made s e p x.0 is g x.1 in
       record {
         state = counting (with_v s d x.0);
-        does = does_v c call (record { row = r; element = i }) s d x.0 (bytes_of f.vars p 0 ((var_at f.vars p).size - 1)) (omega (arith, l, room)) v.0;
+        does = does_v c call (record { row = r; element = i }) s d x.0 (bytes_of f.vars p 0 ((var_at f.vars p).size - 1)) (set_room d c.temps (bytes_of f.vars p 0 ((var_at f.vars p).size - 1)) [] room).0 v.0;
         agrees = agrees_v d x.0 l g;
-        held = λ k u q. let same = ok_same x.0 u (sym x.1 ∙ q) in (change_same s.v d (Some x.0) ∙ ap Some same, subst (λ n. n < 2 ^ 64) same v.1);
+        held = λ k u q. let same = ok_same x.0 u (sym x.1 ∙ q) in (change_same s.v d (Some x.0) ∙ ap Some same, subst (λ n. n < 2 ^ (8 * (var_at f.vars p).size)) same v.1);
         other = λ k ne. change_other s.v d k (Some x.0) ne;
       }
 
-  read_kind : (made : ℕ → Bool) (s : CState) (e : State) (d p w : ℕ) (a : ℕ → ℕ) (k : VarKind) → (var_at f.vars p).kind ≡ k → d < 4 → p < length f.vars → Agrees f made s e → read_var f call r i w e p k ≡ okay a → HasRead f c call r i made d (operand.Var p) (reads_var f.vars d p k) s e
-  read_kind made s e d p w a kind.Source n l m g h = read_array made s e d p w a l (m, ap is_array_kind n) g h
-  read_kind made s e d p w a kind.Dest n l m g h = read_array made s e d p w a l (m, ap is_array_kind n) g h
-  read_kind made s e d p w a kind.Temp n l m g h = read_nothing made s e d p g (ap is_array_kind n)
-  read_kind made s e d p w a kind.Param n l m g h = read_nothing made s e d p g (ap is_array_kind n)
-  read_kind made s e d p w a kind.Const n l m g h = read_nothing made s e d p g (ap is_array_kind n)
-  read_kind made s e d p w a kind.Accumulator n l m g h = read_nothing made s e d p g (ap is_array_kind n)
+  read_kind : (made : ℕ → Bool) (s : CState) (e : State) (d p w : ℕ) (a : ℕ → ℕ) (k : VarKind) → (var_at f.vars p).kind ≡ k → first_free f.vars ≤ d → variables_of (reads_var f.vars d p k) ≤ c.temps → p < length f.vars → Agrees f made s e → read_var f call r i w e p k ≡ okay a → HasRead f c call r i made d (operand.Var p) (reads_var f.vars d p k) s e
+  read_kind made s e d p w a kind.Source n l room m g h = read_array made s e d p w a l room (m, ap is_array_kind n) g h
+  read_kind made s e d p w a kind.Dest n l room m g h = read_array made s e d p w a l room (m, ap is_array_kind n) g h
+  read_kind made s e d p w a kind.Temp n l room m g h = read_nothing made s e d p g (ap is_array_kind n)
+  read_kind made s e d p w a kind.Param n l room m g h = read_nothing made s e d p g (ap is_array_kind n)
+  read_kind made s e d p w a kind.Const n l room m g h = read_nothing made s e d p g (ap is_array_kind n)
+  read_kind made s e d p w a kind.Accumulator n l room m g h = read_nothing made s e d p g (ap is_array_kind n)
 
-  read_operand : (made : ℕ → Bool) (earlier : List Insn) (o : Op) (prefix k : ℕ) (s : CState) (e : State) (d w : ℕ) (a : ℕ → ℕ) (x : Operand) → d < 4 → IsRead f.vars earlier o prefix k x → Agrees f made s e → read_source f call r i w e x ≡ okay a → HasRead f c call r i made d x (reads_one f.vars d x) s e
-  read_operand made earlier o prefix k s e d w a (operand.Var p) l q g h = read_kind made s e d p w a (var_at f.vars p).kind refl l q.0 g h
-  read_operand made earlier o prefix k s e d w a (operand.Number n) l q g h = record { state = s; does = does_none c call (record { row = r; element = i }) s; agrees = g; held = tt; other = λ k ne. refl }
+  read_operand : (made : ℕ → Bool) (earlier : List Insn) (o : Op) (prefix k : ℕ) (s : CState) (e : State) (d w : ℕ) (a : ℕ → ℕ) (x : Operand) → first_free f.vars ≤ d → variables_of (reads_one f.vars d x) ≤ c.temps → IsRead f.vars earlier o prefix k x → Agrees f made s e → read_source f call r i w e x ≡ okay a → HasRead f c call r i made d x (reads_one f.vars d x) s e
+  read_operand made earlier o prefix k s e d w a (operand.Var p) l room q g h = read_kind made s e d p w a (var_at f.vars p).kind refl l room q.0 g h
+  read_operand made earlier o prefix k s e d w a (operand.Number n) l room q g h = record { state = s; does = does_none c call (record { row = r; element = i }) s; agrees = g; held = tt; other = λ k ne. refl }
 
-  reads_do : (made : ℕ → Bool) (earlier : List Insn) (o : Op) (prefix : ℕ) (s : CState) (e : State) (xs : List Operand) (a b : ℕ → ℕ) → AreRead f.vars earlier o prefix xs → Agrees f made s e → read_sources f call r i o e xs ≡ both_okay a b → HasReads f c call r i made xs (reads f.vars xs) s e
-  reads_do made earlier o prefix s e [] a b q g h = record { state = s; does = does_none c call (record { row = r; element = i }) s; agrees = g; held = tt }
-  reads_do made earlier o prefix s e (x ∷ []) a b q g h =
+  pub reads_do : (made : ℕ → Bool) (earlier : List Insn) (o : Op) (prefix : ℕ) (s : CState) (e : State) (xs : List Operand) (a b : ℕ → ℕ) → variables_of (reads f.vars (first_free f.vars) xs) ≤ c.temps → AreRead f.vars earlier o prefix xs → Agrees f made s e → read_sources f call r i o e xs ≡ both_okay a b → HasReads f c call r i made xs (reads f.vars (first_free f.vars) xs) s e
+  reads_do made earlier o prefix s e [] a b room q g h = record { state = s; does = does_none c call (record { row = r; element = i }) s; agrees = g; held = tt }
+  reads_do made earlier o prefix s e (x ∷ []) a b room q g h =
       let u = go_on_ok (read_source f call r i (8 * size_of_source o 0) e x) (λ g. both_okay g (λ q. 0)) (a, b) h in
-      let y = read_operand made earlier o prefix 0 s e 0 (8 * size_of_source o 0) u.0 x (omega arith) q g u.1 in
+      let y = read_operand made earlier o prefix 0 s e (first_free f.vars) (8 * size_of_source o 0) u.0 x (omega arith) room q g u.1 in
       record { state = y.state; does = y.does; agrees = y.agrees; held = y.held }
-  reads_do made earlier o prefix s e (x ∷ y ∷ more) a b q g h =
+  reads_do made earlier o prefix s e (x ∷ y ∷ more) a b room q g h =
+      let d : ℕ = first_free f.vars in
+      let rooms = room_both (reads_one f.vars d x) (reads_one f.vars (d + cells f.vars x) y) c.temps room in
       let u = go_on_ok (read_source f call r i (8 * size_of_source o 0) e x) (λ g. go_on (read_source f call r i (8 * size_of_source o 1) e y) (λ m. both_okay g m)) (a, b) h in
       let v = go_on_ok (read_source f call r i (8 * size_of_source o 1) e y) (λ m. both_okay u.0 m) (a, b) u.2 in
-      let m = read_operand made earlier o prefix 0 s e 0 (8 * size_of_source o 0) u.0 x (omega arith) q.0 g u.1 in
-      let n = read_operand made earlier o prefix 1 m.state e 1 (8 * size_of_source o 1) v.0 y (omega arith) q.1 m.agrees v.1 in
+      let m = read_operand made earlier o prefix 0 s e d (8 * size_of_source o 0) u.0 x (omega arith) rooms.0 q.0 g u.1 in
+      let n = read_operand made earlier o prefix 1 m.state e (d + cells f.vars x) (8 * size_of_source o 1) v.0 y (omega arith) rooms.1 q.1 m.agrees v.1 in
       record {
         state = n.state;
         does = does_both m.does n.does;
         agrees = n.agrees;
-        held = (held_still f call r i m.state n.state e 0 x (n.other 0 (λ z. omega (arith, z))) m.held, n.held);
+        held = (held_still f call r i m.state n.state e d x (λ one. n.other d (λ z. omega (arith, z, one))) m.held, n.held);
       }
 
   -- ---- what the sources need
@@ -148,13 +180,13 @@ module _ (f : FunctionValue) (call : Call) (mem : Memory) (kept : is_function f 
 
   ready_one : (earlier : List Insn) (o : Op) (prefix k : ℕ) (s : CState) (e : State) (q d : ℕ) (x : Operand) → q < prefix → IsRead f.vars earlier o prefix k x → Agrees f (λ p. is_set earlier p) s e → Held f call r i s e d x → IsReady f call r i s e (8 * size_of_source o k) q d x
   ready_one earlier o prefix k s e q d (operand.Var p) l m g h =
-      (record { cell = h; temp = λ t. g.temps p m.0 t (m.2 t); param = λ t. (slice_get-get_or call.params.items (count_before kind.Param f.vars p) 0 (param_there p m.0 t), is.params (count_before kind.Param f.vars p)) }, m.1 q l)
+      (record { cell = h; temp = λ t. g.temps p m.0 t (m.2 t); param = λ t. (slice_get-get_or call.params.items (count_before kind.Param f.vars p) 0 (param_there p m.0 t), is.params (count_before kind.Param f.vars p)); few = size_low f kept p m.0 }, m.1 q l)
   ready_one earlier o prefix k s e q d (operand.Number n) l m g h = tt
 
-  ready_all : (earlier : List Insn) (o : Op) (prefix : ℕ) (s : CState) (e : State) (q : ℕ) (xs : List Operand) → q < prefix → AreRead f.vars earlier o prefix xs → Agrees f (λ p. is_set earlier p) s e → AreHeld f call r i s e xs → AreReady f call r i s e o q xs
-  ready_all earlier o prefix s e q [] l m g h = tt
-  ready_all earlier o prefix s e q (x ∷ []) l m g h = ready_one earlier o prefix 0 s e q 0 x l m g h
-  ready_all earlier o prefix s e q (x ∷ y ∷ more) l m g h = (ready_one earlier o prefix 0 s e q 0 x l m.0 g h.0, ready_one earlier o prefix 1 s e q 1 y l m.1 g h.1)
+  ready_all : (earlier : List Insn) (o : Op) (prefix : ℕ) (s : CState) (e : State) (q d : ℕ) (xs : List Operand) → q < prefix → AreRead f.vars earlier o prefix xs → Agrees f (λ p. is_set earlier p) s e → AreHeld f call r i s e d xs → AreReady f call r i s e o q d xs
+  ready_all earlier o prefix s e q d [] l m g h = tt
+  ready_all earlier o prefix s e q d (x ∷ []) l m g h = ready_one earlier o prefix 0 s e q d x l m g h
+  ready_all earlier o prefix s e q d (x ∷ y ∷ more) l m g h = (ready_one earlier o prefix 0 s e q d x l m.0 g h.0, ready_one earlier o prefix 1 s e q (d + cells f.vars x) y l m.1 g h.1)
 
   -- ---- results
 
@@ -165,47 +197,47 @@ module _ (f : FunctionValue) (call : Call) (mem : Memory) (kept : is_function f 
     prefix_is : insn.prefix ≡ suc (insn.prefix - 1)
     prefix_is = let l = ok.some in omega (arith, l)
 
-    first_gives : (s : CState) → Agrees f (λ p. is_set earlier p) s e → AreHeld f call r i s e insn.sources.items → Gives (scene call (record { row = r; element = i }) s) (packed (8 * size_of_result insn.op 0) (insn.prefix - 1) (first_at f.vars insn)) (lanewise insn.op insn.prefix a b).0
-    first_gives s g held = same (lanewise insn.op insn.prefix a b).0
-        (first_result f call r i s e insn (insn.prefix - 1) a b prefix_is ok.first (subst (λ n. 8 * size_of_result insn.op 0 * n ≤ 64) prefix_is ok.first_fits)
-        (λ q l. ready_all earlier insn.op insn.prefix s e q insn.sources.items (omega (arith, l, ok.some)) ok.reads g held) h)
+    pub first_gives : (s : CState) → Agrees f (λ p. is_set earlier p) s e → AreHeld f call r i s e (first_free f.vars) insn.sources.items → AreSummed f s insn a b → Gives (scene call (record { row = r; element = i }) s) (first_of f.vars insn) (lanewise insn.op insn.prefix a b).0
+    first_gives s g held sums = same (lanewise insn.op insn.prefix a b).0
+        (first_result f call r i s e insn (insn.prefix - 1) a b prefix_is ok.first (subst (λ n. 8 * size_of_result insn.op 0 * n ≤ 64) prefix_is ok.first_fits) sums
+        (λ q l. ready_all earlier insn.op insn.prefix s e q (first_free f.vars) insn.sources.items (omega (arith, l, ok.some)) ok.reads g held) h)
         (ap (λ n. (lanewise insn.op n a b).0) (sym prefix_is))
 
-    second_gives : (s : CState) → 0 < size_of_result insn.op 1 → Agrees f (λ p. is_set earlier p) s e → AreHeld f call r i s e insn.sources.items → Gives (scene call (record { row = r; element = i }) s) (packed (8 * size_of_result insn.op 1) (insn.prefix - 1) (second_at f.vars insn)) (lanewise insn.op insn.prefix a b).1
+    pub second_gives : (s : CState) → 0 < size_of_result insn.op 1 → Agrees f (λ p. is_set earlier p) s e → AreHeld f call r i s e (first_free f.vars) insn.sources.items → Gives (scene call (record { row = r; element = i }) s) (second_of f.vars insn) (lanewise insn.op insn.prefix a b).1
     second_gives s z g held = same (lanewise insn.op insn.prefix a b).1
         (second_result f call r i s e insn (insn.prefix - 1) a b prefix_is z (subst (λ n. 8 * size_of_result insn.op 1 * n ≤ 64) prefix_is ok.second_fits)
-        (λ q l. ready_all earlier insn.op insn.prefix s e q insn.sources.items (omega (arith, l, ok.some)) ok.reads g held) h)
+        (λ q l. ready_all earlier insn.op insn.prefix s e q (first_free f.vars) insn.sources.items (omega (arith, l, ok.some)) ok.reads g held) h)
         (ap (λ n. (lanewise insn.op n a b).1) (sym prefix_is))
 
-    computes : (s : CState) (os : List Operand) → (1 < length os → 0 < size_of_result insn.op 1) → Agrees f (λ p. is_set earlier p) s e → AreHeld f call r i s e insn.sources.items → HasResults f c call r i (λ p. is_set earlier p) (length os) (lanewise insn.op insn.prefix a b) (computes_by f.vars insn os) s e
-    computes s [] z g held = record { state = s; does = does_none c call (record { row = r; element = i }) s; agrees = g; first = λ l. absurd (omega (arith, l)); second = λ l. absurd (omega (arith, l)) }
-    computes s (x ∷ []) z g held =
-        let v : ℕ × ℕ = lanewise insn.op insn.prefix a b in
+    sums_do : (n : ℕ) (s : CState) → n ≤ insn.prefix → is_summed insn ≡ true → variables_of (sums f.vars insn n) ≤ c.temps → Agrees f (λ p. is_set earlier p) s e → AreHeld f call r i s e (first_free f.vars) insn.sources.items → HasSums f c call r i (λ p. is_set earlier p) insn n a b (sums f.vars insn n) s e
+    sums_do zero s l t room g held = record { state = s; does = does_none c call (record { row = r; element = i }) s; agrees = g; held = held; sums = λ q m. absurd (omega (arith, m)) }
+    sums_do (suc n) s l t room g held =
+        let d : ℕ = sums_from f.vars insn + n in
+        let v : ℕ = sum_of insn.op (a n) (b n) in
+        let rooms = room_both (sums f.vars insn n) (SetV d (sum_at f.vars insn n) ∷ []) c.temps room in
+        let x = sums_do n s (omega (arith, l)) t rooms.0 g held in
+        let gives = sum_lane f call r i x.state e insn n a b t (ready_all earlier insn.op insn.prefix x.state e n (first_free f.vars) insn.sources.items (omega (arith, l)) ok.reads x.agrees x.held) h in
+        let end : CState = counting (with_v x.state d v) in
         record {
-          state = counting (with_v s 2 v.0);
-          does = does_v c call (record { row = r; element = i }) s 2 v.0 (packed (8 * size_of_result insn.op 0) (insn.prefix - 1) (first_at f.vars insn)) (omega (arith, room)) (first_gives s g held);
-          agrees = agrees_v 2 v.0 (omega arith) g;
-          first = λ l. change_same s.v 2 (Some v.0);
-          second = λ l. absurd (omega (arith, l));
+          state = end;
+          does = does_both x.does (does_v c call (record { row = r; element = i }) x.state d v (sum_at f.vars insn n) (set_room d c.temps (sum_at f.vars insn n) [] rooms.1).0 gives);
+          agrees = agrees_v d v (omega arith) x.agrees;
+          held = are_held_still f call r i x.state end e (first_free f.vars) insn.sources.items (λ k m. change_other x.state.v d k (Some v) (λ z. omega (arith, m, z))) x.held;
+          sums = λ q m. one x.state.v d v q m x.sums (cases_eq q n);
         }
-    computes s (x ∷ y ∷ more) z g held =
-        let v : ℕ × ℕ = lanewise insn.op insn.prefix a b in
-        let t : CState = counting (with_v s 2 v.0) in
-        let one = does_v c call (record { row = r; element = i }) s 2 v.0 (packed (8 * size_of_result insn.op 0) (insn.prefix - 1) (first_at f.vars insn)) (omega (arith, room)) (first_gives s g held) in
-        let g2 : Agrees f (λ p. is_set earlier p) t e = agrees_v 2 v.0 (omega arith) g in
-        let held2 : AreHeld f call r i t e insn.sources.items = are_held_still f call r i s t e insn.sources.items (λ d l. change_other s.v 2 d (Some v.0) (λ z. omega (arith, l, z))) held in
-        let two = does_v c call (record { row = r; element = i }) t 3 v.1 (packed (8 * size_of_result insn.op 1) (insn.prefix - 1) (second_at f.vars insn)) (omega (arith, room)) (second_gives t (z (omega arith)) g2 held2) in
-        record {
-          state = counting (with_v t 3 v.1);
-          does = does_both one two;
-          agrees = agrees_v 3 v.1 (omega arith) g2;
-          first = λ l. change_other t.v 3 2 (Some v.1) (λ z. omega (arith, z)) ∙ change_same s.v 2 (Some v.0);
-          second = λ l. change_same t.v 3 (Some v.1);
-        }
+      where
+        one : (g : ℕ → Option ℕ) (d v q : ℕ) → q < suc n → ((q : ℕ) → q < n → g (sums_from f.vars insn + q) ≡ Some (sum_of insn.op (a q) (b q))) → (q ≡ n) ⊎ (q ≢ n)
+            → change g (sums_from f.vars insn + n) (Some (sum_of insn.op (a n) (b n))) (sums_from f.vars insn + q) ≡ Some (sum_of insn.op (a q) (b q))
+        one g d v q m old (inl z) = subst (λ (p : ℕ). change g (sums_from f.vars insn + n) (Some (sum_of insn.op (a n) (b n))) (sums_from f.vars insn + p) ≡ Some (sum_of insn.op (a p) (b p))) (sym z) (change_same g (sums_from f.vars insn + n) (Some (sum_of insn.op (a n) (b n))))
+        one g d v q m old (inr ne) = change_other g (sums_from f.vars insn + n) (sums_from f.vars insn + q) (Some (sum_of insn.op (a n) (b n))) (λ z. ne (omega (arith, z))) ∙ old q (omega (arith, m, ne))
 
-    -- reads and results
-    pub reads_compute : (s : CState) → Agrees f (λ p. is_set earlier p) s e → HasResults f c call r i (λ p. is_set earlier p) (length insn.results.items) (lanewise insn.op insn.prefix a b) (reads f.vars insn.sources.items ++ computes_by f.vars insn insn.results.items) s e
-    reads_compute s g =
-        let x = reads_do (λ p. is_set earlier p) earlier insn.op insn.prefix s e insn.sources.items a b ok.reads g h in
-        let y = computes x.state insn.results.items ok.second x.agrees x.held in
-        record { state = y.state; does = does_both x.does y.does; agrees = y.agrees; first = y.first; second = y.second }
+    -- those of a stem that has sums
+    pub all_sums_do : (s : CState) → variables_of (sums f.vars insn (sum_count insn)) ≤ c.temps → Agrees f (λ p. is_set earlier p) s e → AreHeld f call r i s e (first_free f.vars) insn.sources.items → HasSums f c call r i (λ p. is_set earlier p) insn (sum_count insn) a b (sums f.vars insn (sum_count insn)) s e
+    all_sums_do s room g held = by (is_summed insn) refl room
+      where
+        by : (t : Bool) → is_summed insn ≡ t → variables_of (sums f.vars insn (if t then insn.prefix else 0)) ≤ c.temps → HasSums f c call r i (λ p. is_set earlier p) insn (if t then insn.prefix else 0) a b (sums f.vars insn (if t then insn.prefix else 0)) s e
+        by true t room = sums_do insn.prefix s (omega arith) t room g held
+        by false t room = record { state = s; does = does_none c call (record { row = r; element = i }) s; agrees = g; held = held; sums = λ q m. absurd (omega (arith, m)) }
+
+    pub count_is : is_summed insn ≡ true → sum_count insn ≡ insn.prefix
+    count_is t = ap (λ t. if t then insn.prefix else 0) t

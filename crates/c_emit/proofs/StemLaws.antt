@@ -1,5 +1,5 @@
 -- The expression of a stem means the stem's formula, at every width.
-use Rattle.std.proofs.Common.{◌≡◌, ℕ, suc, ◌+◌, ◌-◌, ◌*◌, ◌/◌, ◌%◌, ◌^◌, ◌<◌, ◌≤◌, ◌==◌, ◌⊎◌, inl, inr, min, max, nat_lt, cond, true, false, Some, refl, sym, ap, ap₂, ◌∙◌, arith, subst, pow-add}
+use Rattle.std.proofs.Common.{◌≡◌, ℕ, suc, ◌+◌, ◌-◌, ◌*◌, ◌/◌, ◌%◌, ◌^◌, ◌<◌, ◌≤◌, ◌==◌, ◌⊎◌, inl, inr, min, max, nat_lt, cond, if◌then◌else◌, Bool, true, false, Option, Some, None, refl, sym, ap, ap₂, ◌∙◌, arith, subst, pow-add}
 use Rattle.std.specs.Prelude.{ℤ, pos, negsuc, ◌+ℤ◌, ◌-ℤ◌, ◌*ℤ◌, int_lt, unsigned_abs, bit_and, bit_or, bit_xor}
 use Rattle.std.specs.Int.{int_shr, int_signum}
 use Rattle.std.proofs.lemmas.Int.{ints}
@@ -17,9 +17,10 @@ use Rattle.orc_ops.specs.Stems.{ones, apply}
 use Rattle.c_run.specs.declared.tree.COp.TheVariants.{Sub, Div, And, Or, Xor, Shl, Shr}
 use Rattle.c_run.specs.declared.tree.CExpr.{CExpr}
 use Rattle.c_run.specs.declared.tree.CExpr.TheVariants.{Number, Two, Choose}
-use Rattle.c_emit.specs.Expressions.{low, less, at_most, half, wide, few, first, second}
-use Rattle.c_emit.proofs.Values.{Scene, Gives, same, number, by_two, add_mod, add, sub_mod, sub, mul_mod, mul, div, shl, shr, choose_less, choose_equal, at_most_gives, without_gives, low_gives, low_cut, cut_twice, turn, turned_gives}
-use Rattle.c_emit.proofs.Distances.{twice, turn_low, turn_high, distance, wrap_is, wrap_64, clamp_u_is, clamp_s_is, less_signed, shr_is}
+use Rattle.c_emit.specs.Expressions.{low, less, at_most, half, clamped, wide, sum, from_sum, number_of, if_below, if_below_by, few, few_by, half_down, half_by, first, second}
+use Rattle.c_emit.proofs.Values.{Scene, Gives, same, number, by_two, add_mod, add, sub_mod, sub, mul_mod, mul, div, shl, shr, choose_less, choose_either, choose_equal, at_most_gives, without_gives, low_gives, low_cut, cut_twice, turn, turned_gives}
+use Rattle.c_emit.proofs.Known.{number_value}
+use Rattle.c_emit.proofs.Distances.{twice, same_mod, turn_low, turn_high, distance, wrap_is, wrap_64, clamp_u_is, clamp_s_is, less_signed, shr_is}
 
 -- ---- bounds
 
@@ -37,48 +38,90 @@ turn_below w a = mod_below (a + half w) (2 ^ w) (pow_pos w)
 pub add_law : {z : Scene} {x y : CExpr} {a b : ℕ} (w t : ℕ) → t ≤ 64 → Gives z x a → Gives z y b → Gives z (first stem.Add w t x y) (apply stem.Add w t a b).0
 add_law {a = a} {b = b} w t l p q = low_cut (a + b) t (add_mod p q) l
 
-pub addss_law : {z : Scene} {x y : CExpr} {a b : ℕ} (w : ℕ) → 0 < w → w ≤ 32 → Gives z x a → Gives z y b → a < 2 ^ w → b < 2 ^ w → Gives z (first stem.Addss w w x y) (apply stem.Addss w w a b).0
-addss_law {z} {x} {y} {a} {b} w h l p q k m =
+-- a clamped number, where k is j times 2 ^ t
+clamped_gives : {z : Scene} {e : CExpr} {m : ℕ} (t k j : ℕ) → 0 < t → t ≤ 64 → k ≡ j * 2 ^ t → half t ≤ k → m < 2 ^ 64 → Gives z e m → Gives z (clamped t k e) (turn t (min (2 ^ t - 1) (m + half t - k)))
+clamped_gives {z} {e} {m} t k j h l is o small g =
+    choose_either (Number (half t)) (Choose (less (Number (k + half t - 1)) e) (Number (half t - 1)) (low t e)) (turn t (min (2 ^ t - 1) (m + half t - k))) g (number z (k - half t))
+    (λ s. same (turn t (min (2 ^ t - 1) (m + half t - k))) (number z (half t)) (least s))
+    (λ s. choose_either (Number (half t - 1)) (low t e) (turn t (min (2 ^ t - 1) (m + half t - k))) (number z (k + half t - 1)) g
+    (λ r. same (turn t (min (2 ^ t - 1) (m + half t - k))) (number z (half t - 1)) (greatest r))
+    (λ r. same (turn t (min (2 ^ t - 1) (m + half t - k))) (low_gives t g small l) (between s r)))
+  where
+    u : 2 ^ t ≡ half t + half t
+    u = twice t h
+
+    some : 0 < half t
+    some = pow_pos (t - 1)
+
+    least : m < k - half t → half t ≡ turn t (min (2 ^ t - 1) (m + half t - k))
+    least s =
+        let n : min (2 ^ t - 1) (m + half t - k) ≡ 0 = omega (arith, s) in
+        sym (ap (turn t) n ∙ turn_low t 0 h some ∙ (omega arith))
+
+    greatest : k + half t - 1 < m → half t - 1 ≡ turn t (min (2 ^ t - 1) (m + half t - k))
+    greatest r =
+        let n : min (2 ^ t - 1) (m + half t - k) ≡ 2 ^ t - 1 = omega (arith, r, u, some) in
+        sym (ap (turn t) n ∙ turn_high t (2 ^ t - 1) h (omega (arith, u, some)) (omega (arith, u, some)) ∙ (omega (arith, u, some)))
+
+    between : k - half t ≤ m → m ≤ k + half t - 1 → m % 2 ^ t ≡ turn t (min (2 ^ t - 1) (m + half t - k))
+    between s r =
+        let n : min (2 ^ t - 1) (m + half t - k) ≡ m + half t - k = omega (arith, s, r, u, some) in
+        let e : m + half t - k + half t + j * 2 ^ t ≡ m + 1 * 2 ^ t = omega (arith, s, o, u, is) in
+        sym (ap (turn t) n ∙ same_mod (m + half t - k + half t) m j 1 (2 ^ t) e)
+
+pub addss_sum : {z : Scene} {x y : CExpr} {a b : ℕ} (w : ℕ) → 0 < w → w ≤ 32 → Gives z x a → Gives z y b → Gives z (sum stem.Addss w w x y) (turn w a + turn w b)
+addss_sum {z} {x} {y} {a} {b} w h l p q =
+    let r = top_32 w l in
+    let u = turn_below w a in
+    let v = turn_below w b in
+    add (turned_gives w p (omega (arith, l))) (turned_gives w q (omega (arith, l))) (omega (arith, r, u, v))
+
+pub addss_law : {z : Scene} {e : CExpr} {a b : ℕ} (w : ℕ) → 0 < w → w ≤ 32 → Gives z e (turn w a + turn w b) → a < 2 ^ w → b < 2 ^ w → Gives z (from_sum stem.Addss w w e) (apply stem.Addss w w a b).0
+addss_law {z} {e} {a} {b} w h l g k m =
     let A = turn w a in
     let B = turn w b in
     let r = top_32 w l in
     let u = turn_below w a in
     let v = turn_below w b in
-    let small : A + B < 2 ^ 64 = omega (arith, r, u, v) in
-    let sum = add (turned_gives w p (omega (arith, l))) (turned_gives w q (omega (arith, l))) small in
-    let rest = without_gives sum (number z (half w)) small in
-    let d = distance w a h k in
-    let e = distance w b h m in
-    let s : signed w a +ℤ signed w b ≡ pos (A + B) -ℤ pos (half w + half w) = omega (arith, ints, d, e) in
-    let n : A + B + half w - (half w + half w) ≡ A + B - half w = omega arith in
-    same (clamp_s w (signed w a +ℤ signed w b)) (turned_gives w (at_most_gives (ones w) rest) (omega (arith, l)))
-    (sym (clamp_s_is w (A + B) (half w + half w) (signed w a +ℤ signed w b) h s ∙ ap (λ i. turn w (min (2 ^ w - 1) i)) n))
+    let t = twice w h in
+    let i = distance w a h k in
+    let j = distance w b h m in
+    let s : signed w a +ℤ signed w b ≡ pos (A + B) -ℤ pos (2 ^ w) = omega (arith, ints, i, j, t) in
+    same (clamp_s w (signed w a +ℤ signed w b)) (clamped_gives w (2 ^ w) 1 h (omega (arith, l)) (omega arith) (omega (arith, t)) (omega (arith, r, u, v)) g)
+    (sym (clamp_s_is w (A + B) (2 ^ w) (signed w a +ℤ signed w b) h s))
 
-pub addus_law : {z : Scene} {x y : CExpr} {a b : ℕ} (w : ℕ) → w ≤ 32 → Gives z x a → Gives z y b → a < 2 ^ w → b < 2 ^ w → Gives z (first stem.Addus w w x y) (apply stem.Addus w w a b).0
-addus_law {z} {x} {y} {a} {b} w l p q k m =
-    let r = top_32 w l in
-    let small : a + b < 2 ^ 64 = omega (arith, r, k, m) in
-    same (clamp_u w (pos (a + b))) (at_most_gives (ones w) (add p q small)) (sym (clamp_u_is w (a + b) 0 (pos (a + b)) (omega (arith, ints)) ∙ (omega arith)))
+pub addus_sum : {z : Scene} {x y : CExpr} {a b : ℕ} (w : ℕ) → w ≤ 32 → Gives z x a → Gives z y b → a < 2 ^ w → b < 2 ^ w → Gives z (sum stem.Addus w w x y) (a + b)
+addus_sum {z} {x} {y} {a} {b} w l p q k m = let r = top_32 w l in add p q (omega (arith, r, k, m))
+
+pub addus_law : {z : Scene} {e : CExpr} (a b w : ℕ) → Gives z e (a + b) → Gives z (from_sum stem.Addus w w e) (apply stem.Addus w w a b).0
+addus_law {z} {e} a b w g = same (clamp_u w (pos (a + b))) (at_most_gives (ones w) g) (sym (clamp_u_is w (a + b) 0 (pos (a + b)) (omega (arith, ints)) ∙ (omega arith)))
 
 pub sub_law : {z : Scene} {x y : CExpr} {a b : ℕ} (w : ℕ) → w ≤ 64 → Gives z x a → Gives z y b → b < 2 ^ w → Gives z (first stem.Sub w w x y) (apply stem.Sub w w a b).0
 sub_law {z} {x} {y} {a} {b} w l p q m =
     let r = top_64 w l in
     same (wrap w (pos a -ℤ pos b)) (low_cut (a + (2 ^ 64 - b)) w (sub_mod p q) l) (sym (wrap_64 w a b (pos a -ℤ pos b) refl (omega (arith, m, r)) l))
 
-pub subss_law : {z : Scene} {x y : CExpr} {a b : ℕ} (w : ℕ) → 0 < w → w ≤ 32 → Gives z x a → Gives z y b → a < 2 ^ w → b < 2 ^ w → Gives z (first stem.Subss w w x y) (apply stem.Subss w w a b).0
-subss_law {z} {x} {y} {a} {b} w h l p q k m =
+pub subss_sum : {z : Scene} {x y : CExpr} {a b : ℕ} (w : ℕ) → w ≤ 32 → Gives z x a → Gives z y b → Gives z (sum stem.Subss w w x y) (turn w a + 2 ^ w - turn w b)
+subss_sum {z} {x} {y} {a} {b} w l p q =
+    let r = top_32 w l in
+    let u = turn_below w a in
+    let v = turn_below w b in
+    let small : turn w a + 2 ^ w < 2 ^ 64 = omega (arith, r, u) in
+    sub (add (turned_gives w p (omega (arith, l))) (number z (2 ^ w)) small) (turned_gives w q (omega (arith, l))) (omega (arith, v)) small
+
+pub subss_law : {z : Scene} {e : CExpr} {a b : ℕ} (w : ℕ) → 0 < w → w ≤ 32 → Gives z e (turn w a + 2 ^ w - turn w b) → a < 2 ^ w → b < 2 ^ w → Gives z (from_sum stem.Subss w w e) (apply stem.Subss w w a b).0
+subss_law {z} {e} {a} {b} w h l g k m =
     let A = turn w a in
     let B = turn w b in
     let r = top_32 w l in
     let u = turn_below w a in
+    let v = turn_below w b in
     let t = twice w h in
-    let small : A + half w < 2 ^ 64 = omega (arith, r, u, t) in
-    let up = add (turned_gives w p (omega (arith, l))) (number z (half w)) small in
-    let rest = without_gives up (turned_gives w q (omega (arith, l))) small in
-    let d = distance w a h k in
-    let e = distance w b h m in
-    let s : signed w a -ℤ signed w b ≡ pos A -ℤ pos B = omega (arith, ints, d, e) in
-    same (clamp_s w (signed w a -ℤ signed w b)) (turned_gives w (at_most_gives (ones w) rest) (omega (arith, l))) (sym (clamp_s_is w A B (signed w a -ℤ signed w b) h s))
+    let i = distance w a h k in
+    let j = distance w b h m in
+    let s : signed w a -ℤ signed w b ≡ pos (A + 2 ^ w - B) -ℤ pos (2 ^ w) = omega (arith, ints, i, j, v) in
+    same (clamp_s w (signed w a -ℤ signed w b)) (clamped_gives w (2 ^ w) 1 h (omega (arith, l)) (omega arith) (omega (arith, t)) (omega (arith, r, u)) g)
+    (sym (clamp_s_is w (A + 2 ^ w - B) (2 ^ w) (signed w a -ℤ signed w b) h s))
 
 pub subus_law : {z : Scene} {x y : CExpr} {a b : ℕ} (w : ℕ) → w ≤ 32 → Gives z x a → Gives z y b → a < 2 ^ w → Gives z (first stem.Subus w w x y) (apply stem.Subus w w a b).0
 subus_law {z} {x} {y} {a} {b} w l p q k =
@@ -309,19 +352,41 @@ minu_law {z} {x} {y} {a} {b} w t p q = same (min a b) (choose_less y x b a q p (
 
 -- ---- shifts
 
+if_below_gives : {z : Scene} {y : CExpr} {b : ℕ} (w : ℕ) (e : CExpr) (v : ℕ) → Gives z y b → (b < w → Gives z e v) → Gives z (if_below w y e) (cond (nat_lt b w) v 0)
+if_below_gives {z} {y} {b} w e v q h = by (number_of y) refl
+  where
+    picked : (t : Bool) → nat_lt b w ≡ t → Gives z (if t then e else Number 0) (cond t v 0)
+    picked true k = h (grind (arith, nat_tests, k))
+    picked false k = number z 0
+
+    by : (o : Option ℕ) → number_of y ≡ o → Gives z (if_below_by w y e o) (cond (nat_lt b w) v 0)
+    by (Some n) k = subst (λ n. Gives z (if nat_lt n w then e else Number 0) (cond (nat_lt b w) v 0)) (sym (number_value k q)) (picked (nat_lt b w) refl)
+    by None k = choose_less e (Number 0) v 0 q (number z w) h (λ s. number z 0)
+
 pub shl_law : {z : Scene} {x y : CExpr} {a b : ℕ} (w t : ℕ) → w ≤ 64 → t ≤ 64 → Gives z x a → Gives z y b → Gives z (first stem.Shl w t x y) (apply stem.Shl w t a b).0
 shl_law {z} {x} {y} {a} {b} w t h l p q =
-    choose_less (low t (Two Shl x y)) (Number 0) (a * 2 ^ b % 2 ^ t) 0 q (number z w) (λ s. low_cut (a * 2 ^ b) t (shl p q (omega (arith, s, h))) l) (λ s. number z 0)
+    if_below_gives w (low t (Two Shl x y)) (a * 2 ^ b % 2 ^ t) q (λ s. low_cut (a * 2 ^ b) t (shl p q (omega (arith, s, h))) l)
 
 pub shru_law : {z : Scene} {x y : CExpr} {a b : ℕ} (w t : ℕ) → w ≤ 64 → Gives z x a → Gives z y b → Gives z (first stem.Shru w t x y) (apply stem.Shru w t a b).0
-shru_law {z} {x} {y} {a} {b} w t h p q = choose_less (Two Shr x y) (Number 0) (a / 2 ^ b) 0 q (number z w) (λ s. shr p q (omega (arith, s, h))) (λ s. number z 0)
+shru_law {z} {x} {y} {a} {b} w t h p q = if_below_gives w (Two Shr x y) (a / 2 ^ b) q (λ s. shr p q (omega (arith, s, h)))
 
 few_gives : {z : Scene} {y : CExpr} {b : ℕ} (w : ℕ) → 0 < w → Gives z y b → Gives z (few w y) (min b (w - 1))
-few_gives {z} {y} {b} w h q = same (min b (w - 1)) (choose_less y (Number (w - 1)) b (w - 1) q (number z w) (λ s. q) (λ s. number z (w - 1))) (by (cases_lt b w))
+few_gives {z} {y} {b} w h q = any (number_of y) refl
   where
     by : (b < w) ⊎ (w ≤ b) → cond (nat_lt b w) b (w - 1) ≡ min b (w - 1)
     by (inl s) = let t : nat_lt b w ≡ true = grind (arith, nat_tests) in rw t (omega (arith, s))
     by (inr s) = let t : nat_lt b w ≡ false = grind (arith, nat_tests) in rw t (omega (arith, s))
+
+    any : (o : Option ℕ) → number_of y ≡ o → Gives z (few_by w y o) (min b (w - 1))
+    any (Some n) k = same (min b (w - 1)) (number z (min n (w - 1))) (ap (λ n. min n (w - 1)) (number_value k q))
+    any None k = same (min b (w - 1)) (choose_less y (Number (w - 1)) b (w - 1) q (number z w) (λ s. q) (λ s. number z (w - 1))) (by (cases_lt b w))
+
+half_gives : {z : Scene} {y : CExpr} {b : ℕ} (w : ℕ) → 0 < w → w ≤ 64 → Gives z y b → Gives z (half_down w y) (half w / 2 ^ min b (w - 1))
+half_gives {z} {y} {b} w h l q = any (number_of y) refl
+  where
+    any : (o : Option ℕ) → number_of y ≡ o → Gives z (half_by w y o) (half w / 2 ^ min b (w - 1))
+    any (Some n) k = same (half w / 2 ^ min b (w - 1)) (number z (half w / 2 ^ min n (w - 1))) (ap (λ n. half w / 2 ^ min n (w - 1)) (number_value k q))
+    any None k = shr (number z (half w)) (few_gives w h q) (omega (arith, h, l))
 
 pub shrs_law : {z : Scene} {x y : CExpr} {a b : ℕ} (w t : ℕ) → 0 < w → w ≤ 64 → t ≤ 64 → Gives z x a → Gives z y b → a < 2 ^ w → Gives z (first stem.Shrs w t x y) (apply stem.Shrs w t a b).0
 shrs_law {z} {x} {y} {a} {b} w t h l k p q m =
@@ -330,7 +395,7 @@ shrs_law {z} {x} {y} {a} {b} w t h l k p q m =
     let small : c < 64 = omega (arith, h, l) in
     let count = few_gives w h q in
     let moved = shr (turned_gives w p l) count small in
-    let least = shr (number z (half w)) count small in
+    let least = half_gives w h l q in
     let parts : half w ≡ 2 ^ (w - 1 - c) * 2 ^ c = ap (λ n. 2 ^ n) (let e : w - 1 ≡ w - 1 - c + c = omega (arith, h) in e) ∙ pow-add 2 (w - 1 - c) c in
     let quotient : half w / 2 ^ c ≡ 2 ^ (w - 1 - c) = ap (λ n. n / 2 ^ c) (parts ∙ (omega arith)) ∙ div-mul-add (2 ^ (w - 1 - c)) (2 ^ c) 0 (pow_pos c) in
     let s : signed w a ≡ pos A -ℤ pos (half w / 2 ^ c * 2 ^ c) = distance w a h m ∙ ap (λ n. pos A -ℤ pos n) (parts ∙ ap (λ n. n * 2 ^ c) (sym quotient)) in
@@ -361,24 +426,25 @@ split_second_law {a = a} y b w t l k p m = let top = top_64 w l in low_gives t p
 half_mono : (v w : ℕ) → v ≤ w → half v ≤ half w
 half_mono v w l = pow_mono (let i : v - 1 ≤ w - 1 = omega (arith, l) in i)
 
-pub convsss_law : {z : Scene} {x : CExpr} {a : ℕ} (y : CExpr) (b : ℕ) (w t : ℕ) → 0 < t → t ≤ w → w ≤ 64 → Gives z x a → a < 2 ^ w → Gives z (first stem.Convsss w t x y) (apply stem.Convsss w t a b).0
-convsss_law {z} {x} {a} y b w t h l k p m =
-    let A = turn w a in
-    let top = top_64 w k in
-    let u = turn_below w a in
-    let rest = without_gives (turned_gives w p k) (number z (half w - half t)) (let s : A < 2 ^ 64 = omega (arith, top, u) in s) in
-    let o = half_mono t w l in
-    let n : A + half t - half w ≡ A - (half w - half t) = omega (arith, o) in
-    same (clamp_s t (signed w a)) (turned_gives t (at_most_gives (ones t) rest) (omega (arith, l, k)))
-    (sym (clamp_s_is t A (half w) (signed w a) h (distance w a (omega (arith, h, l)) m) ∙ ap (λ i. turn t (min (2 ^ t - 1) i)) n))
+pub convsss_sum : {z : Scene} {x : CExpr} {a : ℕ} (y : CExpr) (w t : ℕ) → w ≤ 64 → Gives z x a → Gives z (sum stem.Convsss w t x y) (turn w a)
+convsss_sum y w t k p = turned_gives w p k
 
-pub convsus_law : {z : Scene} {x : CExpr} {a : ℕ} (y : CExpr) (b : ℕ) (w t : ℕ) → 0 < w → w ≤ 64 → Gives z x a → a < 2 ^ w → Gives z (first stem.Convsus w t x y) (apply stem.Convsus w t a b).0
-convsus_law {z} {x} {a} y b w t h k p m =
+pub convsss_law : {z : Scene} {e : CExpr} {a : ℕ} (b : ℕ) (w t : ℕ) → 0 < t → t + t ≡ w → w ≤ 64 → Gives z e (turn w a) → a < 2 ^ w → Gives z (from_sum stem.Convsss w t e) (apply stem.Convsss w t a b).0
+convsss_law {z} {e} {a} b w t h is k g m =
     let A = turn w a in
     let top = top_64 w k in
     let u = turn_below w a in
-    let rest = without_gives (turned_gives w p k) (number z (half w)) (let s : A < 2 ^ 64 = omega (arith, top, u) in s) in
-    same (clamp_u t (signed w a)) (at_most_gives (ones t) rest) (sym (clamp_u_is t A (half w) (signed w a) (distance w a h m)))
+    let o = half_mono t w (omega (arith, is)) in
+    let parts : half w ≡ half t * 2 ^ t = ap (λ n. 2 ^ n) (let n : w - 1 ≡ t - 1 + t = omega (arith, h, is) in n) ∙ pow-add 2 (t - 1) t in
+    same (clamp_s t (signed w a)) (clamped_gives t (half w) (half t) h (omega (arith, is, k)) parts o (omega (arith, top, u)) g)
+    (sym (clamp_s_is t A (half w) (signed w a) h (distance w a (omega (arith, h, is)) m)))
+
+pub convsus_law : {z : Scene} {x : CExpr} {a : ℕ} (y : CExpr) (b : ℕ) (w t : ℕ) → 0 < w → Gives z x a → a < 2 ^ w → Gives z (first stem.Convsus w t x y) (apply stem.Convsus w t a b).0
+convsus_law {z} {x} {a} y b w t h p m =
+    let c = clamp_u_is t (turn w a) (half w) (signed w a) (distance w a h m) in
+    choose_either (at_most (ones t) x) (Number 0) (clamp_u t (signed w a)) p (number z (half w))
+    (λ l. let e = turn_low w a h l in same (clamp_u t (signed w a)) (at_most_gives (ones t) p) (sym (c ∙ ap (λ i. min (2 ^ t - 1) i) (let n : turn w a - half w ≡ a = omega (arith, e) in n))))
+    (λ l. let e = turn_high w a h l m in let d = twice w h in same (clamp_u t (signed w a)) (number z 0) (sym (c ∙ ap (λ i. min (2 ^ t - 1) i) (let n : turn w a - half w ≡ 0 = omega (arith, e, d, m) in n) ∙ (omega arith))))
 
 pub convuss_law : {z : Scene} {x : CExpr} {a : ℕ} (y : CExpr) (b : ℕ) (w t : ℕ) → 0 < t → Gives z x a → Gives z (first stem.Convuss w t x y) (apply stem.Convuss w t a b).0
 convuss_law {z} {x} {a} y b w t h p =
@@ -431,10 +497,12 @@ exchange_law {z} {x} {a} y b w t f l p m =
     let high : a / 2 ^ v < 2 ^ v = div_below a (2 ^ v) (2 ^ v) o (subst (λ n. a < n) whole m) in
     add moved (shr p (number z v) small) (omega (arith, u, high))
 
-pub div255_law : {z : Scene} {x : CExpr} {a : ℕ} (y : CExpr) (b : ℕ) → Gives z x a → a < 2 ^ 16 → Gives z (first stem.Div255 16 16 x y) (apply stem.Div255 16 16 a b).0
-div255_law {z} {x} {a} y b p m =
+pub div255_sum : {z : Scene} {x : CExpr} {a : ℕ} (y : CExpr) → Gives z x a → a < 2 ^ 16 → Gives z (sum stem.Div255 16 16 x y) ((a + 128) % 2 ^ 16)
+div255_sum {z} {x} {a} y p m = low_gives 16 (add p (number z 128) (let i : a + 128 < 2 ^ 64 = omega (arith, m) in i)) (omega (arith, m)) (omega arith)
+
+pub div255_law : {z : Scene} {e : CExpr} (a b : ℕ) → Gives z e ((a + 128) % 2 ^ 16) → Gives z (from_sum stem.Div255 16 16 e) (apply stem.Div255 16 16 a b).0
+div255_law {z} {e} a b near =
     let s : ℕ = (a + 128) % 2 ^ 16 in
-    let near = low_gives 16 (add p (number z 128) (let i : a + 128 < 2 ^ 64 = omega (arith, m) in i)) (omega (arith, m)) (omega arith) in
     let part = shr near (number z 8) (omega arith) in
     let whole = add near part (let i : s + s / 2 ^ 8 < 2 ^ 64 = omega arith in i) in
     shr (low_gives 16 whole (omega arith) (omega arith)) (number z 8) (omega arith)

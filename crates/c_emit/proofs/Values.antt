@@ -93,6 +93,14 @@ choose_less {z} {a} {b} {x} {y} e f u v p q g h = by_choose e f (nat_lt x y) u v
 pub choose_equal : {z : Scene} {a b : CExpr} {x y : ℕ} (e f : CExpr) (u v : ℕ) → Gives z a x → Gives z b y → ((x == y) ≡ true → Gives z e u) → ((x == y) ≡ false → Gives z f v) → Gives z (Choose (Test Equal a b) e f) (cond (x == y) u v)
 choose_equal {z} {a} {b} {x} {y} e f u v p q g h = by_choose e f (x == y) u v (by_test Equal p q) g h
 
+one_value : (t : Bool) (v : ℕ) → cond t v v ≡ v
+one_value true v = refl
+one_value false v = refl
+
+-- both parts have one value, each under its condition
+pub choose_either : {z : Scene} {a b : CExpr} {x y : ℕ} (e f : CExpr) (v : ℕ) → Gives z a x → Gives z b y → (x < y → Gives z e v) → (y ≤ x → Gives z f v) → Gives z (Choose (less a b) e f) v
+choose_either {z} {a} {b} {x} {y} e f v p q g h = same v (choose_less e f v v p q g h) (one_value (nat_lt x y) v)
+
 -- ---- parts of formulas
 
 less_value : (t : Bool) (x y u v : ℕ) → t ≡ nat_lt x y → cond t u v ≡ cond (nat_lt x y) u v

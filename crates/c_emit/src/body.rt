@@ -3,7 +3,7 @@
 ghost use Rattle.std.specs.Prelude.{◌≡◌, ◌<◌, ◌≤◌, ◌+◌, ◌*◌, ◌-◌, ◌++◌, true, IfOk, OnOk, length};
 ghost use Rattle.std.specs.List.{list_all};
 ghost use Rattle.orc_bits.specs.Widths.{IsWidth};
-ghost use Rattle.orc_ops.specs.Table.{size_of_result, size_of_source};
+ghost use Rattle.orc_ops.specs.Table.{row, wide, to, size_of_source};
 ghost use Rattle.orc_program.specs.Program as program;
 ghost use Rattle.orc_program.specs.Program.{var_at};
 ghost use Rattle.orc_program.specs.Kept.{is_in_range};
@@ -11,23 +11,14 @@ ghost use Rattle.c_emit.specs.Expressions as expressions;
 ghost use Rattle.c_emit.specs.Body as body;
 ghost use Rattle.c_emit.specs.Shapes.{Fits, is_there};
 
-use crate::build::{down, low, number, two, up};
-use crate::formulas::first;
+use crate::build::{down, low, number, two, up, variable_of};
+use crate::formulas::{first, from_sum, has_sum, sum};
 use c_run::{CBody, CExpr, CIndex, COp, CStmt};
 use orc_bits::cut;
-use orc_emul::{array_number, count_before, variable};
+use orc_emul::{array_number, count, count_before, variable};
 use orc_ops::{Op, results, sources, stem_of, to_of, wide_of};
 use orc_program::{Function, Insn, Operand, VarKind};
 use std::alloc::{AllocError, Global};
-
-/// The variables of the sources' cells.
-const CELLS: [u8; 2] = [0, 1];
-
-/// The variables of the results.
-const RESULTS: [u8; 2] = [2, 3];
-
-/// The number of variables before those of the temps.
-pub const TEMPS_FROM: u8 = 4;
 
 /// The number of the array at a place.
 fn array_of(f: &Function, p: u16) -> u8
@@ -37,6 +28,14 @@ fn array_of(f: &Function, p: u16) -> u8
     // which says how few variables there are, so that the number fits
     let _few = variable(f, p);
     array_number(f, p) as u8
+}
+
+/// The number of variables of a kind.
+pub fn count_of(f: &Function, kind: VarKind) -> u8
+    ensures value { result ≡ program.count_of kind f.now.vars }
+    ensures few { result ≤ 184 }
+{
+    count(f.vars.as_slice(), kind) as u8
 }
 
 /// How many variables of a kind stand before a place.
@@ -55,7 +54,43 @@ fn temp_of(f: &Function, p: u16) -> u8
     requires { p < length f.now.vars }
     ensures { result ≡ body.temp_of f.now.vars p }
 {
-    TEMPS_FROM + number_of(f, VarKind::Temp, p)
+    number_of(f, VarKind::Temp, p)
+}
+
+/// The first variable behind those of the temps.
+fn first_free(f: &Function) -> u8
+    ensures value { result ≡ body.first_free f.now.vars }
+    ensures few { result ≤ 184 }
+{
+    count_of(f, VarKind::Temp)
+}
+
+/// How many variables the cell of a source takes.
+fn cells(f: &Function, source: Operand) -> u8
+    requires { is_in_range f.now.vars source ≡ true }
+    ensures value { result ≡ body.cells f.now.vars source }
+    ensures few { result ≤ 1 }
+{
+    match source {
+        Operand::Number(_) => 0,
+        Operand::Var(p) => match variable(f, p).kind {
+            VarKind::Source | VarKind::Dest => 1,
+            VarKind::Accumulator | VarKind::Param | VarKind::Const | VarKind::Temp => 0,
+        },
+    }
+}
+
+/// How many variables the cells of sources take.
+fn all_cells(f: &Function, from: &[Operand]) -> u8
+    requires { list_all (is_in_range f.now.vars) from.now ≡ true }
+    ensures value { result ≡ body.all_cells f.now.vars from.now }
+    ensures few { result ≤ 2 }
+{
+    match from {
+        [] => 0,
+        [x] => cells(f, *x),
+        [x, y, ..] => cells(f, *x) + cells(f, *y),
+    }
 }
 
 /// The index of a byte of the cell of the array at a place.
@@ -92,12 +127,16 @@ fn moved(alloc: Global, e: CExpr, n: u64) -> Result<CExpr, AllocError>
     if n == 0 { Ok(e) } else { down(alloc, e, n) }
 }
 
-/// Sub-lane q of w bits.
-fn part(alloc: Global, w: u32, q: u8, e: CExpr) -> Result<CExpr, AllocError>
+/// Sub-lane q of w bits of a number of n bytes. Nothing is cut where no bits stand above it.
+fn part(alloc: Global, n: u8, w: u32, q: u8, e: CExpr) -> Result<CExpr, AllocError>
     requires { IsWidth w }
-    ensures { IfOk result (λ r. r ≡ body.part w q e) }
+    ensures { IfOk result (λ r. r ≡ body.part n w q e) }
 {
-    let lane = moved(alloc, e, u64::from(w) * u64::from(q))?;
+    let from = u64::from(w) * u64::from(q);
+    let lane = moved(alloc, e, from)?;
+    if 8 * u64::from(n) <= from + u64::from(w) {
+        return Ok(lane);
+    }
     low(alloc, w, lane)
 }
 
@@ -116,8 +155,8 @@ fn lane_of_var(
 {
     let var = variable(f, p);
     match var.kind {
-        VarKind::Source | VarKind::Dest => part(alloc, w, q, CExpr::V(d)),
-        VarKind::Temp => part(alloc, w, q, CExpr::V(temp_of(f, p))),
+        VarKind::Source | VarKind::Dest => part(alloc, var.size, w, q, CExpr::V(d)),
+        VarKind::Temp => part(alloc, var.size, w, q, CExpr::V(temp_of(f, p))),
         VarKind::Param => low(alloc, w, CExpr::P(number_of(f, VarKind::Param, p))),
         VarKind::Const => Ok(number(cut(var.number, w))),
         VarKind::Accumulator => Ok(number(0)),
@@ -152,11 +191,11 @@ fn lane_first(
     from: &[Operand],
 ) -> Result<CExpr, AllocError>
     requires { list_all (is_in_range f.now.vars) from.now ≡ true }
-    ensures { IfOk result (λ e. e ≡ body.lane_first f.now.vars op q from.now) }
+    ensures { IfOk result (λ e. e ≡ body.lane_first f.now.vars op q (body.first_free f.now.vars) from.now) }
 {
     match from {
         [] => Ok(number(0)),
-        [x, ..] => lane_of(alloc, f, wide_of(op), q, CELLS[0], *x),
+        [x, ..] => lane_of(alloc, f, wide_of(op), q, first_free(f), *x),
     }
 }
 
@@ -179,18 +218,90 @@ fn lane_second(
 ) -> Result<CExpr, AllocError>
     requires known { list_all (is_in_range f.now.vars) from.now ≡ true }
     requires there { 1 < length from.now → is_there (size_of_source op 1) ≡ true }
-    ensures { IfOk result (λ e. e ≡ body.lane_second f.now.vars op q from.now) }
+    ensures { IfOk result (λ e. e ≡ body.lane_second f.now.vars op q (body.first_free f.now.vars) from.now) }
 {
     match from {
         [] | [_] => Ok(number(0)),
-        [_, y, ..] => lane_of(alloc, f, second_wide_of(op), q, CELLS[1], *y),
+        [x, y, ..] => {
+            let d = first_free(f) + cells(f, *x);
+            lane_of(alloc, f, second_wide_of(op), q, d, *y)
+        }
     }
 }
 
-/// The first result on a sub-lane.
-fn first_at(alloc: Global, f: &Function, insn: &Insn, q: u8) -> Result<CExpr, AllocError>
+/// The first variable behind those of the cells.
+fn sums_from(f: &Function, insn: &Insn) -> u8
     requires { Fits f.now.vars insn.now }
-    ensures { IfOk result (λ e. e ≡ body.first_at f.now.vars insn.now q) }
+    ensures value { result ≡ body.sums_from f.now.vars insn.now }
+    ensures few { result ≤ 186 }
+{
+    first_free(f) + all_cells(f, insn.sources.as_slice())
+}
+
+/// How many sums an instruction keeps.
+fn sum_count(insn: &Insn) -> u8
+    ensures value { result ≡ body.sum_count insn.now }
+    ensures few { result ≤ insn.now.prefix }
+{
+    if has_sum(stem_of(insn.op)) {
+        insn.prefix
+    } else {
+        0
+    }
+}
+
+/// The sum of a sub-lane.
+fn sum_at(alloc: Global, f: &Function, insn: &Insn, q: u8) -> Result<CExpr, AllocError>
+    requires { Fits f.now.vars insn.now }
+    ensures { IfOk result (λ e. e ≡ body.sum_at f.now.vars insn.now q) }
+{
+    let from = insn.sources.as_slice();
+    let x = lane_first(alloc, f, insn.op, q, from)?;
+    let y = lane_second(alloc, f, insn.op, q, from)?;
+    sum(
+        alloc,
+        stem_of(insn.op),
+        wide_of(insn.op),
+        to_of(insn.op),
+        x,
+        y,
+    )
+}
+
+/// The sums go to variables.
+fn add_sums(alloc: Global, f: &Function, to: &mut CBody, insn: &Insn) -> Result<(), AllocError>
+    requires { Fits f.now.vars insn.now }
+    ensures { OnOk result (to.new ≡ to.old ++ body.sums f.now.vars insn.now (body.sum_count insn.now)) }
+{
+    for q in 0..sum_count(insn) {
+        let e = sum_at(alloc, f, insn, q)?;
+        to.push(CStmt::SetV(sums_from(f, insn) + q, e))?;
+    }
+    Ok(())
+}
+
+/// The first result on a sub-lane by its sum.
+fn first_by_sum(alloc: Global, f: &Function, insn: &Insn, q: u8) -> Result<CExpr, AllocError>
+    requires fits { Fits f.now.vars insn.now }
+    requires few { q < 4 }
+    ensures { IfOk result (λ e. e ≡
+        expressions.from_sum (row insn.now.op).stem (wide insn.now.op) (to insn.now.op) (CExpr.V (body.sums_from f.now.vars insn.now + q))) }
+{
+    from_sum(
+        alloc,
+        stem_of(insn.op),
+        wide_of(insn.op),
+        to_of(insn.op),
+        CExpr::V(sums_from(f, insn) + q),
+    )
+}
+
+/// The first result on a sub-lane by its sources.
+fn first_by_lanes(alloc: Global, f: &Function, insn: &Insn, q: u8) -> Result<CExpr, AllocError>
+    requires { Fits f.now.vars insn.now }
+    ensures { IfOk result (λ e. e ≡ expressions.first (row insn.now.op).stem (wide insn.now.op) (to insn.now.op)
+        (body.lane_first f.now.vars insn.now.op q (body.first_free f.now.vars) insn.now.sources.items)
+        (body.lane_second f.now.vars insn.now.op q (body.first_free f.now.vars) insn.now.sources.items)) }
 {
     let from = insn.sources.as_slice();
     let x = lane_first(alloc, f, insn.op, q, from)?;
@@ -205,6 +316,19 @@ fn first_at(alloc: Global, f: &Function, insn: &Insn, q: u8) -> Result<CExpr, Al
     )
 }
 
+/// The first result on a sub-lane.
+fn first_at(alloc: Global, f: &Function, insn: &Insn, q: u8) -> Result<CExpr, AllocError>
+    requires fits { Fits f.now.vars insn.now }
+    requires few { q < 4 }
+    ensures { IfOk result (λ e. e ≡ body.first_at f.now.vars insn.now q) }
+{
+    if has_sum(stem_of(insn.op)) {
+        first_by_sum(alloc, f, insn, q)
+    } else {
+        first_by_lanes(alloc, f, insn, q)
+    }
+}
+
 /// The second result on a sub-lane.
 fn second_at(alloc: Global, f: &Function, insn: &Insn, q: u8) -> Result<CExpr, AllocError>
     requires { Fits f.now.vars insn.now }
@@ -217,8 +341,7 @@ fn second_at(alloc: Global, f: &Function, insn: &Insn, q: u8) -> Result<CExpr, A
 /// The first results of all sub-lanes, packed.
 fn packed_first(alloc: Global, f: &Function, insn: &Insn) -> Result<CExpr, AllocError>
     requires { Fits f.now.vars insn.now }
-    ensures { IfOk result (λ e. e ≡
-        body.packed (8 * size_of_result insn.now.op 0) (insn.now.prefix - 1) (body.first_at f.now.vars insn.now)) }
+    ensures { IfOk result (λ e. e ≡ body.first_of f.now.vars insn.now) }
 {
     let bits = 8 * u64::from(results(insn.op)[0]);
     let mut all = first_at(alloc, f, insn, 0)?;
@@ -233,8 +356,7 @@ fn packed_first(alloc: Global, f: &Function, insn: &Insn) -> Result<CExpr, Alloc
 /// The second results of all sub-lanes, packed.
 fn packed_second(alloc: Global, f: &Function, insn: &Insn) -> Result<CExpr, AllocError>
     requires { Fits f.now.vars insn.now }
-    ensures { IfOk result (λ e. e ≡
-        body.packed (8 * size_of_result insn.now.op 1) (insn.now.prefix - 1) (body.second_at f.now.vars insn.now)) }
+    ensures { IfOk result (λ e. e ≡ body.second_of f.now.vars insn.now) }
 {
     let bits = 8 * u64::from(results(insn.op)[1]);
     let mut all = second_at(alloc, f, insn, 0)?;
@@ -292,40 +414,21 @@ fn add_reads(
     from: &[Operand],
 ) -> Result<(), AllocError>
     requires { list_all (is_in_range f.now.vars) from.now ≡ true }
-    ensures { OnOk result (to.new ≡ to.old ++ body.reads f.now.vars from.now) }
+    ensures { OnOk result (to.new ≡ to.old ++ body.reads f.now.vars (body.first_free f.now.vars) from.now) }
 {
+    let d = first_free(f);
     match from {
         [] => Ok(()),
-        [x] => add_read(alloc, f, to, CELLS[0], *x),
+        [x] => add_read(alloc, f, to, d, *x),
         [x, y, ..] => {
-            add_read(alloc, f, to, CELLS[0], *x)?;
-            add_read(alloc, f, to, CELLS[1], *y)
-        }
-    }
-}
-
-/// The results go to variables.
-fn add_results(alloc: Global, f: &Function, to: &mut CBody, insn: &Insn) -> Result<(), AllocError>
-    requires { Fits f.now.vars insn.now }
-    ensures { OnOk result (to.new ≡ to.old ++ body.computes_by f.now.vars insn.now insn.now.results.items) }
-{
-    match insn.results.as_slice() {
-        [] => Ok(()),
-        [_] => {
-            let first = packed_first(alloc, f, insn)?;
-            to.push(CStmt::SetV(RESULTS[0], first))
-        }
-        [_, _, ..] => {
-            let first = packed_first(alloc, f, insn)?;
-            let second = packed_second(alloc, f, insn)?;
-            to.push(CStmt::SetV(RESULTS[0], first))?;
-            to.push(CStmt::SetV(RESULTS[1], second))
+            add_read(alloc, f, to, d, *x)?;
+            add_read(alloc, f, to, d + cells(f, *x), *y)
         }
     }
 }
 
 /// The low bytes of a variable go to the cell of an array.
-fn add_stores(alloc: Global, f: &Function, to: &mut CBody, d: u8, p: u16) -> Result<(), AllocError>
+fn add_bytes(alloc: Global, f: &Function, to: &mut CBody, d: u8, p: u16) -> Result<(), AllocError>
     requires { p < length f.now.vars }
     ensures { OnOk result (to.new ≡ to.old ++ body.stores f.now.vars p d (var_at f.now.vars p).size) }
 {
@@ -336,80 +439,114 @@ fn add_stores(alloc: Global, f: &Function, to: &mut CBody, d: u8, p: u16) -> Res
     Ok(())
 }
 
-/// A variable is added to a running sum.
-fn add_sum(alloc: Global, f: &Function, to: &mut CBody, d: u8, p: u16) -> Result<(), AllocError>
+/// An expression goes to the cell of an array, by way of variable d where it is longer than a byte and no variable.
+fn add_stores(
+    alloc: Global,
+    f: &Function,
+    to: &mut CBody,
+    d: u8,
+    p: u16,
+    e: CExpr,
+) -> Result<(), AllocError>
     requires { p < length f.now.vars }
-    ensures { OnOk result (to.new ≡ to.old ++ body.writes_var f.now.vars d p VarKind.Accumulator) }
+    ensures { OnOk result (to.new ≡ to.old ++ body.stores_by f.now.vars d p e (expressions.variable_of e)) }
+{
+    match variable_of(&e) {
+        Some(k) => add_bytes(alloc, f, to, k, p),
+        None => {
+            if variable(f, p).size == 1 {
+                return to.push(CStmt::SetByte(array_of(f, p), index_of(f, p, 0), e));
+            }
+            to.push(CStmt::SetV(d, e))?;
+            add_bytes(alloc, f, to, d, p)
+        }
+    }
+}
+
+/// An expression is added to a running sum.
+fn add_sum(alloc: Global, f: &Function, to: &mut CBody, p: u16, e: CExpr) -> Result<(), AllocError>
+    requires { p < length f.now.vars }
+    ensures { OnOk result (to.new ≡ to.old ++ body.writes_var f.now.vars 0 p e VarKind.Accumulator) }
 {
     let k = number_of(f, VarKind::Accumulator, p);
-    let sum = two(alloc, COp::Add, CExpr::W(k), CExpr::V(d))?;
+    let sum = two(alloc, COp::Add, CExpr::W(k), e)?;
     let cut = low(alloc, 8 * u32::from(variable(f, p).size), sum)?;
     to.push(CStmt::SetW(k, cut))
 }
 
-/// A variable goes to the variable at a place of the function.
+/// An expression goes to the variable at a place of the function, where variable d is free.
 fn add_write_var(
     alloc: Global,
     f: &Function,
     to: &mut CBody,
     d: u8,
     p: u16,
+    e: CExpr,
 ) -> Result<(), AllocError>
     requires { p < length f.now.vars }
-    ensures { OnOk result (to.new ≡ to.old ++ body.writes_var f.now.vars d p (var_at f.now.vars p).kind) }
+    ensures { OnOk result (to.new ≡ to.old ++ body.writes_var f.now.vars d p e (var_at f.now.vars p).kind) }
 {
     match variable(f, p).kind {
-        VarKind::Dest => add_stores(alloc, f, to, d, p),
-        VarKind::Temp => to.push(CStmt::SetV(temp_of(f, p), CExpr::V(d))),
-        VarKind::Accumulator => add_sum(alloc, f, to, d, p),
+        VarKind::Dest => add_stores(alloc, f, to, d, p, e),
+        VarKind::Temp => to.push(CStmt::SetV(temp_of(f, p), e)),
+        VarKind::Accumulator => add_sum(alloc, f, to, p, e),
         VarKind::Source | VarKind::Param | VarKind::Const => Ok(()),
     }
 }
 
-/// A variable goes to a result.
+/// An expression goes to a result, where variable d is free.
 fn add_write(
     alloc: Global,
     f: &Function,
     to: &mut CBody,
     d: u8,
     into: Operand,
+    e: CExpr,
 ) -> Result<(), AllocError>
     requires { is_in_range f.now.vars into ≡ true }
-    ensures { OnOk result (to.new ≡ to.old ++ body.writes_one f.now.vars d into) }
+    ensures { OnOk result (to.new ≡ to.old ++ body.writes_one f.now.vars d e into) }
 {
     match into {
-        Operand::Var(p) => add_write_var(alloc, f, to, d, p),
+        Operand::Var(p) => add_write_var(alloc, f, to, d, p, e),
         Operand::Number(_) => Ok(()),
     }
 }
 
-/// The results are written, the first before the second.
+/// The results are written, where variable d is free and the next one. Of two the second is computed first, and written last.
 fn add_writes(
     alloc: Global,
     f: &Function,
     to: &mut CBody,
-    into: &[Operand],
+    d: u8,
+    insn: &Insn,
 ) -> Result<(), AllocError>
-    requires { list_all (is_in_range f.now.vars) into.now ≡ true }
-    ensures { OnOk result (to.new ≡ to.old ++ body.writes f.now.vars into.now) }
+    requires fits { Fits f.now.vars insn.now }
+    requires free { d < 255 }
+    ensures { OnOk result (to.new ≡ to.old ++ body.writes f.now.vars d insn.now insn.now.results.items) }
 {
-    match into {
+    match insn.results.as_slice() {
         [] => Ok(()),
-        [x] => add_write(alloc, f, to, RESULTS[0], *x),
+        [x] => {
+            let first = packed_first(alloc, f, insn)?;
+            add_write(alloc, f, to, d, *x, first)
+        }
         [x, y, ..] => {
-            add_write(alloc, f, to, RESULTS[0], *x)?;
-            add_write(alloc, f, to, RESULTS[1], *y)
+            let first = packed_first(alloc, f, insn)?;
+            let second = packed_second(alloc, f, insn)?;
+            to.push(CStmt::SetV(d, second))?;
+            add_write(alloc, f, to, d + 1, *x, first)?;
+            add_write(alloc, f, to, d + 1, *y, CExpr::V(d))
         }
     }
 }
 
-/// The statements of an instruction: its sources are read from the left, its results are computed, and then written.
+/// The statements of an instruction: its sources are read from the left, its sums are kept, and its results are computed and written.
 #[tactic(auto, unfolding(crate::specs::Body::insn_body))]
 pub fn add_insn(alloc: Global, f: &Function, to: &mut CBody, insn: &Insn) -> Result<(), AllocError>
     requires { Fits f.now.vars insn.now }
     ensures { OnOk result (to.new ≡ to.old ++ body.insn_body f.now.vars insn.now) }
 {
     add_reads(alloc, f, to, insn.sources.as_slice())?;
-    add_results(alloc, f, to, insn)?;
-    add_writes(alloc, f, to, insn.results.as_slice())
+    add_sums(alloc, f, to, insn)?;
+    add_writes(alloc, f, to, sums_from(f, insn) + sum_count(insn), insn)
 }

@@ -1,6 +1,6 @@
 //! Expressions from their parts.
 
-ghost use Rattle.std.specs.Prelude.{◌≡◌, ◌<◌, ◌≤◌, IfOk};
+ghost use Rattle.std.specs.Prelude.{◌≡◌, ◌<◌, ◌≤◌, ◌+◌, ◌/◌, ◌^◌, IfOk};
 ghost use Rattle.orc_bits.specs.Widths.{IsWidth};
 ghost use Rattle.orc_ops.specs.Stems.{ones};
 ghost use Rattle.c_run.specs.declared.tree.CCmp.TheVariants.{Equal};
@@ -161,6 +161,21 @@ pub fn without(alloc: Global, a: CExpr, b: CExpr) -> Result<CExpr, AllocError>
     choose_less(alloc, first, second, number(0), rest)
 }
 
+/// The number of t bits of an expression less k as a signed one: the least or the greatest where that is past them.
+pub fn clamped(alloc: Global, t: u32, k: u64, e: CExpr) -> Result<CExpr, AllocError>
+    requires width { IsWidth t }
+    requires least { expressions.half t ≤ k }
+    requires greatest { k + expressions.half t < 2 ^ 64 }
+    ensures { IfOk result (λ r. r ≡ expressions.clamped t k e) }
+{
+    let first = copy(alloc, &e)?;
+    let second = copy(alloc, &e)?;
+    let rest = low(alloc, t, e)?;
+    let greatest = number(k + half(t) - 1);
+    let upper = choose_less(alloc, greatest, second, number(half(t) - 1), rest)?;
+    choose_less(alloc, first, number(k - half(t)), number(half(t)), upper)
+}
+
 /// All ones where a test holds, else 0.
 pub fn mask_if(alloc: Global, t: u32, c: CExpr) -> Result<CExpr, AllocError>
     requires { IsWidth t }
@@ -187,11 +202,46 @@ pub fn wide(alloc: Global, w: u32, e: CExpr) -> Result<CExpr, AllocError>
     two(alloc, COp::Sub, distance, number(half(w)))
 }
 
-/// A shift's result, or 0 where the count is not below the width.
+/// The number that an expression is, if it is one.
+fn number_of(e: &CExpr) -> Option<u64>
+    ensures { result ≡ expressions.number_of e.now }
+{
+    match e {
+        CExpr::Number(n) => Some(*n),
+        CExpr::V(_)
+        | CExpr::W(_)
+        | CExpr::P(_)
+        | CExpr::Byte(_, _)
+        | CExpr::Two(_, _, _)
+        | CExpr::Test(_, _, _)
+        | CExpr::Choose(_, _, _) => None,
+    }
+}
+
+/// The variable that an expression is, if it is one.
+pub fn variable_of(e: &CExpr) -> Option<u8>
+    ensures { result ≡ expressions.variable_of e.now }
+{
+    match e {
+        CExpr::V(d) => Some(*d),
+        CExpr::Number(_)
+        | CExpr::W(_)
+        | CExpr::P(_)
+        | CExpr::Byte(_, _)
+        | CExpr::Two(_, _, _)
+        | CExpr::Test(_, _, _)
+        | CExpr::Choose(_, _, _) => None,
+    }
+}
+
+/// A shift's result, or 0 where the count is not below the width. A count that is a number is tested here.
 pub fn if_below(alloc: Global, w: u32, count: CExpr, e: CExpr) -> Result<CExpr, AllocError>
     ensures { IfOk result (λ r. r ≡ expressions.if_below w count e) }
 {
-    choose_less(alloc, count, number(u64::from(w)), e, number(0))
+    match number_of(&count) {
+        Some(n) => Ok(if n < u64::from(w) { e } else { number(0) }),
+        None => choose_less(alloc, count, number(u64::from(w)), e, number(0)),
+    }
 }
 
 /// The count of a shift, and one less than the width in place of a greater one.
@@ -199,6 +249,9 @@ pub fn few(alloc: Global, w: u32, count: &CExpr) -> Result<CExpr, AllocError>
     requires { IsWidth w }
     ensures { IfOk result (λ r. r ≡ expressions.few w count.now) }
 {
+    if let Some(n) = number_of(count) {
+        return Ok(number(n.min(u64::from(w - 1))));
+    }
     let tested = copy(alloc, count)?;
     let kept = copy(alloc, count)?;
     choose_less(
@@ -208,6 +261,26 @@ pub fn few(alloc: Global, w: u32, count: &CExpr) -> Result<CExpr, AllocError>
         kept,
         number(u64::from(w - 1)),
     )
+}
+
+/// Half of what so many bits can hold, shifted down.
+fn half_after(w: u32, n: u64) -> u64
+    requires width { IsWidth w }
+    requires few { n < 64 }
+    ensures { result ≡ expressions.half w / 2 ^ n }
+{
+    half(w) >> n
+}
+
+/// Half of what so many bits can hold, shifted down by such a count.
+pub fn half_down(alloc: Global, w: u32, count: &CExpr) -> Result<CExpr, AllocError>
+    requires { IsWidth w }
+    ensures { IfOk result (λ r. r ≡ expressions.half_down w count.now) }
+{
+    match number_of(count) {
+        Some(n) => Ok(number(half_after(w, n.min(u64::from(w - 1))))),
+        None => two(alloc, COp::Shr, number(half(w)), few(alloc, w, count)?),
+    }
 }
 
 /// Byte k of an expression at place j.

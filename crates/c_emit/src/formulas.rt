@@ -9,8 +9,8 @@ ghost use Rattle.c_emit.specs.Expressions as expressions;
 ghost use Rattle.c_emit.specs.Expressions.{first, fits};
 
 use crate::build::{
-    at_most, choose, choose_less, copy, down, equal, few, half, if_below, less, low, mask_if,
-    number, ones, plus, swapped, turned, two, up, wide, without,
+    at_most, choose, choose_less, clamped, copy, down, equal, few, half, half_down, if_below, less,
+    low, mask_if, number, ones, plus, swapped, turned, two, up, wide, without,
 };
 use c_run::{CExpr, COp};
 use orc_ops::Stem;
@@ -22,16 +22,6 @@ fn whole(w: u32) -> u64
     ensures { result ≡ 2 ^ w }
 {
     1 << w
-}
-
-/// The distance of a clamped number from the least one, back as a number: the first without the second, at most all ones.
-fn clamped(alloc: Global, t: u32, a: CExpr, b: CExpr) -> Result<CExpr, AllocError>
-    requires { IsWidth t }
-    ensures { IfOk result (λ r. r ≡ expressions.turned t (expressions.at_most (ones t) (expressions.without a b))) }
-{
-    let rest = without(alloc, a, b)?;
-    let least = at_most(alloc, ones(t), rest)?;
-    turned(alloc, t, least)
 }
 
 /// The product of the signed readings, at 64 bits.
@@ -81,27 +71,6 @@ fn add(alloc: Global, t: u32, x: CExpr, y: CExpr) -> Result<CExpr, AllocError>
     low(alloc, t, sum)
 }
 
-/// A sum of signed numbers, clamped.
-fn addss(alloc: Global, w: u32, t: u32, x: CExpr, y: CExpr) -> Result<CExpr, AllocError>
-    requires width { IsWidth w }
-    requires to { IsWidth t }
-    ensures { IfOk result (λ e. e ≡ first stem.Addss w t x y) }
-{
-    let first = turned(alloc, w, x)?;
-    let second = turned(alloc, w, y)?;
-    let sum = two(alloc, COp::Add, first, second)?;
-    clamped(alloc, t, sum, number(half(t)))
-}
-
-/// A sum, clamped.
-fn addus(alloc: Global, t: u32, x: CExpr, y: CExpr) -> Result<CExpr, AllocError>
-    requires { IsWidth t }
-    ensures { IfOk result (λ e. e ≡ first stem.Addus t t x y) }
-{
-    let sum = two(alloc, COp::Add, x, y)?;
-    at_most(alloc, ones(t), sum)
-}
-
 /// A difference.
 fn sub(alloc: Global, t: u32, x: CExpr, y: CExpr) -> Result<CExpr, AllocError>
     requires { IsWidth t }
@@ -109,18 +78,6 @@ fn sub(alloc: Global, t: u32, x: CExpr, y: CExpr) -> Result<CExpr, AllocError>
 {
     let rest = two(alloc, COp::Sub, x, y)?;
     low(alloc, t, rest)
-}
-
-/// A difference of signed numbers, clamped.
-fn subss(alloc: Global, w: u32, t: u32, x: CExpr, y: CExpr) -> Result<CExpr, AllocError>
-    requires width { IsWidth w }
-    requires to { IsWidth t }
-    ensures { IfOk result (λ e. e ≡ first stem.Subss w t x y) }
-{
-    let distance = turned(alloc, w, x)?;
-    let first = plus(alloc, distance, half(t))?;
-    let second = turned(alloc, w, y)?;
-    clamped(alloc, t, first, second)
 }
 
 /// A difference, or 0.
@@ -343,10 +300,9 @@ fn shrs(alloc: Global, w: u32, t: u32, x: CExpr, y: CExpr) -> Result<CExpr, Allo
     ensures { IfOk result (λ e. e ≡ first stem.Shrs w t x y) }
 {
     let distance = turned(alloc, w, x)?;
-    let first = few(alloc, w, &y)?;
-    let second = few(alloc, w, &y)?;
-    let moved = two(alloc, COp::Shr, distance, first)?;
-    let least = two(alloc, COp::Shr, number(half(w)), second)?;
+    let count = few(alloc, w, &y)?;
+    let least = half_down(alloc, w, &y)?;
+    let moved = two(alloc, COp::Shr, distance, count)?;
     let rest = two(alloc, COp::Sub, moved, least)?;
     low(alloc, t, rest)
 }
@@ -387,26 +343,15 @@ fn high_part(alloc: Global, t: u32, x: CExpr) -> Result<CExpr, AllocError>
     down(alloc, x, u64::from(t))
 }
 
-/// A signed number clamped to the signed range.
-fn convsss(alloc: Global, w: u32, t: u32, x: CExpr) -> Result<CExpr, AllocError>
-    requires width { IsWidth w }
-    requires to { IsWidth t }
-    requires takes { t ≤ w }
-    ensures { IfOk result (λ e. e ≡ first stem.Convsss w t x x) }
-{
-    let distance = turned(alloc, w, x)?;
-    clamped(alloc, t, distance, number(half(w) - half(t)))
-}
-
 /// A signed number clamped to the unsigned range.
 fn convsus(alloc: Global, w: u32, t: u32, x: CExpr) -> Result<CExpr, AllocError>
     requires width { IsWidth w }
     requires to { IsWidth t }
     ensures { IfOk result (λ e. e ≡ first stem.Convsus w t x x) }
 {
-    let distance = turned(alloc, w, x)?;
-    let value = without(alloc, distance, number(half(w)))?;
-    at_most(alloc, ones(t), value)
+    let tested = copy(alloc, &x)?;
+    let value = at_most(alloc, ones(t), x)?;
+    choose_less(alloc, tested, number(half(w)), value, number(0))
 }
 
 /// A number clamped to the signed range.
@@ -478,19 +423,6 @@ fn exchange(alloc: Global, w: u32, x: CExpr) -> Result<CExpr, AllocError>
     two(alloc, COp::Add, moved, high)
 }
 
-/// A division by 255.
-fn div255(alloc: Global, x: CExpr) -> Result<CExpr, AllocError>
-    ensures { IfOk result (λ e. e ≡ first stem.Div255 0 0 x x) }
-{
-    let sum = plus(alloc, x, 128)?;
-    let near = low(alloc, 16, sum)?;
-    let kept = copy(alloc, &near)?;
-    let part = down(alloc, near, 8)?;
-    let whole = two(alloc, COp::Add, kept, part)?;
-    let cut = low(alloc, 16, whole)?;
-    down(alloc, cut, 8)
-}
-
 /// A division by a byte, at most 255.
 fn divlu(alloc: Global, x: CExpr, y: CExpr) -> Result<CExpr, AllocError>
     ensures { IfOk result (λ e. e ≡ first stem.Divlu 0 0 x y) }
@@ -501,6 +433,134 @@ fn divlu(alloc: Global, x: CExpr, y: CExpr) -> Result<CExpr, AllocError>
     let quotient = two(alloc, COp::Div, x, divisor)?;
     let least = at_most(alloc, 255, quotient)?;
     choose(alloc, is_zero, number(255), least)
+}
+
+/// Whether the formula of a stem has a number more than once, which a variable keeps.
+pub fn has_sum(stem: Stem) -> bool
+    ensures { result ≡ expressions.has_sum stem }
+{
+    match stem {
+        Stem::Addss | Stem::Addus | Stem::Subss | Stem::Convsss | Stem::Div255 => true,
+        _ => false,
+    }
+}
+
+/// The sum of two distances.
+fn addss_sum(alloc: Global, w: u32, x: CExpr, y: CExpr) -> Result<CExpr, AllocError>
+    requires { IsWidth w }
+    ensures { IfOk result (λ e. e ≡ expressions.sum stem.Addss w w x y) }
+{
+    let first = turned(alloc, w, x)?;
+    let second = turned(alloc, w, y)?;
+    two(alloc, COp::Add, first, second)
+}
+
+/// The difference of two distances, which 2^w keeps from passing below 0.
+fn subss_sum(alloc: Global, w: u32, x: CExpr, y: CExpr) -> Result<CExpr, AllocError>
+    requires width { IsWidth w }
+    requires few { w ≤ 32 }
+    ensures { IfOk result (λ e. e ≡ expressions.sum stem.Subss w w x y) }
+{
+    let first = turned(alloc, w, x)?;
+    let more = plus(alloc, first, whole(w))?;
+    let second = turned(alloc, w, y)?;
+    two(alloc, COp::Sub, more, second)
+}
+
+/// A number and half of 256, of which a division by 255 makes its result.
+fn div255_sum(alloc: Global, x: CExpr) -> Result<CExpr, AllocError>
+    ensures { IfOk result (λ e. e ≡ expressions.sum stem.Div255 0 0 x x) }
+{
+    let sum = plus(alloc, x, 128)?;
+    low(alloc, 16, sum)
+}
+
+/// The number that the formula of a stem has more than once.
+pub fn sum(
+    alloc: Global,
+    stem: Stem,
+    w: u32,
+    t: u32,
+    x: CExpr,
+    y: CExpr,
+) -> Result<CExpr, AllocError>
+    requires width { IsWidth w }
+    requires fits { fits stem w t ≡ true }
+    ensures { IfOk result (λ e. e ≡ expressions.sum stem w t x y) }
+{
+    match stem {
+        Stem::Addss => addss_sum(alloc, w, x, y),
+        Stem::Addus => two(alloc, COp::Add, x, y),
+        Stem::Subss => subss_sum(alloc, w, x, y),
+        Stem::Convsss => turned(alloc, w, x),
+        Stem::Div255 => div255_sum(alloc, x),
+        _ => Ok(x),
+    }
+}
+
+/// A sum of t bits and of 2^t, clamped to the signed range.
+fn clamped_sum(alloc: Global, t: u32, e: CExpr) -> Result<CExpr, AllocError>
+    requires width { IsWidth t }
+    requires few { t ≤ 32 }
+    ensures { IfOk result (λ r. r ≡ expressions.clamped t (2 ^ t) e) }
+{
+    clamped(alloc, t, whole(t), e)
+}
+
+/// A distance of w bits, clamped to the signed range of t bits.
+fn clamped_distance(alloc: Global, w: u32, t: u32, e: CExpr) -> Result<CExpr, AllocError>
+    requires width { IsWidth w }
+    requires to { IsWidth t }
+    requires less { t < w }
+    ensures { IfOk result (λ r. r ≡ expressions.clamped t (expressions.half w) e) }
+{
+    clamped(alloc, t, half(w), e)
+}
+
+/// A division by 255.
+fn div255_from(alloc: Global, e: CExpr) -> Result<CExpr, AllocError>
+    ensures { IfOk result (λ r. r ≡ expressions.from_sum stem.Div255 0 0 e) }
+{
+    let kept = copy(alloc, &e)?;
+    let part = down(alloc, e, 8)?;
+    let whole = two(alloc, COp::Add, kept, part)?;
+    let cut = low(alloc, 16, whole)?;
+    down(alloc, cut, 8)
+}
+
+/// The first result of a stem by the number that its formula has more than once.
+pub fn from_sum(alloc: Global, stem: Stem, w: u32, t: u32, e: CExpr) -> Result<CExpr, AllocError>
+    requires width { IsWidth w }
+    requires to { IsWidth t }
+    requires fits { fits stem w t ≡ true }
+    ensures { IfOk result (λ r. r ≡ expressions.from_sum stem w t e) }
+{
+    match stem {
+        Stem::Addss => clamped_sum(alloc, t, e),
+        Stem::Addus => at_most(alloc, ones(t), e),
+        Stem::Subss => clamped_sum(alloc, t, e),
+        Stem::Convsss => clamped_distance(alloc, w, t, e),
+        Stem::Div255 => div255_from(alloc, e),
+        _ => Ok(e),
+    }
+}
+
+/// The first result of a stem by that number.
+fn by_sum(
+    alloc: Global,
+    stem: Stem,
+    w: u32,
+    t: u32,
+    x: CExpr,
+    y: CExpr,
+) -> Result<CExpr, AllocError>
+    requires width { IsWidth w }
+    requires to { IsWidth t }
+    requires fits { fits stem w t ≡ true }
+    ensures { IfOk result (λ r. r ≡ expressions.from_sum stem w t (expressions.sum stem w t x y)) }
+{
+    let e = sum(alloc, stem, w, t, x, y)?;
+    from_sum(alloc, stem, w, t, e)
 }
 
 /// The expression of a stem's first result from sources of w bits to t bits, by the expressions of its sources.
@@ -519,10 +579,10 @@ pub fn first(
 {
     match stem {
         Stem::Add => add(alloc, t, x, y),
-        Stem::Addss => addss(alloc, w, t, x, y),
-        Stem::Addus => addus(alloc, t, x, y),
+        Stem::Addss => by_sum(alloc, Stem::Addss, w, t, x, y),
+        Stem::Addus => by_sum(alloc, Stem::Addus, w, t, x, y),
         Stem::Sub => sub(alloc, t, x, y),
-        Stem::Subss => subss(alloc, w, t, x, y),
+        Stem::Subss => by_sum(alloc, Stem::Subss, w, t, x, y),
         Stem::Subus => subus(alloc, x, y),
         Stem::Mull => mull(alloc, t, x, y),
         Stem::Mulhs => mulhs(alloc, w, t, x, y),
@@ -551,7 +611,7 @@ pub fn first(
         Stem::Convs => convs(alloc, w, t, x),
         Stem::Low => low_part(alloc, t, x),
         Stem::High => high_part(alloc, t, x),
-        Stem::Convsss => convsss(alloc, w, t, x),
+        Stem::Convsss => by_sum(alloc, Stem::Convsss, w, t, x, y),
         Stem::Convsus => convsus(alloc, w, t, x),
         Stem::Convuss => convuss(alloc, t, x),
         Stem::Convuus => convuus(alloc, t, x),
@@ -561,7 +621,7 @@ pub fn first(
         Stem::Split => split(alloc, t, x),
         Stem::Swap => swap(alloc, w, x),
         Stem::Exchange => exchange(alloc, w, x),
-        Stem::Div255 => div255(alloc, x),
+        Stem::Div255 => by_sum(alloc, Stem::Div255, w, t, x, y),
         Stem::Divlu => divlu(alloc, x, y),
     }
 }

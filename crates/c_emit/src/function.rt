@@ -1,25 +1,14 @@
 //! A function of C from a function of the language.
 
 ghost use Rattle.std.specs.Prelude.{◌≡◌, ◌≤◌, IfOk, OnOk};
-ghost use Rattle.orc_program.specs.Program as program;
-ghost use Rattle.orc_program.specs.declared.program.VarKind.TheVariants as kind;
 ghost use Rattle.c_emit.specs.Body as body;
 ghost use Rattle.c_emit.specs.Body.{emitted};
 ghost use Rattle.c_emit.specs.CAs.{CAs, HasShape};
 
-use crate::body::{TEMPS_FROM, add_insn};
-use c_run::{CBody, CFunction};
-use orc_emul::count;
+use crate::body::{add_insn, count_of};
+use c_run::{CBody, CFunction, CStmt};
 use orc_program::{Function, Name, VarKind};
 use std::alloc::{AllocError, Global};
-
-/// The number of variables of a kind.
-fn count_of(f: &Function, kind: VarKind) -> u8
-    ensures value { result ≡ program.count_of kind f.now.vars }
-    ensures few { result ≤ 184 }
-{
-    count(f.vars.as_slice(), kind) as u8
-}
 
 /// The same name once more.
 fn same_name(name: &Name) -> Name
@@ -43,6 +32,31 @@ fn body_of(alloc: Global, f: &Function) -> Result<CBody, AllocError>
     Ok(statements)
 }
 
+/// The number of variables up to the one that a statement sets.
+fn set_by(statement: &CStmt) -> u16
+    ensures value { result ≡ body.set_by statement.now }
+    ensures few { result ≤ 256 }
+{
+    match statement {
+        CStmt::SetV(d, _) => u16::from(*d) + 1,
+        CStmt::SetW(_, _) | CStmt::SetByte(_, _, _) => 0,
+    }
+}
+
+/// The number of variables up to the last one that is set.
+fn variables_of(statements: &[CStmt]) -> u16
+    ensures value { result ≡ body.variables_of statements.now }
+    ensures few { result ≤ 256 }
+{
+    let mut most = 0;
+    let mut left = statements;
+    'counting: while let [first, rest @ ..] = left {
+        most = most.max(set_by(first));
+        left = rest;
+    }
+    most
+}
+
 /// The function of C with the statements of a function's instructions, in order.
 fn function_of(alloc: Global, f: &Function) -> Result<CFunction, AllocError>
     ensures { IfOk result (λ c. c ≡ emitted f.now) }
@@ -53,7 +67,7 @@ fn function_of(alloc: Global, f: &Function) -> Result<CFunction, AllocError>
         arrays: count_of(f, VarKind::Dest) + count_of(f, VarKind::Source),
         params: count_of(f, VarKind::Param),
         accs: count_of(f, VarKind::Accumulator),
-        temps: u16::from(TEMPS_FROM) + u16::from(count_of(f, VarKind::Temp)),
+        temps: variables_of(statements.as_slice()),
         two_d: f.two_d,
         body: statements,
     })

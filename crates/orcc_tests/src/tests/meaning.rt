@@ -21,12 +21,11 @@ const ARRAYS: [(u64, [u8; 3]); 3] = [
 /// The C text of the kernel that adds rows of bytes.
 const TEXT: &str = "#include <stdint.h>\n\
     void orc_add8(int64_t n, int64_t m, unsigned char *a0, int64_t s0, unsigned char *a1, int64_t s1, unsigned char *a2, int64_t s2)\n\
-    {\nint64_t i;\nint64_t j;\nuint64_t v0;\nuint64_t v1;\nuint64_t v2;\nuint64_t v3;\n\
+    {\nint64_t i;\nint64_t j;\nuint64_t v0;\nuint64_t v1;\n\
     for (j = 0; j < 1; j++) {\nfor (i = 0; i < n; i++) {\n\
     v0 = (uint64_t)a1[(j * s1) + (i * 1) + 0];\n\
     v1 = (uint64_t)a2[(j * s2) + (i * 1) + 0];\n\
-    v2 = (((v0 & (uint64_t)255ull) + (v1 & (uint64_t)255ull)) & (uint64_t)255ull);\n\
-    a0[(j * s0) + (i * 1) + 0] = (unsigned char)(v2 & 255ull);\n\
+    a0[(j * s0) + (i * 1) + 0] = (unsigned char)(((v0 + v1) & (uint64_t)255ull) & 255ull);\n\
     }\n}\n}\n";
 
 #[test]

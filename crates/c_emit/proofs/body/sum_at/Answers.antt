@@ -3,10 +3,10 @@ use Rattle.orc_ops.specs.declared.stem.Stem.{Stem}
 use Rattle.orc_ops.specs.Table.{row, wide}
 use Rattle.c_emit.specs.Expressions.{fits}
 use Rattle.c_emit.proofs.Rows.{widths_fit}
-use Rattle.c_emit.proofs.body.first_at.Goals as goal
+use Rattle.c_emit.proofs.body.sum_at.Goals as goal
 
-pub first-requires-clause-fits : goal.first-requires-clause-fits
-first-requires-clause-fits c =
+pub sum-requires-clause-fits : goal.sum-requires-clause-fits
+sum-requires-clause-fits c =
     let o = c.args.insn.now.op in
     subst (λ (s : Stem). fits s c.wide_of.result c.to_of.result ≡ true) (sym c.stem_of.ensures)
     (subst (λ (w : ℕ). fits (row o).stem w c.to_of.result ≡ true) (sym c.wide_of.ensures.value)

@@ -3,7 +3,7 @@ use Rattle.orc_program.specs.declared.program.Var.{Var}
 use Rattle.orc_program.specs.Program.{FunctionValue}
 use Rattle.orc_program.specs.Kept.{is_function}
 use Rattle.orc_program.proofs.Counts.{vars_few}
-use Rattle.c_emit.proofs.function.count_of.Goals as goal
+use Rattle.c_emit.proofs.body.count_of.Goals as goal
 
 pub returns-clause-few : goal.returns-clause-few
 returns-clause-few c =
