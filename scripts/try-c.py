@@ -30,9 +30,9 @@ import tempfile
 
 TOP = pathlib.Path(__file__).resolve().parent.parent
 WARNINGS = ["-std=c11", "-Wall", "-Wextra", "-Werror"]
-# Each function has the parameter m, used or not. Where a number of the text is the least or the greatest of its size, a
-# comparison with it may always come out the same.
-ALLOWED = ["-Wno-unused-parameter", "-Wno-type-limits"]
+# Each function has the parameter m, used or not. A cell is read also where a shift by the width or more makes 0 of it.
+# Where a number of the text is the least or the greatest of its size, a comparison with it may always come out the same.
+ALLOWED = ["-Wno-unused-parameter", "-Wno-unused-but-set-variable", "-Wno-type-limits"]
 SANITIZERS = ["-O0", "-fsanitize=undefined,address", "-fno-sanitize-recover=all"]
 MOST_FUNCTIONS = 64
 COUNTS = (0, 1, 7, 8, 15, 16, 31, 32, 63, 64, 65, 255, 2**63, 2**64 - 1)
