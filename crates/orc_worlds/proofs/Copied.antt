@@ -16,6 +16,7 @@ use Rattle.orc_program.specs.Cut.{IsCell}
 use Rattle.orc_program.specs.Slots.{call_of}
 use Rattle.orc_frame.specs.Function.{subject_of}
 use Rattle.orc_frame.specs.Subject.{Call as Arguments}
+use Rattle.orc_parts.specs.Even.{even_part}
 use Rattle.orc_image.specs.Spelling as image
 use Rattle.orc_job.specs.Kept.{IsJob}
 use Rattle.orc_worlds.specs.GoodJobs.{IsCodeOf, HasWidths, IsGoodJob}
@@ -200,14 +201,14 @@ one_met : (words : Arguments) → words.n ≡ 1 → (subject_of copied).facts wo
 unfolding facts_of
 one_met words e = ap₂ (λ n q. meets free n && q) e (aligned words)
 
-parts_meet : (entry : image.FunctionValue) (k : ℕ) → k < 2 → (subject_of copied).facts (words_of_part entry two_bytes (1 ∷ 1 ∷ []) 2 k) ≡ true
-parts_meet entry zero l = one_met _ refl
-parts_meet entry (suc zero) l = one_met _ refl
-parts_meet entry (suc (suc k)) l = absurd (omega (arith, l))
+parts_meet : (entry : image.FunctionValue) → entry.two_d ≡ false → (k : ℕ) → k < 2 → (subject_of copied).facts (words_of_part entry two_bytes (1 ∷ 1 ∷ []) 2 k) ≡ true
+parts_meet entry one zero l = one_met (words_of_part entry two_bytes (1 ∷ 1 ∷ []) 2 0) (ap (λ b. (even_part b two_bytes.call 2 0).elements) one)
+parts_meet entry one (suc zero) l = one_met (words_of_part entry two_bytes (1 ∷ 1 ∷ []) 2 1) (ap (λ b. (even_part b two_bytes.call 2 1).elements) one)
+parts_meet entry one (suc (suc k)) l = absurd (omega (arith, l))
 
 pub copies_in_parts : CopiesInParts
 copies_in_parts = record {
   kept = kept;
   good = λ target entry c. good entry c;
-  separate = λ target entry c m. good_jobs_separate copied target entry two_bytes (1 ∷ 1 ∷ []) 2 c m (good entry c) refl (lit< tt) (lit≤ tt) (one_row_is_apart copied two_bytes.call refl) (parts_meet entry);
+  separate = λ target entry c m. good_jobs_separate copied target entry two_bytes (1 ∷ 1 ∷ []) 2 c m (good entry c) refl (lit< tt) (lit≤ tt) (one_row_is_apart copied two_bytes.call refl) (parts_meet entry m.two_d);
 }
