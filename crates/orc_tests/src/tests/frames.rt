@@ -1,5 +1,5 @@
 //! The frame of a function that stores a parameter plus a number, and has a sum.
-use orc_frame::{epilogue, layout, prologue};
+use orc_frame::layout;
 use orc_text::read;
 use std::alloc::AllocError;
 use std::process::Abort;
@@ -19,9 +19,5 @@ fn a_function_has_a_frame(rt: HostRuntime) -> Result<(), AllocError> {
     assert_eq!(rt; l.acc_sizes.as_slice(), [2].as_slice());
     assert_eq!(rt; l.pattern_at.as_slice(), [0, 16].as_slice());
     assert_eq!(rt; l.sum_at.as_slice(), [768].as_slice());
-    // RSP, six registers and the block's address; five for the parameter, three for the number, three for the sum
-    assert_eq!(rt; prologue(rt.alloc(), &l)?.len(), 19);
-    // a load, nine for the sum, three for its word; six registers and RSP
-    assert_eq!(rt; epilogue(rt.alloc(), &l)?.len(), 20);
     Ok(())
 }
