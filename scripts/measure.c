@@ -1,5 +1,6 @@
-/* Times a kernel of an object of orcc beside the ORC library's SSE2 code for the same text; scripts/measure.py builds it
- * with KERNEL defined as the function's name, and passes the file of the text.
+/* Times a kernel of an object of orcc beside the ORC library's code for the same text; scripts/measure.py builds it
+ * with KERNEL defined as the function's name, and with SSE41 where SSSE3 and SSE4.1 may be used too, and passes the file
+ * of the text.
  *
  * With a second word it prints the library's code. Else, for each number of elements, it prints a line of the number, the least cycles of a call of the kernel and of the
  * library's code (0 where it has none), and `same` or `differs` for what both leave of the same data. Cycles are those of
@@ -47,12 +48,21 @@ static OrcProgram *program_of(const char *path)
     exit(2);
 }
 
-/* Whether the library has SSE2 code for the program. */
+/* What the library may not use. */
+enum {
+    NEWEST = ORC_TARGET_SSE_SSE4_2 | ORC_TARGET_SSE_SSE4A | ORC_TARGET_SSE_SSE5,
+#ifdef SSE41
+    BARRED = NEWEST
+#else
+    BARRED = NEWEST | ORC_TARGET_SSE_SSE3 | ORC_TARGET_SSE_SSSE3 | ORC_TARGET_SSE_SSE4_1
+#endif
+};
+
+/* Whether the library has code for the program. */
 static int compiles(OrcProgram *program)
 {
     OrcTarget *sse = orc_target_get_by_name("sse");
-    unsigned flags = orc_target_get_default_flags(sse) & ~(unsigned)(ORC_TARGET_SSE_SSE3 | ORC_TARGET_SSE_SSSE3 |
-        ORC_TARGET_SSE_SSE4_1 | ORC_TARGET_SSE_SSE4_2 | ORC_TARGET_SSE_SSE4A | ORC_TARGET_SSE_SSE5);
+    unsigned flags = orc_target_get_default_flags(sse) & ~(unsigned)BARRED;
     return ORC_COMPILE_RESULT_IS_SUCCESSFUL(orc_program_compile_full(program, sse, flags));
 }
 

@@ -1,7 +1,8 @@
 #!/usr/bin/env python3
-"""Measures the functions of kernels/ beside the ORC library's SSE2 code, and prints a table for docs/PERFORMANCE.md.
+"""Measures the functions of kernels/ beside the ORC library's code, and prints a table for docs/PERFORMANCE.md.
 
-Usage: python3 scripts/measure.py [ORCC] [FILE.orc ..]
+Usage: python3 scripts/measure.py [asm41] [ORCC] [FILE.orc ..]
+With the word asm41 the code is that of `orcc asm41`, and the library may use SSSE3 and SSE4.1 too; else both use SSE2 alone.
 ORCC is the program, crates/orcc/out/orcc unless given. Without files all of kernels/ are measured. It needs an x86-64
 Linux with a C compiler, pkg-config and the library's headers (Debian: liborc-0.4-dev).
 
@@ -74,22 +75,32 @@ def words_of(*command):
     return subprocess.run(command, capture_output=True, text=True, check=True).stdout.split()
 
 
-def linked(room, name, place):
+def assembled(room, functions):
+    """Makes an object of the functions of an image: `orcc obj` has none for SSE4.1, since a linker can't tell the target."""
+    text = [".section .note.GNU-stack, \"\", @progbits", ".text"]
+    for name, lines in functions.items():
+        text += [".p2align 4", f".globl {name}", f"{name}:"]
+        text += [".byte " + ", ".join(map(str, code)) for _, code, _ in lines]
+    (room / "kernel.s").write_text("\n".join(text) + "\n")
+    subprocess.run(["cc", "-c", room / "kernel.s", "-o", room / "kernel.o"], check=True)
+
+
+def linked(room, name, place, flags):
     """The measuring program, with the kernel at so many bytes behind a multiple of 64."""
     (room / "place.s").write_text(f".text\n.p2align 6\n.skip {64 + place}, 0x90\n.section .note.GNU-stack, \"\", @progbits\n")
     program = room / "measure"
-    subprocess.run(["cc", "-O2", f"-DKERNEL={name}", f"-I{TOP / 'include'}", TOP / "scripts/measure.c", room / "place.s",
+    subprocess.run(["cc", "-O2", f"-DKERNEL={name}", *flags, f"-I{TOP / 'include'}", TOP / "scripts/measure.c", room / "place.s",
                     room / "kernel.o", "-o", program, "-Wl,-z,noexecstack",
                     *words_of("pkg-config", "--cflags", "--libs", "orc-0.4")], check=True)
     return program
 
 
-def measured(room, text, name):
+def measured(room, text, name, flags):
     """The library's turn; lines of numbers: elements, cycles of the kernel at its best and at its worst place, cycles of the
     library, whether both left the same."""
     runs = []
     for place in PLACES:
-        program = linked(room, name, place)
+        program = linked(room, name, place, flags)
         ran = [subprocess.run([program, text], capture_output=True, text=True, check=True).stdout for _ in range(RUNS)]
         runs.append([[line.split() for line in out.splitlines()] for out in ran])
     rows = []
@@ -104,6 +115,9 @@ def measured(room, text, name):
 
 def main():
     words = sys.argv[1:]
+    newer = words[:1] == ["asm41"]
+    flags = ["-DSSE41"] if newer else []
+    words = words[newer:]
     orcc = TOP / "crates/orcc/out/orcc"
     if words and not words[0].endswith(".orc"):
         orcc = pathlib.Path(words.pop(0)).resolve()
@@ -118,10 +132,14 @@ def main():
         room = pathlib.Path(folder)
         for path in files:
             text = path.read_bytes()
-            image = subprocess.run([orcc, "asm"], input=text, capture_output=True, check=True).stdout
-            (room / "kernel.o").write_bytes(subprocess.run([orcc, "obj"], input=text, capture_output=True, check=True).stdout)
-            for name, lines in listings(orcc, image).items():
-                theirs_turn, rows = measured(room, path, name)
+            image = subprocess.run([orcc, "asm41" if newer else "asm"], input=text, capture_output=True, check=True).stdout
+            functions = listings(orcc, image)
+            if newer:
+                assembled(room, functions)
+            else:
+                (room / "kernel.o").write_bytes(subprocess.run([orcc, "obj"], input=text, capture_output=True, check=True).stdout)
+            for name, lines in functions.items():
+                theirs_turn, rows = measured(room, path, name, flags)
                 cells = []
                 for n, ours, _, theirs, _ in rows:
                     cells += [f"{ours:,}", f"{theirs:,}" if theirs else "none"]
