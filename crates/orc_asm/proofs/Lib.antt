@@ -1,3 +1,4 @@
 pub mod Calls
 pub mod Row
 pub mod Function
+pub mod Targeted

@@ -7,7 +7,7 @@ ghost use Rattle.orc_program.specs.Program.{count_of};
 ghost use Rattle.orc_program.specs.Kept.{is_function};
 ghost use Rattle.orc_program.specs.Need.{lanes};
 ghost use Rattle.orc_plan.specs.Lowered.{steps_of, sizes_of};
-ghost use Rattle.orc_asm.specs.Function.{RunsAs, RunsFully, first_pressure, IsRefusal};
+ghost use Rattle.orc_asm.specs.Function.{RunsAs, RunsFully, HasOnly, first_pressure, IsRefusal};
 
 use crate::refusal::AsmError;
 use crate::rows::whole_code;
@@ -23,13 +23,14 @@ use std::alloc::{AllocError, Global};
 /// Code that does in every good call what the function means, in at most as many steps as are stated for the target. It does so inside any
 /// larger memory too, and on the way changes no byte but those of dests' cells, of accumulators' words and of the frame. Few of its steps touch cells,
 /// at most one in a turn for each operand that is an array, and where the first dest can be stored by aligned stores in every row, and is no
-/// other dest, it is. The code has 1 to 1,048,576 bytes.
+/// other dest, it is. The code is instructions of the target alone, and has 1 to 1,048,576 bytes.
 /// A function is refused exactly where some instruction needs more values of temps at once than there are places for them: with the first
 /// such instruction's line and need.
 #[tactic(auto, using(crate::proofs::Calls::Weaker::runs_as, crate::proofs::Function::Pressed::none_pressed, crate::proofs::Function::Pressed::first_pressed))]
 pub fn assemble_for(alloc: Global, f: &Function, target: Target) -> Result<Code, AsmError>
     ensures runs { IfOk result (λ code. RunsAs f.now target code) }
     ensures inside { IfOk result (λ code. RunsFully f.now target code) }
+    ensures target { IfOk result (λ code. HasOnly target code) }
     ensures bytes { IfOk result (λ code. (1 ≤ length code) × (length code ≤ 1048576)) }
     ensures few { OnOk result (first_pressure f.now ≡ None) }
     ensures refusal { IfErr result (λ e. IsRefusal f.now e) }
@@ -51,6 +52,7 @@ pub fn assemble_for(alloc: Global, f: &Function, target: Target) -> Result<Code,
 pub fn assemble(alloc: Global, f: &Function) -> Result<Code, AsmError>
     ensures runs { IfOk result (λ code. RunsAs f.now Sse2 code) }
     ensures inside { IfOk result (λ code. RunsFully f.now Sse2 code) }
+    ensures target { IfOk result (λ code. HasOnly Sse2 code) }
     ensures bytes { IfOk result (λ code. (1 ≤ length code) × (length code ≤ 1048576)) }
     ensures few { OnOk result (first_pressure f.now ≡ None) }
     ensures refusal { IfErr result (λ e. IsRefusal f.now e) }
@@ -88,6 +90,7 @@ fn code_of(alloc: Global, f: &Function, placed: &Placed, target: Target) -> Resu
     requires sizes { placed.now.core.sizes ≡ sizes_of f.now }
     requires lanes { placed.now.core.lanes ≡ lanes f.now }
     ensures inside { IfOk result (λ code. RunsFully f.now target code) }
+    ensures target { IfOk result (λ code. HasOnly target code) }
     ensures bytes { IfOk result (λ code. (1 ≤ length code) × (length code ≤ 1048576)) }
 {
     let counts = counts_of(f);

@@ -13,3 +13,4 @@ pub mod Reduced
 pub mod Writes
 pub mod Addresses
 pub mod FieldsOf
+pub mod Targeted

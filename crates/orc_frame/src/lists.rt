@@ -1,6 +1,8 @@
 //! The code before and after a function's rows.
 
 ghost use Rattle.std.specs.Prelude.{◌≡◌, ◌<◌, ◌≤◌, ◌≤ℤ◌, ◌+◌, ◌*◌, ◌++◌, IfOk, OnOk, length, pos};
+ghost use Rattle.orc_ops.specs.declared.target.Target.TheVariants.{Sse2};
+ghost use Rattle.sse_laws.specs.Targets.{IsCodeFor};
 ghost use Rattle.x86_ins.specs.declared.ins.Ins.TheVariants.{AluImm};
 ghost use Rattle.x86_ins.specs.Spelling.{IsAllowed};
 ghost use Rattle.x86_ins.specs.Way.{Each};
@@ -16,24 +18,26 @@ use crate::slots::FRAME_SIZE;
 use std::alloc::{AllocError, Global};
 use x86_ins::{AluOp, Ins, InsList};
 
-/// The code that lowers RSP, saves registers and the block's address, fills patterns and clears running sums. It uses RAX and XMM0.
+/// The code that lowers RSP, saves registers and the block's address, fills patterns and clears running sums, by instructions of SSE2. It uses RAX and XMM0.
 pub fn prologue(alloc: Global, l: &Layout) -> Result<InsList, AllocError>
     requires { IsLayout l.now }
     ensures prepares { IfOk result (λ list. Prepares l.now list) }
     ensures own { IfOk result (λ list. AreOwn list) }
     ensures allowed { IfOk result (λ list. Each IsAllowed list) }
+    ensures sse2 { IfOk result (λ list. IsCodeFor Sse2 list) }
     ensures bytes { IfOk result (λ list. size list ≤ 11 * length list) }
     ensures short { IfOk result (λ list. length list ≤ 8 + 8 * length l.now.patterns.items + 3 * length l.now.acc_sizes.items) }
 {
     prologue_list(alloc, l)
 }
 
-/// The code that stores each accumulator's word, restores registers and raises RSP. It uses RAX, XMM0 and XMM1.
+/// The code that stores each accumulator's word, restores registers and raises RSP, by instructions of SSE2. It uses RAX, XMM0 and XMM1.
 pub fn epilogue(alloc: Global, l: &Layout) -> Result<InsList, AllocError>
     requires { IsLayout l.now }
     ensures finishes { IfOk result (λ list. Finishes l.now list) }
     ensures own { IfOk result (λ list. AreOwn list) }
     ensures allowed { IfOk result (λ list. Each IsAllowed list) }
+    ensures sse2 { IfOk result (λ list. IsCodeFor Sse2 list) }
     ensures bytes { IfOk result (λ list. size list ≤ 11 * length list) }
     ensures short { IfOk result (λ list. length list ≤ 7 + 13 * length l.now.acc_sizes.items) }
 {

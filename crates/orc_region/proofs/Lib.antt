@@ -7,3 +7,4 @@ pub mod Sizes
 pub mod Built
 pub mod Calls
 pub mod Shortened
+pub mod Targeted

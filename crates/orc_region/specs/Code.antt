@@ -33,6 +33,7 @@ use Rattle.x86_flow.specs.Tree.{flat_of}
 use Rattle.orc_frame.specs.declared.frame.Layout.{Layout}
 use Rattle.orc_frame.specs.Layout.{pattern_slot, sum_slot, spill_slots, spill_slot}
 use Rattle.sse_laws.specs.Meets.{Meets, is_sum}
+use Rattle.sse_laws.specs.Targets.{IsCodeFor}
 use Rattle.sse_acc.specs.Sums.{AddsUp}
 
 -- where a source comes from: the elements of an array's slot, a pattern, or a value, from the register of its place or from a spill slot
@@ -286,7 +287,7 @@ target_of at (item.Array slot) = ToArray slot
 target_of at (item.Acc slot size) = to_sum at slot
 target_of at (item.Pattern j) = ToArray j
 
--- the action is the step's, by some list that computes its opcode, in at most as many instructions as its class for the target says; `at` are the places of values
+-- the action is the step's, by some list of the target's instructions that computes its opcode, in at most as many as its class for the target says; `at` are the places of values
 pub record IsAction (target : CodeTarget) (at : List ℕ) (count : ℕ) (step : Step) (a : Action) : Type 0 where
   pub op : a.op ≡ step.op
   pub prefix : a.prefix ≡ step.prefix
@@ -294,6 +295,7 @@ pub record IsAction (target : CodeTarget) (at : List ℕ) (count : ℕ) (step : 
   pub sources : a.sources ≡ map (source_of at) step.sources.items
   pub rule : IsRule count a.op a.rule
   pub few : length a.rule ≤ class_for a.op target
+  pub for_target : IsCodeFor target a.rule
 
 -- ---- which registers are taken over
 
@@ -394,7 +396,7 @@ sum_stores_code at (suc n) = sum_stores_code at n ++ sum_store_code at n
 -- ---- code by some lists that compute the opcodes
 
 abbrev pub AddsRule : CodeTarget → ℕ → Op → List Target → List Ins → List Ins → Type 0
-AddsRule target count op to old new = (rule : List Ins) × IsRule count op rule × (length rule ≤ class_for op target) × (new ≡ old ++ map (renamed (rule_register to)) rule)
+AddsRule target count op to old new = (rule : List Ins) × IsRule count op rule × (length rule ≤ class_for op target) × IsCodeFor target rule × (new ≡ old ++ map (renamed (rule_register to)) rule)
 
 -- `size` has the bytes of an element of each array slot
 abbrev pub AddsAction : List ℕ → (ℕ → ℕ) → Span → Step → Bool → Bool → List Ins → List Ins → Type 0

@@ -6,6 +6,7 @@ ghost use Rattle.orc_program.specs.Need.{divides_each};
 ghost use Rattle.orc_plan.specs.Places.{GoodPlaces};
 ghost use Rattle.orc_frame.specs.Frame.{IsLayout};
 ghost use Rattle.x86_flow.specs.Tree.{flat_of};
+ghost use Rattle.sse_laws.specs.Targets.{IsCodeFor};
 ghost use Rattle.orc_region.specs.Code.{AreActions, IsReady, IsBlockBy, AreBlocks, IsTurnBy, IsBlock, IsTurnOf, AreWholeTurns, AreFromFirst, AreFromBoundary, IsElements, aligned_first, blocks_of, shift_of, used_from};
 ghost use Rattle.orc_region.specs.Elements.{AreOf, DoesElements, DoesRow};
 
@@ -201,7 +202,8 @@ pub fn region(
 ) -> Result<Block, AllocError>
     requires of { (f : FunctionValue) × AreOf f p.now l.now }
     requires count { (count ≡ 1) ⊎ (count ≡ p.now.core.lanes) }
-    ensures { IfOk result (λ block. (f : FunctionValue) → AreOf f p.now l.now → DoesElements f target p.now.places count aligned block.list) }
+    ensures does { IfOk result (λ block. (f : FunctionValue) → AreOf f p.now l.now → DoesElements f target p.now.places count aligned block.list) }
+    ensures target { IfOk result (λ block. IsCodeFor target block.list) }
 {
     let aligned = aligned & fills(&p.core, count);
     block(
@@ -236,6 +238,7 @@ pub fn row_flow(alloc: Global, p: &Placed, l: &Layout, target: Target) -> Result
     requires of { (f : FunctionValue) × AreOf f p.now l.now }
     ensures is { IfOk result (λ flow. (f : FunctionValue) → AreOf f p.now l.now → IsElements f target p.now.places flow) }
     ensures does { IfOk result (λ flow. (f : FunctionValue) → AreOf f p.now l.now → DoesRow f target p.now.places (flat_of flow)) }
+    ensures target { IfOk result (λ flow. IsCodeFor target (flat_of flow)) }
 {
     elements(alloc, &p.core, p.places.as_slice(), l, target)
 }

@@ -3,3 +3,4 @@ mod Moved
 mod Distances
 pub mod Meet
 pub mod Machine
+mod Targeted

@@ -1,8 +1,10 @@
 //! The rules of the opcodes that add to an accumulator.
 
 ghost use Rattle.std.specs.Prelude.{◌≡◌, ◌≤◌, ◌/◌, length, true};
+ghost use Rattle.orc_ops.specs.declared.target.Target.TheVariants.{Sse2};
 ghost use Rattle.orc_ops.specs.Table.{row, size_of_result};
 ghost use Rattle.sse_laws.specs.Meets.{is_sum};
+ghost use Rattle.sse_laws.specs.Targets.{IsCodeFor};
 ghost use Rattle.sse_acc.specs.Rules.{rule_of};
 ghost use Rattle.sse_acc.specs.Sums.{AddsUp};
 
@@ -52,14 +54,15 @@ fn sequence(op: Op, lanes: u8) -> ArrayVec<Ins, 100>
 /// The instructions that add an opcode's numbers of the first `lanes` elements to running sums, and nothing of the
 /// elements beyond them. The elements stand in XMM0, and those of a second source in XMM1. The running sums are the
 /// lanes of XMM2 of the accumulator's size, as many as fit into 16 bytes; what grows is the sum of them all, modulo 2
-/// to the accumulator's bits. There are at most as many instructions as the opcode's class, and they change XMM0 to
-/// XMM5 alone.
+/// to the accumulator's bits. There are at most as many instructions as the opcode's class, all of SSE2, and they
+/// change XMM0 to XMM5 alone.
 pub fn rule(op: Op, lanes: u8) -> ArrayVec<Ins, 100>
     requires sums { is_sum (row op).kind ≡ true }
     requires some { 1 ≤ lanes }
     requires fit { lanes ≤ 16 / size_of_result op 0 }
     ensures adds { AddsUp op lanes result.items }
     ensures few { length result.items ≤ (row op).class }
+    ensures sse2 { IsCodeFor Sse2 result.items }
 {
     sequence(op, lanes)
 }

@@ -4,3 +4,4 @@ mod Narrowings
 mod Clamps
 mod Products
 pub mod Meet
+mod Targeted

@@ -1,8 +1,10 @@
 //! The rules of the opcodes whose operands are of more than one size.
 
 ghost use Rattle.std.specs.Prelude.{◌≡◌, ◌≤◌, length, true};
+ghost use Rattle.orc_ops.specs.declared.target.Target.TheVariants.{Sse2};
 ghost use Rattle.orc_ops.specs.Table.{row};
 ghost use Rattle.sse_laws.specs.Meets.{Meets};
+ghost use Rattle.sse_laws.specs.Targets.{IsCodeFor};
 ghost use Rattle.sse_conv.specs.Rules.{rule_of};
 ghost use Rattle.sse_conv.specs.Sizes.{changes_size};
 
@@ -31,11 +33,12 @@ fn sequence(op: Op) -> ArrayVec<Ins, 100>
 
 /// The instructions that compute an opcode on all lanes of a register that fit. The sources stand in XMM0 and XMM1,
 /// their lanes packed from the low end; the result is left in XMM0, and a second one in XMM1. There are at most as
-/// many instructions as the opcode's class, and they change XMM0 to XMM5 alone.
+/// many instructions as the opcode's class, all of SSE2, and they change XMM0 to XMM5 alone.
 pub fn rule(op: Op) -> ArrayVec<Ins, 100>
     requires { changes_size op ≡ true }
     ensures meets { Meets op result.items }
     ensures few { length result.items ≤ (row op).class }
+    ensures sse2 { IsCodeFor Sse2 result.items }
 {
     sequence(op)
 }

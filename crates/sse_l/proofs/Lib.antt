@@ -2,3 +2,4 @@ mod Equations
 mod Products
 mod Swaps
 pub mod Meet
+mod Targeted

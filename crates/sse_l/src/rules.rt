@@ -1,8 +1,10 @@
 //! The rules of the opcodes on longs.
 
 ghost use Rattle.std.specs.Prelude.{◌≡◌, ◌≤◌, length, true};
+ghost use Rattle.orc_ops.specs.declared.target.Target.TheVariants.{Sse2};
 ghost use Rattle.orc_ops.specs.Table.{row};
 ghost use Rattle.sse_laws.specs.Meets.{Meets, is_of_size};
+ghost use Rattle.sse_laws.specs.Targets.{IsCodeFor};
 ghost use Rattle.sse_l.specs.Rules.{rule_of};
 
 use crate::lines::lines;
@@ -29,11 +31,12 @@ fn sequence(op: Op) -> ArrayVec<Ins, 100>
 
 /// The instructions that compute an opcode on all longs of a register. The sources stand in XMM0 and XMM1, a shift's
 /// count in the low 64 bits of XMM1; the result is left in XMM0. There are at most as many instructions as the
-/// opcode's class, and they change XMM0 to XMM5 alone.
+/// opcode's class, all of SSE2, and they change XMM0 to XMM5 alone.
 pub fn rule(op: Op) -> ArrayVec<Ins, 100>
     requires { is_of_size 4 op ≡ true }
     ensures meets { Meets op result.items }
     ensures few { length result.items ≤ (row op).class }
+    ensures sse2 { IsCodeFor Sse2 result.items }
 {
     sequence(op)
 }

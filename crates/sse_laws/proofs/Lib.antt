@@ -7,3 +7,4 @@ pub mod Ways
 pub mod Words
 pub mod Formulas
 pub mod Machine
+pub mod Targeted

@@ -1,3 +1,4 @@
 pub mod Line
 pub mod Meets
 pub mod Laws
+pub mod Targets

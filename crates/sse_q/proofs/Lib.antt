@@ -1,3 +1,4 @@
 mod Equations
 mod Words
 pub mod Meet
+mod Targeted

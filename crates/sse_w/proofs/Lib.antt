@@ -1,3 +1,4 @@
 mod Equations
 mod Division
 pub mod Meet
+mod Targeted

@@ -13,6 +13,7 @@ use Rattle.orc_ops.specs.declared.target.Target.{Target as CodeTarget}
 use Rattle.orc_ops.specs.Table.{row}
 use Rattle.orc_ops.specs.Targets.{class_for}
 use Rattle.sse_laws.specs.Meets.{Meets, is_sum}
+use Rattle.sse_laws.specs.Targets.{IsCodeFor}
 use Rattle.sse_acc.specs.Sums.{AddsUp}
 use Rattle.orc_plan.specs.declared.steps.Item.{Item}
 use Rattle.orc_plan.specs.declared.steps.Step.{Step}
@@ -100,10 +101,10 @@ module _ (size : ℕ → ℕ) (span : Span) where
       let a : Action = record { op = step.op; prefix = step.prefix; to = map (target_of at) step.results.items; sources = map (source_of at) step.sources.items; rule = r.0; takes_first = one; takes_second = two } in
       let loads : c1 ≡ base ++ sources_far_code one two span.count size (far_by span.first size) (first_register a.to) (second_register a.to) a.sources = p ∙ ap₂ (λ x y. base ++ sources_far_code one two span.count size (far_by span.first size) x y a.sources) ex ey in (
         a,
-        record { op = refl; prefix = refl; to = refl; sources = refl; rule = r.1; few = r.2 },
+        record { op = refl; prefix = refl; to = refl; sources = refl; rule = r.1; few = r.2; for_target = r.3 },
         refl,
         refl,
-        four base (sources_far_code one two span.count size (far_by span.first size) (first_register a.to) (second_register a.to) a.sources) (sum_code a.to) (rule_code a) (results_far_code span.count size (far_by span.first size) (aligned_first span.aligned) a.to) c1 c2 c3 c4 loads q r.3 t,
+        four base (sources_far_code one two span.count size (far_by span.first size) (first_register a.to) (second_register a.to) a.sources) (sum_code a.to) (rule_code a) (results_far_code span.count size (far_by span.first size) (aligned_first span.aligned) a.to) c1 c2 c3 c4 loads q r.4 t,
       )
 
   -- the same where operands are read as slices
@@ -123,16 +124,17 @@ names_alike f g same [] h = refl
 names_alike f g same (i ∷ is) h = ap₂ (λ (x : Ins) (y : List Ins). x ∷ y) (renamed_alike f g same i h.0) (names_alike f g same is h.1)
 
 pub rule_added : (target : CodeTarget) (count : ℕ) (op : Op) (ts : List Target) (x y z : ℕ) (map_is : List ℕ) (list old new : List Ins) → x ≡ first_register ts → y ≡ second_register ts → z ≡ third_register ts → ((r : ℕ) → r < 16 → renaming map_is r ≡ exchange 0 x (exchange 1 y (exchange 2 z r)))
-    → (is_sum (row op).kind ≡ false → Meets op list) → (is_sum (row op).kind ≡ true → AddsUp op count list) → length list ≤ class_for op target → length list ≤ 100 → Each IsIns list → new ≡ old ++ map (renamed (renaming map_is)) list → AddsRule target count op ts old new
-rule_added target count op ts x y z map_is list old new ex ey ez is meets adds few short known e = (
+    → (is_sum (row op).kind ≡ false → Meets op list) → (is_sum (row op).kind ≡ true → AddsUp op count list) → length list ≤ class_for op target → IsCodeFor target list → length list ≤ 100 → Each IsIns list → new ≡ old ++ map (renamed (renaming map_is)) list → AddsRule target count op ts old new
+rule_added target count op ts x y z map_is list old new ex ey ez is meets adds few mine short known e = (
   list,
   record { meets = meets; adds = adds; short = short; known = known },
   few,
+  mine,
   e ∙ ap (λ l. old ++ l) (names_alike (renaming map_is) (rule_register ts) (λ r l. is r l ∙ ap₂ (λ a b. exchange 0 a (exchange 1 b (exchange 2 z r))) ex ey ∙ ap (λ c. exchange 0 (first_register ts) (exchange 1 (second_register ts) (exchange 2 c r))) ez) list known),
 )
 
 -- the same where the list is read as a slice
 pub rule_of_slice : (target : CodeTarget) (count : ℕ) (op : Op) (ts : List Target) (x y z : ℕ) (map_is : List ℕ) (list slice old new : List Ins) → slice ≡ list → x ≡ first_register ts → y ≡ second_register ts → z ≡ third_register ts → ((r : ℕ) → r < 16 → renaming map_is r ≡ exchange 0 x (exchange 1 y (exchange 2 z r)))
-    → (is_sum (row op).kind ≡ false → Meets op list) → (is_sum (row op).kind ≡ true → AddsUp op count list) → length list ≤ class_for op target → length list ≤ 100 → Each IsIns slice → new ≡ old ++ map (renamed (renaming map_is)) slice → AddsRule target count op ts old new
-rule_of_slice target count op ts x y z map_is list slice old new same ex ey ez is meets adds few short known e =
-    rule_added target count op ts x y z map_is list old new ex ey ez is meets adds few short (subst (Each IsIns) same known) (e ∙ ap (λ l. old ++ map (renamed (renaming map_is)) l) same)
+    → (is_sum (row op).kind ≡ false → Meets op list) → (is_sum (row op).kind ≡ true → AddsUp op count list) → length list ≤ class_for op target → IsCodeFor target list → length list ≤ 100 → Each IsIns slice → new ≡ old ++ map (renamed (renaming map_is)) slice → AddsRule target count op ts old new
+rule_of_slice target count op ts x y z map_is list slice old new same ex ey ez is meets adds few mine short known e =
+    rule_added target count op ts x y z map_is list old new ex ey ez is meets adds few mine short (subst (Each IsIns) same known) (e ∙ ap (λ l. old ++ map (renamed (renaming map_is)) l) same)

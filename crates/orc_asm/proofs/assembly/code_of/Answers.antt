@@ -8,9 +8,10 @@ use Rattle.orc_region.proofs.Built.Turns.{elements_few}
 use Rattle.orc_region.proofs.Checked.Layouts.{two_d_is}
 use Rattle.orc_region.specs.Code.{IsElements}
 use Rattle.orc_region.specs.Elements.{AreOf}
-use Rattle.orc_asm.specs.Function.{RunsFully}
+use Rattle.orc_asm.specs.Function.{RunsFully, HasOnly}
 use Rattle.orc_asm.specs.Rows.{whole_flow}
 use Rattle.orc_asm.proofs.Function.Whole.{HasCodeLength, whole_runs, front_spelled, behind_spelled}
+use Rattle.orc_asm.proofs.Targeted.{has_only}
 use Rattle.orc_asm.proofs.assembly.code_of.Goals as goal
 use Rattle.orc_asm.proofs.assembly.code_of.Goals.{After-whole_code}
 
@@ -63,3 +64,14 @@ returns-clause-inside c = ok_map c.whole_code.result _ _ (λ code e. (runs (goal
 
 pub returns-clause-bytes : goal.returns-clause-bytes
 returns-clause-bytes c = ok_map c.whole_code.result _ _ (λ code e. (runs (goal.at.returns-clause-bytes c).After-whole_code code e).1) c.whole_code.ensures
+
+only : (c : After-whole_code) (code : List ℕ)
+    → code ≡ spell_all (with_return (whole_flow c.as_slice.result.now (Plain (flat_of c.in_ok-elements.elements)) c.as_slice-2.result.now c.layout-layout.result.two_d c.counts_of-counts.result.dests c.counts_of-counts.result.sources))
+    → HasOnly c.args.target code
+only c code e = has_only c.args.target c.args.f.now c.counts_of-counts.ensures.kept c.layout-layout.result c.layout-layout.ensures.value c.args.placed.now.places c.in_ok-first.first c.in_ok-epilogue.field-0
+    c.in_ok-first.ensures.allowed c.in_ok-epilogue.ensures.allowed c.in_ok-first.ensures.sse2 c.in_ok-epilogue.ensures.sse2 c.in_ok-elements.elements (elements_are c) c.in_ok-elements.ensures.target c.as_slice.result.now c.as_slice-2.result.now
+    (c.as_slice.ensures ∙ c.in_ok-append.ensures ∙ ap (λ (l : List Ins). c.in_ok-first.first ++ l) c.in_ok-sum_loads.ensures) (c.as_slice-2.ensures ∙ c.in_ok-append-2.ensures ∙ ap (λ (l : List Ins). l ++ c.in_ok-epilogue.field-0) c.in_ok-last.ensures)
+    c.layout-layout.result.two_d c.counts_of-counts.result.dests c.counts_of-counts.result.sources c.counts_of-counts.ensures.few.0 c.counts_of-counts.ensures.few.1 code e
+
+pub returns-clause-target : goal.returns-clause-target
+returns-clause-target c = ok_map c.whole_code.result _ _ (λ code e. only (goal.at.returns-clause-target c).After-whole_code code e) c.whole_code.ensures

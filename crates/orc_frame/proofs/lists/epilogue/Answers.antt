@@ -3,6 +3,7 @@ use Rattle.orc_frame.proofs.Facts.{whole}
 use Rattle.orc_frame.proofs.Leaving.{epilogue_finishes}
 use Rattle.orc_frame.proofs.Counted.{epilogue_few, ok_map}
 use Rattle.orc_frame.proofs.Addresses.{epilogue_own}
+use Rattle.orc_frame.proofs.Targeted.{epilogue_for}
 use Rattle.orc_frame.proofs.lists.epilogue.Goals as goal
 
 pub epilogue_list-requires : goal.epilogue_list-requires
@@ -22,3 +23,6 @@ returns-clause-short c = ok_map c.epilogue_list.result _ _ (λ list e. (epilogue
 
 pub returns-clause-own : goal.returns-clause-own
 returns-clause-own c = ok_map c.epilogue_list.result _ _ (λ list e. epilogue_own c.args.l.now list e) c.epilogue_list.ensures
+
+pub returns-clause-sse2 : goal.returns-clause-sse2
+returns-clause-sse2 c = ok_map c.epilogue_list.result _ _ (λ list e. epilogue_for c.args.l.now list e) c.epilogue_list.ensures

@@ -3,6 +3,7 @@ use Rattle.orc_frame.proofs.Facts.{whole}
 use Rattle.orc_frame.proofs.Entering.{prologue_prepares}
 use Rattle.orc_frame.proofs.Counted.{prologue_few, ok_map}
 use Rattle.orc_frame.proofs.Addresses.{prologue_own}
+use Rattle.orc_frame.proofs.Targeted.{prologue_for}
 use Rattle.orc_frame.proofs.lists.prologue.Goals as goal
 
 pub prologue_list-requires : goal.prologue_list-requires
@@ -22,3 +23,6 @@ returns-clause-short c = ok_map c.prologue_list.result _ _ (λ list e. (prologue
 
 pub returns-clause-own : goal.returns-clause-own
 returns-clause-own c = ok_map c.prologue_list.result _ _ (λ list e. prologue_own c.args.l.now list e) c.prologue_list.ensures
+
+pub returns-clause-sse2 : goal.returns-clause-sse2
+returns-clause-sse2 c = ok_map c.prologue_list.result _ _ (λ list e. prologue_for c.args.l.now list e) c.prologue_list.ensures

@@ -1,0 +1,95 @@
+-- The code of a function has instructions of its target alone.
+use Rattle.std.proofs.Common.{◌≡◌, ℕ, zero, suc, ◌+◌, ◌≤◌, Bool, true, false, if◌then◌else◌, List, [], ◌∷◌, ◌++◌, length, refl, sym, subst}
+use Rattle.orc_ops.specs.declared.target.Target.{Target}
+use Rattle.orc_ops.specs.declared.target.Target.TheVariants.{Sse2}
+use Rattle.orc_program.specs.Kept.{is_function}
+use Rattle.orc_program.specs.Program.{FunctionValue}
+use Rattle.x86_ins.specs.declared.ins.Cond.TheVariants.{Ne}
+use Rattle.x86_ins.specs.declared.ins.Ins.{Ins}
+use Rattle.x86_ins.specs.declared.ins.Ins.TheVariants.{Ret}
+use Rattle.x86_ins.specs.Spelling.{IsAllowed}
+use Rattle.x86_ins.specs.Way.{Each}
+use Rattle.x86_flow.specs.declared.tree.Flow.{Flow as Tree}
+use Rattle.x86_flow.specs.Flow.{Plain, flat, size, again_jump, spell_all, with_return}
+use Rattle.x86_flow.specs.Tree.{flat_of}
+use Rattle.x86_flow.proofs.Spelled.{each_both, all_allowed}
+use Rattle.sse_laws.specs.Targets.{IsCodeFor}
+use Rattle.sse_laws.proofs.Targeted.{for_each, behind_for}
+use Rattle.orc_frame.specs.declared.frame.Layout.{Layout}
+use Rattle.orc_frame.specs.Layout.{layout_of}
+use Rattle.orc_frame.proofs.Facts.{facts}
+use Rattle.orc_region.specs.Code.{IsElements, sum_loads_code, sum_stores_code}
+use Rattle.orc_region.proofs.Built.Turns.{fits_elements}
+use Rattle.orc_region.proofs.Calls.Sums.{fine_loads, fine_stores}
+use Rattle.orc_region.proofs.Sizes.Loops.{Fits}
+use Rattle.orc_region.proofs.Targeted.Blocks.{sum_loads_for, sum_stores_for}
+use Rattle.orc_asm.specs.Function.{HasOnly}
+use Rattle.orc_asm.specs.Rows.{slots_code, arrays_code, base_code, pointer_code, stride_code, number_code, count_code, counter_code, one_less_code, rows_code, row_entry_code, row_step_code, row_flow, rows_flow, whole_flow}
+use Rattle.orc_asm.proofs.Row.Counts.{rows_allowed}
+
+-- ---- around the elements of a row
+
+module _ (t : Target) where
+  slots_for : (code : ℕ → List Ins) → ((k : ℕ) → IsCodeFor t (code k)) → (first n : ℕ) → IsCodeFor t (slots_code code first n)
+  slots_for code h first zero = refl
+  slots_for code h first (suc n) = behind_for t (slots_code code first n) (code (first + n)) (slots_for code h first n) (h (first + n))
+
+  arrays_for : (code : ℕ → List Ins) → ((k : ℕ) → IsCodeFor t (code k)) → (dests sources : ℕ) → IsCodeFor t (arrays_code code dests sources)
+  arrays_for code h dests sources = behind_for t (slots_code code 0 dests) (slots_code code 4 sources) (slots_for code h 0 dests) (slots_for code h 4 sources)
+
+  count_for : (two_d : Bool) → IsCodeFor t (count_code two_d)
+  count_for true = refl
+  count_for false = refl
+
+  rows_for : (dests sources : ℕ) (two_d : Bool) → IsCodeFor t (rows_code two_d dests sources)
+  rows_for dests sources two_d = behind_for t (arrays_code base_code dests sources) (count_code two_d) (arrays_for base_code (λ k. refl) dests sources) (count_for two_d)
+
+  entry_for : (dests sources : ℕ) → IsCodeFor t (row_entry_code dests sources)
+  entry_for dests sources = behind_for t (arrays_code pointer_code dests sources) counter_code (arrays_for pointer_code (λ k. refl) dests sources) refl
+
+  step_for : (dests sources : ℕ) → IsCodeFor t (row_step_code dests sources)
+  step_for dests sources = behind_for t (arrays_code stride_code dests sources) one_less_code (arrays_for stride_code (λ k. refl) dests sources) refl
+
+  whole_for : (first elements last : List Ins) (two_d : Bool) (dests sources : ℕ) → IsCodeFor t first → IsCodeFor t elements → IsCodeFor t last → IsCodeFor t (with_return (whole_flow first (Plain elements) last two_d dests sources))
+  whole_for first elements last two_d dests sources h k m =
+      let enter = row_entry_code dests sources in
+      let step = row_step_code dests sources in
+      let starts = rows_code two_d dests sources in
+      let row = flat (row_flow (Plain elements) dests sources) in
+      let rows = flat (rows_flow (Plain elements) two_d dests sources) in
+      let row_is : IsCodeFor t row = behind_for t enter (elements ++ step) (entry_for dests sources) (behind_for t elements step k (step_for dests sources)) in
+      let loop_is : IsCodeFor t (row ++ again_jump Ne (size row) ∷ []) = behind_for t row (again_jump Ne (size row) ∷ []) row_is refl in
+      let rows_is : IsCodeFor t rows = behind_for t starts _ (rows_for dests sources two_d) loop_is in
+      behind_for t (first ++ (rows ++ last)) (Ret ∷ []) (behind_for t first (rows ++ last) h (behind_for t rows last rows_is m)) refl
+
+-- ---- the code of a function
+
+module _ (target : Target) (f : FunctionValue) (h : is_function f ≡ true) (l : Layout) (layout : l ≡ layout_of f) (at : List ℕ) where
+  abbrev sums : ℕ
+  sums = length l.acc_sizes.items
+
+  few_sums : sums ≤ 4
+  few_sums = (facts l (f, h, layout)).few_sums
+
+  fits_tree : (tree : Tree) → IsElements f target at tree → Fits 960000 (flat_of tree)
+  fits_tree tree (single, wide, aligned, large, turns, e) = subst (Fits 960000) (sym e) (fits_elements f h at single wide aligned large turns)
+
+  -- by the lists around the rows and the tree that does a row's elements
+  pub has_only : (first last : List Ins) → Each IsAllowed first → Each IsAllowed last → IsCodeFor Sse2 first → IsCodeFor Sse2 last → (tree : Tree) → IsElements f target at tree → IsCodeFor target (flat_of tree)
+      → (begins ends : List Ins) → begins ≡ first ++ sum_loads_code at sums → ends ≡ sum_stores_code at sums ++ last → (two_d : Bool) (d s : ℕ) → d ≤ 4 → s ≤ 8
+      → (bytes : List ℕ) → bytes ≡ spell_all (with_return (whole_flow begins (Plain (flat_of tree)) ends two_d d s)) → HasOnly target bytes
+  has_only first last first_allowed last_allowed first_is last_is tree are elements_is begins ends p q two_d d s few_dests few_sources bytes e =
+      let loads = sum_loads_code at sums in
+      let stores = sum_stores_code at sums in
+      let fits = fits_tree tree are in
+      let rows = flat (rows_flow (Plain (flat_of tree)) two_d d s) in
+      let front_allowed : Each IsAllowed begins = subst (Each IsAllowed) (sym p) (each_both IsAllowed first loads first_allowed (all_allowed loads (fine_loads at sums few_sums))) in
+      let behind_allowed : Each IsAllowed ends = subst (Each IsAllowed) (sym q) (each_both IsAllowed stores last (all_allowed stores (fine_stores at sums few_sums)) last_allowed) in
+      let front_is : IsCodeFor target begins = subst (IsCodeFor target) (sym p) (behind_for target first loads (for_each target first first_is) (sum_loads_for target at sums)) in
+      let behind_is : IsCodeFor target ends = subst (IsCodeFor target) (sym q) (behind_for target stores last (sum_stores_for target at sums) (for_each target last last_is)) in
+      let middle : Each IsAllowed rows = rows_allowed d s few_dests few_sources (Plain (flat_of tree)) two_d fits.bytes fits.allowed in (
+        with_return (whole_flow begins (Plain (flat_of tree)) ends two_d d s),
+        e,
+        each_both IsAllowed (begins ++ (rows ++ ends)) (Ret ∷ []) (each_both IsAllowed begins (rows ++ ends) front_allowed (each_both IsAllowed rows ends middle behind_allowed)) ((tt, refl), tt),
+        whole_for target begins (flat_of tree) ends two_d d s front_is elements_is behind_is,
+      )

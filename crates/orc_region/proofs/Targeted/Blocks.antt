@@ -1,0 +1,151 @@
+-- Blocks and turns have instructions of their target alone: those of the rules are the target's, and all others are of SSE2.
+use Rattle.std.proofs.Common.{◌≡◌, ℕ, zero, suc, ◌+◌, ◌*◌, ◌==◌, Bool, true, false, if◌then◌else◌, pos, List, [], ◌∷◌, ◌++◌, map, refl, sym, subst}
+use Rattle.x86_ins.specs.declared.ins.AluOp.TheVariants.{Add, Sub}
+use Rattle.x86_ins.specs.declared.ins.Ins.{Ins}
+use Rattle.x86_ins.specs.declared.ins.Ins.TheVariants.{VecLoad, VecStore, FromGpr, ToGpr, Load8, Load16, Store8, Store16, AluImm}
+use Rattle.x86_ins.specs.declared.ins.MoveOp.TheVariants.{Movdqu, Movq, Movd}
+use Rattle.x86_ins.specs.Renaming.{renamed, renaming}
+use Rattle.x86_ins.specs.Way.{Each}
+use Rattle.x86_flow.specs.Moves.{away, load_far_code, store_far_code, aligned_store_far_code, store_either_code}
+use Rattle.orc_ops.specs.declared.target.Target.{Target as CodeTarget}
+use Rattle.orc_plan.specs.declared.steps.Step.{Step}
+use Rattle.orc_plan.specs.Lowered.{steps_of}
+use Rattle.orc_program.specs.declared.program.VarKind.TheVariants as kind
+use Rattle.orc_program.specs.Program.{FunctionValue, count_of}
+use Rattle.orc_program.specs.Slots.{size_of_slot}
+use Rattle.orc_frame.specs.Layout.{sum_slot}
+use Rattle.sse_laws.specs.Targets.{IsCodeFor}
+use Rattle.sse_laws.proofs.Targeted.{behind_for, either_for, renamed_for}
+use Rattle.orc_region.specs.Code.{Action, Source, FromArray, FromPattern, FromPlace, FromSlot, Target, ToArray, ToSum, ToResident, ToPlace, ToSlot, AreActions, AreBlocks, IsBlocksTurn, IsBlock, IsTurnOf, pointer, far_by, aligned_first, first_register, second_register, rule_register, rule_code, source_far_code, brought, sources_far_code, sum_code, result_far_code, results_far_code, own_names, action_names, action_far_code, named_code, actions_far_code, advance_code, last_place, is_resident, sum_register, sum_load_code, sum_loads_code, sum_store_code, sum_stores_code}
+
+module _ (t : CodeTarget) where
+  -- ---- one action
+
+  load_for : (width x r d : ℕ) → IsCodeFor t (load_far_code width x r d)
+  load_for width x r d = go (width == 1) (width == 2) (width == 4) (width == 8)
+    where
+      go : (one two four eight : Bool) → IsCodeFor t (if one then Load8 0 (away r d) ∷ FromGpr false x 0 ∷ [] else if two then Load16 0 (away r d) ∷ FromGpr false x 0 ∷ [] else if four then VecLoad Movd x (away r d) ∷ [] else if eight then VecLoad Movq x (away r d) ∷ [] else VecLoad Movdqu x (away r d) ∷ [])
+      go true two four eight = refl
+      go false true four eight = refl
+      go false false true eight = refl
+      go false false false true = refl
+      go false false false false = refl
+
+  store_for : (width x r d : ℕ) → IsCodeFor t (store_far_code width x r d)
+  store_for width x r d = go (width == 1) (width == 2) (width == 4) (width == 8)
+    where
+      go : (one two four eight : Bool) → IsCodeFor t (if one then ToGpr false 0 x ∷ Store8 0 (away r d) ∷ [] else if two then ToGpr false 0 x ∷ Store16 0 (away r d) ∷ [] else if four then VecStore Movd x (away r d) ∷ [] else if eight then VecStore Movq x (away r d) ∷ [] else VecStore Movdqu x (away r d) ∷ [])
+      go true two four eight = refl
+      go false true four eight = refl
+      go false false true eight = refl
+      go false false false true = refl
+      go false false false false = refl
+
+  module _ (count : ℕ) (size far : ℕ → ℕ) (aligned : ℕ → Bool) where
+    source_for : (x : ℕ) (s : Source) → IsCodeFor t (source_far_code count size far x s)
+    source_for x (FromArray k) = load_for (count * size k) x (pointer k) (far k)
+    source_for x (FromPattern j) = refl
+    source_for x (FromPlace p) = refl
+    source_for x (FromSlot k) = refl
+
+    brought_for : (taken : Bool) (code : List Ins) → IsCodeFor t code → IsCodeFor t (brought taken code)
+    brought_for true code h = refl
+    brought_for false code h = h
+
+    sources_for : (one two : Bool) (x y : ℕ) (ss : List Source) → IsCodeFor t (sources_far_code one two count size far x y ss)
+    sources_for one two x y [] = refl
+    sources_for one two x y (s ∷ []) = brought_for one (source_far_code count size far x s) (source_for x s)
+    sources_for one two x y (s ∷ u ∷ more) =
+        let front = source_far_code count size far x s in
+        let back = source_far_code count size far y u in
+        behind_for t (brought one front) (brought two back) (brought_for one front (source_for x s)) (brought_for two back (source_for y u))
+
+    sum_for : (to : List Target) → IsCodeFor t (sum_code to)
+    sum_for [] = refl
+    sum_for (ToArray k ∷ rest) = refl
+    sum_for (ToSum g ∷ rest) = refl
+    sum_for (ToResident g ∷ rest) = refl
+    sum_for (ToPlace p ∷ rest) = refl
+    sum_for (ToSlot k ∷ rest) = refl
+
+    result_for : (x : ℕ) (to : Target) → IsCodeFor t (result_far_code count size far aligned x to)
+    result_for x (ToArray k) =
+        let width = count * size k in
+        either_for t (aligned k) (aligned_store_far_code x (pointer k) (far k)) (store_far_code width x (pointer k) (far k)) refl (store_for width x (pointer k) (far k))
+    result_for x (ToSum g) = refl
+    result_for x (ToResident g) = refl
+    result_for x (ToPlace p) = refl
+    result_for x (ToSlot k) = refl
+
+    results_for : (to : List Target) → IsCodeFor t (results_far_code count size far aligned to)
+    results_for [] = refl
+    results_for (r ∷ []) = result_for 0 r
+    results_for (r ∷ u ∷ more) = behind_for t (result_far_code count size far aligned 0 r) (result_far_code count size far aligned 1 u) (result_for 0 r) (result_for 1 u)
+
+    action_for : (a : Action) → IsCodeFor t a.rule → IsCodeFor t (action_far_code count size far aligned a)
+    action_for a h =
+        let loads = sources_far_code a.takes_first a.takes_second count size far (first_register a.to) (second_register a.to) a.sources in
+        let stores = results_far_code count size far aligned a.to in
+        behind_for t loads (sum_code a.to ++ (rule_code a ++ stores)) (sources_for a.takes_first a.takes_second (first_register a.to) (second_register a.to) a.sources)
+        (behind_for t (sum_code a.to) (rule_code a ++ stores) (sum_for a.to)
+        (behind_for t (rule_code a) stores (renamed_for t (rule_register a.to) a.rule h) (results_for a.to)))
+
+    -- ---- those of a block
+
+    named_for : (names : List ℕ) (actions : List Action) → Each (λ (a : Action). IsCodeFor t a.rule) actions → IsCodeFor t (named_code names count size far aligned actions)
+    named_for names [] h = refl
+    named_for names (a ∷ rest) h =
+        let mine = action_names a names in
+        let own = action_far_code count size far aligned a in
+        behind_for t (map (renamed (renaming mine)) own) (named_code mine count size far aligned rest) (renamed_for t (renaming mine) own (action_for a h.0)) (named_for mine rest h.1)
+
+  rules_for : (at : List ℕ) (count : ℕ) (steps : List Step) (actions : List Action) → AreActions t at count steps actions → Each (λ (a : Action). IsCodeFor t a.rule) actions
+  rules_for at count [] [] are = tt
+  rules_for at count (s ∷ steps) (a ∷ rest) are = (are.0.0.for_target, rules_for at count steps rest are.1)
+  rules_for at count [] (a ∷ rest) are = absurd are
+  rules_for at count (s ∷ steps) [] are = absurd are
+
+  module _ (at : List ℕ) (count : ℕ) (steps : List Step) (size : ℕ → ℕ) (aligned : ℕ → Bool) where
+    actions_for : (far : ℕ → ℕ) (actions : List Action) → AreActions t at count steps actions → IsCodeFor t (actions_far_code count size far aligned actions)
+    actions_for far actions are = named_for count size far aligned own_names actions (rules_for at count steps actions are)
+
+    -- ---- turns
+
+    blocks_for : (b : ℕ) (list : List Ins) → AreBlocks (AreActions t at count steps) count size aligned b list → IsCodeFor t list
+    blocks_for zero list x = subst (IsCodeFor t) (sym x) refl
+    blocks_for (suc b) list x =
+        subst (IsCodeFor t) (sym x.4) (behind_for t x.0 (actions_far_code count size (far_by (b * count) size) aligned x.1) (blocks_for b x.0 x.2) (actions_for (far_by (b * count) size) x.1 x.3))
+
+    advance_for : (by first n : ℕ) → IsCodeFor t (advance_code size by first n)
+    advance_for by first zero = refl
+    advance_for by first (suc n) = behind_for t (advance_code size by first n) (AluImm Add (pointer (first + n)) (pos (by * size (first + n))) ∷ []) (advance_for by first n) refl
+
+    turn_for : (dests sources b : ℕ) (list : List Ins) → IsBlocksTurn (AreActions t at count steps) count size aligned dests sources b list → IsCodeFor t list
+    turn_for dests sources b list x =
+        let by = b * count in
+        let first = advance_code size by 0 dests in
+        let second = advance_code size by 4 sources in
+        let last = AluImm Sub 1 (pos by) ∷ [] in
+        subst (IsCodeFor t) (sym x.2)
+        (behind_for t x.0 (first ++ (second ++ last)) (blocks_for b x.0 x.1)
+        (behind_for t first (second ++ last) (advance_for by 0 dests) (behind_for t second last (advance_for by 4 sources) refl)))
+
+-- ---- of a function
+
+module _ (f : FunctionValue) (t : CodeTarget) (at : List ℕ) where
+  pub block_is_for : (count : ℕ) (aligned : Bool) (list : List Ins) → IsBlock f t at count aligned list → IsCodeFor t list
+  block_is_for count aligned list x = subst (IsCodeFor t) (sym x.2) (actions_for t at count (steps_of f) (size_of_slot f.vars) (aligned_first aligned) (far_by 0 (size_of_slot f.vars)) x.0 x.1)
+
+  pub turn_is_for : (count : ℕ) (aligned : Bool) (b : ℕ) (list : List Ins) → IsTurnOf f t at count aligned b list → IsCodeFor t list
+  turn_is_for count aligned b list x = turn_for t at count (steps_of f) (size_of_slot f.vars) (aligned_first aligned) (count_of kind.Dest f.vars) (count_of kind.Source f.vars) b list x
+
+-- ---- running sums to and from registers
+
+module _ (t : CodeTarget) (at : List ℕ) where
+  pub sum_loads_for : (n : ℕ) → IsCodeFor t (sum_loads_code at n)
+  sum_loads_for zero = refl
+  sum_loads_for (suc n) = behind_for t (sum_loads_code at n) (sum_load_code at n) (sum_loads_for n) (either_for t (is_resident (last_place at) n) (VecLoad Movdqu (sum_register n) (away 4 (sum_slot n)) ∷ []) [] refl refl)
+
+  pub sum_stores_for : (n : ℕ) → IsCodeFor t (sum_stores_code at n)
+  sum_stores_for zero = refl
+  sum_stores_for (suc n) = behind_for t (sum_stores_code at n) (sum_store_code at n) (sum_stores_for n) (either_for t (is_resident (last_place at) n) (VecStore Movdqu (sum_register n) (away 4 (sum_slot n)) ∷ []) [] refl refl)
