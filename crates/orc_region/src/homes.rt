@@ -164,13 +164,7 @@ fn exchanged(a: u8, b: u8, names: &[u8; 16]) -> [u8; 16]
 
 /// The names where a source may be taken over: its register then changes names with the one that the source would go to.
 #[tactic(auto, using(crate::proofs::Block::Sums::pattern_names))]
-fn take_names(
-    taken: bool,
-    home: Xmm,
-    seats: &Seats<'_>,
-    item: Item,
-    names: &[u8; 16],
-) -> [u8; 16]
+fn take_names(taken: bool, home: Xmm, seats: &Seats<'_>, item: Item, names: &[u8; 16]) -> [u8; 16]
     requires { IsPermutation names.now }
     ensures is { result ≡ take_names taken home (source_of (seats_in seats.now) item) names.now }
     ensures permutation { IsPermutation result }

@@ -224,11 +224,7 @@ fn push_sources(
 }
 
 /// Adds what loads the running sum that the first result is, if it is one and stands in the frame.
-fn push_sum(
-    list: &mut InsList,
-    setting: &Setting<'_>,
-    results: &[Item],
-) -> Result<(), AllocError>
+fn push_sum(list: &mut InsList, setting: &Setting<'_>, results: &[Item]) -> Result<(), AllocError>
     requires layout { IsLayout setting.now.layout.now }
     requires stored { Each (IsStored setting.now.layout.now (slice_index setting.now.sizes.now) setting.now.span.count) (map (target_of setting.now.seats.places.now) results.now) }
     ensures { OnOk result (list.new ≡ list.old ++ sum_code (map (target_of setting.now.seats.places.now) results.now)) }

@@ -53,10 +53,9 @@ ready_slices l count seats seats' sizes sizes' steps steps' a b c h =
 
 -- a layout's sums are the function's
 seats_are : (f : FunctionValue) (l : Layout) → l ≡ layout_of f → (at : List ℕ) → seats_with l at ≡ seats_of f at
-seats_are f l e at = ap (seats_behind at) (ap (λ (y : Layout). length y.acc_sizes.items) e ∙ sums_count f)
-  where
-    seats_behind : List ℕ → ℕ → Seats
-    seats_behind at n = record { places = at; sums = n }
+seats_are f l e at =
+    let behind : ℕ → Seats = λ n. record { places = at; sums = n } in
+    ap behind (ap (λ (y : Layout). length y.acc_sizes.items) e ∙ sums_count f)
 
 some_factor : (count s : ℕ) → count * s ≡ 16 → 0 < s
 some_factor count zero e = absurd (omega (arith, e))

@@ -99,7 +99,7 @@ module _ (f : FunctionValue) (is : is_function f ≡ true) (known : Arrays f) (c
       decided = decided f known code s args back good r row;
       slots = λ k h. h;
       known = all_known f at meant args.n base Slot has known.few.dests target is stand count actions are;
-      taken = all_taken target at count (steps_of f) actions are;
+      taken = all_taken target (seats_of f at) count (steps_of f) actions are;
       few_dests = known.few.dests;
       few_sources = known.few.sources;
       few = (arrays f known code s args back good).few;

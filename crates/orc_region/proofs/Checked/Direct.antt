@@ -14,7 +14,7 @@ use Rattle.orc_program.specs.declared.program.Pattern.{Pattern}
 use Rattle.orc_program.specs.declared.fault.Fault.TheVariants as fault
 use Rattle.orc_program.specs.Program.{FunctionValue, var_at, same_kind, is_array_kind, count_of, count_before, is_temp}
 use Rattle.orc_program.specs.Slots.{slot_of}
-use Rattle.orc_program.specs.Checks.{check, is_kind, is_scalar, is_wrong_size, is_unset, number_in, way_of, result_kind_fault, source_kind_fault, result_fault, source_fault}
+use Rattle.orc_program.specs.Checks.{check, is_kind, is_scalar, is_wrong_size, is_unset, number_in, pattern_number, way_of, result_kind_fault, source_kind_fault, result_fault, source_fault}
 use Rattle.orc_program.specs.Kept.{is_in_range, has_no_fault}
 use Rattle.sse_laws.specs.Meets.{is_shift, is_sum}
 use Rattle.orc_plan.specs.declared.steps.Item.TheVariants as item
