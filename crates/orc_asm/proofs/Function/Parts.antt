@@ -248,10 +248,10 @@ module _ {target : Target} (f : FunctionValue) (is : is_function f ≡ true) (at
                 residents = λ j l r b lb.
                     let same = sums_count f in
                     let stands : IsResident (last_place at) (count + j) = subst (λ n. IsResident (last_place at) (n + j)) (sym same) r in
-                    ap (λ n. get_or (d.xmm (resident_register (n + j))) b 0) (sym same) ∙ w.patterns j (omega (arith, l, patterns_same)) stands b lb;
+                    ap (λ n. get_or (d.xmm (resident_register (n + j))) b 0) (sym same) ∙ w.in_patterns j (omega (arith, l, patterns_same)) stands b lb;
                 running = λ g. [];
                 bytes = λ g r. lit< tt;
-                sums = λ g l b lb. w.sums g (omega (arith, l, sums_count f)) b lb;
+                sums = λ g l b lb. w.in_sums g (omega (arith, l, sums_count f)) b lb;
                 totals_are = λ g l. ap (cut (8 * width_of f g)) (no_lanes (width_of f g));
                 spilled = λ x i. is_mapped c.memory d.memory x (sym (memory x)) (h.frame x ((let l = i.0 in omega (arith, l, stack)), (let u = i.1 in omega (arith, u, stack))));
               };

@@ -199,8 +199,8 @@ module _ (at : List ℕ) where
       pub record Brought (sums : ℕ) (z : ℕ → ℕ → ℕ) (patterns : ℕ) (w : ℕ → ℕ → ℕ) (d : Core) : Type 0 where
         pub gpr : d.gpr ≡ c.gpr
         pub memory : d.memory ≡ c.memory
-        pub sums : (g : ℕ) → g < sums → (b : ℕ) → b < 16 → sum_byte last rsp d g b ≡ Some (z g b)
-        pub patterns : (j : ℕ) → j < patterns → IsResident last (sums + j) → (b : ℕ) → b < 16 → get_or (d.xmm (resident_register (sums + j))) b 0 ≡ w j b
+        pub in_sums : (g : ℕ) → g < sums → (b : ℕ) → b < 16 → sum_byte last rsp d g b ≡ Some (z g b)
+        pub in_patterns : (j : ℕ) → j < patterns → IsResident last (sums + j) → (b : ℕ) → b < 16 → get_or (d.xmm (resident_register (sums + j))) b 0 ≡ w j b
 
       pub loads_line : (sums : ℕ) (z : ℕ → ℕ → ℕ) → sums ≤ 4 → ((g : ℕ) → g < sums → (b : ℕ) → b < 16 → c.memory (rsp + sum_slot g + b) ≡ Some (z g b))
           → (patterns : ℕ) (w : ℕ → ℕ → ℕ) → patterns ≤ 48 → ((j : ℕ) → j < patterns → (b : ℕ) → b < 16 → c.memory (rsp + pattern_slot j + b) ≡ Some (w j b))
@@ -216,11 +216,11 @@ module _ (at : List ℕ) where
             record {
               gpr = y.2.gpr ∙ x.2.gpr;
               memory = y.2.memory ∙ x.2.memory;
-              sums = λ g l j lj. ⊎_elim
+              in_sums = λ g l j lj. ⊎_elim
                   (λ r. byte_register last rsp d g j r ∙ ap Some (ap (λ v. get_or v j 0) (kept g l r) ∙ x.2.there g l r j lj))
                   (λ f. byte_slot last rsp d g j f ∙ ap (λ m. m (rsp + sum_slot g + j)) (y.2.memory ∙ x.2.memory) ∙ first g l j lj)
                   (cases_lt (last + g + 1) 10);
-              patterns = λ j l r q lq. y.2.there j l r q lq;
+              in_patterns = λ j l r q lq. y.2.there j l r q lq;
             },
           )
 
