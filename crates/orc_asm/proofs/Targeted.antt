@@ -18,11 +18,11 @@ use Rattle.sse_laws.proofs.Targeted.{for_each, behind_for}
 use Rattle.orc_frame.specs.declared.frame.Layout.{Layout}
 use Rattle.orc_frame.specs.Layout.{layout_of}
 use Rattle.orc_frame.proofs.Facts.{facts}
-use Rattle.orc_region.specs.Code.{IsElements, sum_loads_code, sum_stores_code}
+use Rattle.orc_region.specs.Code.{IsElements, resident_loads_code, sum_stores_code}
 use Rattle.orc_region.proofs.Built.Turns.{fits_elements}
-use Rattle.orc_region.proofs.Calls.Sums.{fine_loads, fine_stores}
+use Rattle.orc_region.proofs.Calls.Residents.{fine_loads, fine_stores}
 use Rattle.orc_region.proofs.Sizes.Loops.{Fits}
-use Rattle.orc_region.proofs.Targeted.Blocks.{sum_loads_for, sum_stores_for}
+use Rattle.orc_region.proofs.Targeted.Blocks.{resident_loads_for, sum_stores_for}
 use Rattle.orc_asm.specs.Function.{HasOnly}
 use Rattle.orc_asm.specs.Rows.{slots_code, arrays_code, base_code, pointer_code, stride_code, number_code, count_code, counter_code, one_less_code, rows_code, row_entry_code, row_step_code, row_flow, rows_flow, whole_flow}
 use Rattle.orc_asm.proofs.Row.Counts.{rows_allowed}
@@ -71,21 +71,24 @@ module _ (target : Target) (f : FunctionValue) (h : is_function f ≡ true) (l :
   few_sums : sums ≤ 4
   few_sums = (facts l (f, h, layout)).few_sums
 
+  few_patterns : length l.patterns.items ≤ 48
+  few_patterns = (facts l (f, h, layout)).few_patterns
+
   fits_tree : (tree : Tree) → IsElements f target at tree → Fits 960000 (flat_of tree)
   fits_tree tree (single, wide, aligned, large, turns, e) = subst (Fits 960000) (sym e) (fits_elements f h at single wide aligned large turns)
 
   -- by the lists around the rows and the tree that does a row's elements
   pub has_only : (first last : List Ins) → Each IsAllowed first → Each IsAllowed last → IsCodeFor Sse2 first → IsCodeFor Sse2 last → (tree : Tree) → IsElements f target at tree → IsCodeFor target (flat_of tree)
-      → (begins ends : List Ins) → begins ≡ first ++ sum_loads_code at sums → ends ≡ sum_stores_code at sums ++ last → (two_d : Bool) (d s : ℕ) → d ≤ 4 → s ≤ 8
+      → (begins ends : List Ins) → begins ≡ first ++ resident_loads_code at sums (length l.patterns.items) → ends ≡ sum_stores_code at sums ++ last → (two_d : Bool) (d s : ℕ) → d ≤ 4 → s ≤ 8
       → (bytes : List ℕ) → bytes ≡ spell_all (with_return (whole_flow begins (Plain (flat_of tree)) ends two_d d s)) → HasOnly target bytes
   has_only first last first_allowed last_allowed first_is last_is tree are elements_is begins ends p q two_d d s few_dests few_sources bytes e =
-      let loads = sum_loads_code at sums in
+      let loads = resident_loads_code at sums (length l.patterns.items) in
       let stores = sum_stores_code at sums in
       let fits = fits_tree tree are in
       let rows = flat (rows_flow (Plain (flat_of tree)) two_d d s) in
-      let front_allowed : Each IsAllowed begins = subst (Each IsAllowed) (sym p) (each_both IsAllowed first loads first_allowed (all_allowed loads (fine_loads at sums few_sums))) in
+      let front_allowed : Each IsAllowed begins = subst (Each IsAllowed) (sym p) (each_both IsAllowed first loads first_allowed (all_allowed loads (fine_loads at sums (length l.patterns.items) few_sums few_patterns))) in
       let behind_allowed : Each IsAllowed ends = subst (Each IsAllowed) (sym q) (each_both IsAllowed stores last (all_allowed stores (fine_stores at sums few_sums)) last_allowed) in
-      let front_is : IsCodeFor target begins = subst (IsCodeFor target) (sym p) (behind_for target first loads (for_each target first first_is) (sum_loads_for target at sums)) in
+      let front_is : IsCodeFor target begins = subst (IsCodeFor target) (sym p) (behind_for target first loads (for_each target first first_is) (resident_loads_for target at sums (length l.patterns.items))) in
       let behind_is : IsCodeFor target ends = subst (IsCodeFor target) (sym q) (behind_for target stores last (sum_stores_for target at sums) (for_each target last last_is)) in
       let middle : Each IsAllowed rows = rows_allowed d s few_dests few_sources (Plain (flat_of tree)) two_d fits.bytes fits.allowed in (
         with_return (whole_flow begins (Plain (flat_of tree)) ends two_d d s),

@@ -17,7 +17,7 @@ use orc_ops::Target;
 use orc_plan::{Placed, lower, place};
 use orc_program::variables::count_of;
 use orc_program::{Function, VarKind};
-use orc_region::{row_flow, sum_loads, sum_stores};
+use orc_region::{resident_loads, row_flow, sum_stores};
 use std::alloc::{AllocError, Global};
 
 /// Code that does in every good call what the function means, in at most as many steps as are stated for the target. It does so inside any
@@ -96,7 +96,7 @@ fn code_of(alloc: Global, f: &Function, placed: &Placed, target: Target) -> Resu
     let counts = counts_of(f);
     let layout = layout(f);
     let mut first = prologue(alloc, &layout)?;
-    first.append(sum_loads(alloc, placed, &layout)?)?;
+    first.append(resident_loads(alloc, placed, &layout)?)?;
     let elements = row_flow(alloc, placed, &layout, target)?;
     let mut last = sum_stores(alloc, placed, &layout)?;
     last.append(epilogue(alloc, &layout)?)?;

@@ -2,7 +2,7 @@
 pub mod Agree
 pub mod Cells
 pub mod Setting
-pub mod Sums
+pub mod Residents
 pub mod Holding
 pub mod Wide
 pub mod Doing

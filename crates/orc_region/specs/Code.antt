@@ -1,6 +1,7 @@
 -- The code of a function: the compiler's plan.
 use Rattle.std.specs.Prelude.{◌≡◌, ℕ, zero, suc, ◌+◌, ◌-◌, ◌*◌, ◌/◌, ◌<◌, ◌≤◌, ◌==◌, ◌&&◌, ◌||◌, not, nat_lt, Bool, true, false, if◌then◌else◌, pos, List, [], ◌∷◌, ◌++◌, length, map, slice_index, max}
 use Rattle.std.specs.List.{range_with_len}
+use Rattle.x86_ins.specs.declared.ins.Addr.{Addr}
 use Rattle.x86_ins.specs.declared.ins.AluOp.TheVariants.{Add, Sub}
 use Rattle.x86_ins.specs.declared.ins.Ins.{Ins}
 use Rattle.x86_ins.specs.declared.ins.Ins.TheVariants.{AluImm, Vec, VecLoad, VecStore}
@@ -24,6 +25,7 @@ use Rattle.orc_plan.specs.declared.steps.Item.TheVariants as item
 use Rattle.orc_plan.specs.declared.steps.Step.{Step}
 use Rattle.orc_plan.specs.Places.{GoodPlaces}
 use Rattle.orc_plan.specs.Lowered.{steps_of}
+use Rattle.orc_region.specs.declared.residents.Seats.{Seats as Standing}
 use Rattle.orc_region.specs.declared.span.Span.{Span}
 use Rattle.orc_region.specs.Regions.{aligned_row, plain_row, whole_row, tested_row, wide_loop, wide_loops}
 use Rattle.x86_flow.specs.declared.tree.Flow.{Flow as Tree}
@@ -36,10 +38,11 @@ use Rattle.sse_laws.specs.Meets.{Meets, is_sum}
 use Rattle.sse_laws.specs.Targets.{IsCodeFor}
 use Rattle.sse_acc.specs.Sums.{AddsUp}
 
--- where a source comes from: the elements of an array's slot, a pattern, or a value, from the register of its place or from a spill slot
+-- where a source comes from: the elements of an array's slot, a pattern, from the frame or from the register of the resident with a number, or a value, from the register of its place or from a spill slot
 pub data Source : Type 0 where
   FromArray : ℕ → Source
   FromPattern : ℕ → Source
+  FromResident : ℕ → ℕ → Source
   FromPlace : ℕ → Source
   FromSlot : ℕ → Source
 
@@ -99,9 +102,9 @@ pointer (suc (suc (suc (suc k)))) = 8 + k
 abbrev pub place_register : ℕ → ℕ
 place_register p = 6 + p
 
--- the vector register of a running sum that stands in one: that of the last place, XMM15, for the first sum, and so on downwards
-abbrev pub sum_register : ℕ → ℕ
-sum_register g = place_register (registers - (g + 1))
+-- the vector register of a resident, a running sum or a pattern that stands in one through all rows: that of the last place, XMM15, for the first, and so on downwards
+abbrev pub resident_register : ℕ → ℕ
+resident_register g = place_register (registers - (g + 1))
 
 -- the place of a spill slot
 abbrev pub slot_place : ℕ → ℕ
@@ -130,7 +133,7 @@ second_register (t ∷ u ∷ more) = made_in 1 u
 abbrev pub sum_home : Target → ℕ
 sum_home (ToArray k) = 2
 sum_home (ToSum g) = 2
-sum_home (ToResident g) = sum_register g
+sum_home (ToResident g) = resident_register g
 sum_home (ToPlace p) = 2
 sum_home (ToSlot k) = 2
 
@@ -152,6 +155,7 @@ rule_register ts r = exchange 0 (first_register ts) (exchange 1 (second_register
 abbrev pub source_far_code : ℕ → (ℕ → ℕ) → (ℕ → ℕ) → ℕ → Source → List Ins
 source_far_code count size far x (FromArray k) = load_far_code (count * size k) x (pointer k) (far k)
 source_far_code count size far x (FromPattern j) = VecLoad Movdqu x (away 4 (pattern_slot j)) ∷ []
+source_far_code count size far x (FromResident j g) = Vec Movdqa x (resident_register g) ∷ []
 source_far_code count size far x (FromPlace p) = Vec Movdqa x (place_register p) ∷ []
 source_far_code count size far x (FromSlot k) = VecLoad Movdqu x (away 4 (spill_slot k)) ∷ []
 
@@ -207,6 +211,7 @@ abbrev pub take_names : Bool → ℕ → Source → List ℕ → List ℕ
 take_names one x (FromPlace p) names = if one then exchanged x (place_register p) names else names
 take_names one x (FromArray k) names = names
 take_names one x (FromPattern j) names = names
+take_names one x (FromResident j g) names = names
 take_names one x (FromSlot k) names = names
 
 abbrev pub source_names : Bool → Bool → ℕ → ℕ → List Source → List ℕ → List ℕ
@@ -266,19 +271,39 @@ abbrev pub last_place : List ℕ → ℕ
 last_place [] = 0
 last_place (p ∷ ps) = max p (last_place ps)
 
--- a running sum stands in a register where no value has the register's place or one past it; values have places up to the last one
+-- the resident with a number stands in its register where no value has the register's place or one past it; values have places up to the last one
 abbrev pub is_resident : ℕ → ℕ → Bool
 is_resident last g = nat_lt (last + g + 1) registers
+
+-- where values stand, by their places, and patterns: behind so many running sums
+pub record Seats : Type 0 where
+  pub places : List ℕ
+  pub sums : ℕ
+
+abbrev pub seats_in : Standing → Seats
+seats_in s = record { places = s.places.now; sums = s.sums }
+
+-- those by places of values and by a layout
+abbrev pub seats_with : Layout → List ℕ → Seats
+seats_with l at = record { places = at; sums = length l.acc_sizes.items }
+
+-- those of a function whose values have these places
+abbrev pub seats_of : FunctionValue → List ℕ → Seats
+seats_of f at = record { places = at; sums = count_of kind.Accumulator f.vars }
 
 abbrev pub to_sum : List ℕ → ℕ → Target
 to_sum at g = if is_resident (last_place at) g then ToResident g else ToSum g
 
+-- patterns are residents behind the running sums
+abbrev pub from_pattern : Seats → ℕ → Source
+from_pattern seats j = if is_resident (last_place seats.places) (seats.sums + j) then FromResident j (seats.sums + j) else FromPattern j
+
 -- where an item of a step comes from as a source; no source is a sum
-abbrev pub source_of : List ℕ → Item → Source
-source_of at (item.Value v) = from_place (slice_index at v)
-source_of at (item.Array slot) = FromArray slot
-source_of at (item.Acc slot size) = FromArray slot
-source_of at (item.Pattern j) = FromPattern j
+abbrev pub source_of : Seats → Item → Source
+source_of seats (item.Value v) = from_place (slice_index seats.places v)
+source_of seats (item.Array slot) = FromArray slot
+source_of seats (item.Acc slot size) = FromArray slot
+source_of seats (item.Pattern j) = from_pattern seats j
 
 -- where it goes as a result; no result is a pattern
 abbrev pub target_of : List ℕ → Item → Target
@@ -287,12 +312,12 @@ target_of at (item.Array slot) = ToArray slot
 target_of at (item.Acc slot size) = to_sum at slot
 target_of at (item.Pattern j) = ToArray j
 
--- the action is the step's, by some list of the target's instructions that computes its opcode, in at most as many as its class for the target says; `at` are the places of values
-pub record IsAction (target : CodeTarget) (at : List ℕ) (count : ℕ) (step : Step) (a : Action) : Type 0 where
+-- the action is the step's, by some list of the target's instructions that computes its opcode, in at most as many as its class for the target says
+pub record IsAction (target : CodeTarget) (seats : Seats) (count : ℕ) (step : Step) (a : Action) : Type 0 where
   pub op : a.op ≡ step.op
   pub prefix : a.prefix ≡ step.prefix
-  pub to : a.to ≡ map (target_of at) step.results.items
-  pub sources : a.sources ≡ map (source_of at) step.sources.items
+  pub to : a.to ≡ map (target_of seats.places) step.results.items
+  pub sources : a.sources ≡ map (source_of seats) step.sources.items
   pub rule : IsRule count a.op a.rule
   pub few : length a.rule ≤ class_for a.op target
   pub for_target : IsCodeFor target a.rule
@@ -303,6 +328,7 @@ pub record IsAction (target : CodeTarget) (at : List ℕ) (count : ℕ) (step : 
 abbrev pub is_from : ℕ → Source → Bool
 is_from p (FromArray k) = false
 is_from p (FromPattern j) = false
+is_from p (FromResident j g) = false
 is_from p (FromPlace q) = q == p
 is_from p (FromSlot k) = slot_place k == p
 
@@ -325,44 +351,46 @@ some_to p (t ∷ []) = is_to p t
 some_to p (t ∷ u ∷ more) = is_to p t || is_to p u
 
 -- of these steps none reads what stands at the place: before one does, one makes a value there
-abbrev pub is_free : List ℕ → ℕ → List Step → Bool
-is_free at p [] = true
-is_free at p (s ∷ later) = not (some_from p (map (source_of at) s.sources.items)) && (some_to p (map (target_of at) s.results.items) || is_free at p later)
+abbrev pub is_free : Seats → ℕ → List Step → Bool
+is_free seats p [] = true
+is_free seats p (s ∷ later) = not (some_from p (map (source_of seats) s.sources.items)) && (some_to p (map (target_of seats.places) s.results.items) || is_free seats p later)
 
 -- no later step reads what is in the source's register
-abbrev pub is_last : List ℕ → List Step → Source → Bool
-is_last at later (FromArray k) = false
-is_last at later (FromPattern j) = false
-is_last at later (FromPlace p) = is_free at p later
-is_last at later (FromSlot k) = false
+abbrev pub is_last : Seats → List Step → Source → Bool
+is_last seats later (FromArray k) = false
+is_last seats later (FromPattern j) = false
+is_last seats later (FromResident j g) = false
+is_last seats later (FromPlace p) = is_free seats p later
+is_last seats later (FromSlot k) = false
 
 -- the other source is in this one's register
 abbrev pub is_beside : Source → Source → Bool
 is_beside (FromArray k) t = false
 is_beside (FromPattern j) t = false
+is_beside (FromResident j g) t = false
 is_beside (FromPlace p) t = is_from p t
 is_beside (FromSlot k) t = false
 
-abbrev pub is_first_taken : List ℕ → List Step → List Source → Bool
-is_first_taken at later [] = false
-is_first_taken at later (s ∷ []) = is_last at later s
-is_first_taken at later (s ∷ t ∷ more) = is_last at later s && not (is_beside s t)
+abbrev pub is_first_taken : Seats → List Step → List Source → Bool
+is_first_taken seats later [] = false
+is_first_taken seats later (s ∷ []) = is_last seats later s
+is_first_taken seats later (s ∷ t ∷ more) = is_last seats later s && not (is_beside s t)
 
-abbrev pub is_second_taken : List ℕ → List Step → List Source → Bool
-is_second_taken at later [] = false
-is_second_taken at later (s ∷ []) = false
-is_second_taken at later (s ∷ t ∷ more) = is_last at later t && not (is_beside t s)
+abbrev pub is_second_taken : Seats → List Step → List Source → Bool
+is_second_taken seats later [] = false
+is_second_taken seats later (s ∷ []) = false
+is_second_taken seats later (s ∷ t ∷ more) = is_last seats later t && not (is_beside t s)
 
-pub record IsTaking (at : List ℕ) (later : List Step) (a : Action) : Type 0 where
-  pub first : a.takes_first ≡ is_first_taken at later a.sources
-  pub second : a.takes_second ≡ is_second_taken at later a.sources
+pub record IsTaking (seats : Seats) (later : List Step) (a : Action) : Type 0 where
+  pub first : a.takes_first ≡ is_first_taken seats later a.sources
+  pub second : a.takes_second ≡ is_second_taken seats later a.sources
 
 -- the actions are those of the steps
-abbrev pub AreActions : CodeTarget → List ℕ → ℕ → List Step → List Action → Type 0
-AreActions target at count [] [] = Unit {0}
-AreActions target at count (s ∷ steps) (a ∷ rest) = (IsAction target at count s a × IsTaking at steps a) × AreActions target at count steps rest
-AreActions target at count [] (a ∷ rest) = ⊥
-AreActions target at count (s ∷ steps) [] = ⊥
+abbrev pub AreActions : CodeTarget → Seats → ℕ → List Step → List Action → Type 0
+AreActions target seats count [] [] = Unit {0}
+AreActions target seats count (s ∷ steps) (a ∷ rest) = (IsAction target seats count s a × IsTaking seats steps a) × AreActions target seats count steps rest
+AreActions target seats count [] (a ∷ rest) = ⊥
+AreActions target seats count (s ∷ steps) [] = ⊥
 
 -- a function's patterns
 abbrev pub patterns_in : FunctionValue → List Pattern
@@ -378,16 +406,21 @@ plan_with f actions = record {
 
 -- ---- around the rows of a call
 
--- the running sums that stand in registers go there from their slots of the frame, and back
-abbrev pub sum_load_code : List ℕ → ℕ → List Ins
-sum_load_code at g = if is_resident (last_place at) g then VecLoad Movdqu (sum_register g) (away 4 (sum_slot g)) ∷ [] else []
-
-abbrev pub sum_loads_code : List ℕ → ℕ → List Ins
-sum_loads_code at zero = []
-sum_loads_code at (suc n) = sum_loads_code at n ++ sum_load_code at n
+-- a resident goes to its register from 16 bytes of the frame, and back
+abbrev pub resident_load_code : List ℕ → ℕ → Addr → List Ins
+resident_load_code at g from = if is_resident (last_place at) g then VecLoad Movdqu (resident_register g) from ∷ [] else []
 
 abbrev pub sum_store_code : List ℕ → ℕ → List Ins
-sum_store_code at g = if is_resident (last_place at) g then VecStore Movdqu (sum_register g) (away 4 (sum_slot g)) ∷ [] else []
+sum_store_code at g = if is_resident (last_place at) g then VecStore Movdqu (resident_register g) (away 4 (sum_slot g)) ∷ [] else []
+
+-- so many residents with these numbers, each from its slot
+abbrev pub loads_code : List ℕ → (ℕ → ℕ) → (ℕ → ℕ) → ℕ → List Ins
+loads_code at number slot zero = []
+loads_code at number slot (suc n) = loads_code at number slot n ++ resident_load_code at (number n) (away 4 (slot n))
+
+-- the running sums and the patterns that stand in registers go there from their slots, and sums go back
+abbrev pub resident_loads_code : List ℕ → ℕ → ℕ → List Ins
+resident_loads_code at sums patterns = loads_code at (λ g. g) sum_slot sums ++ loads_code at (λ j. sums + j) pattern_slot patterns
 
 abbrev pub sum_stores_code : List ℕ → ℕ → List Ins
 sum_stores_code at zero = []
@@ -399,21 +432,21 @@ abbrev pub AddsRule : CodeTarget → ℕ → Op → List Target → List Ins →
 AddsRule target count op to old new = (rule : List Ins) × IsRule count op rule × (length rule ≤ class_for op target) × IsCodeFor target rule × (new ≡ old ++ map (renamed (rule_register to)) rule)
 
 -- `size` has the bytes of an element of each array slot
-abbrev pub AddsAction : List ℕ → (ℕ → ℕ) → Span → Step → Bool → Bool → List Ins → List Ins → Type 0
-AddsAction at size span step one two old new =
-    (a : Action) × IsAction span.target at span.count step a × (a.takes_first ≡ one) × (a.takes_second ≡ two) × (new ≡ old ++ action_far_code span.count size (far_by span.first size) (aligned_first span.aligned) a)
+abbrev pub AddsAction : Seats → (ℕ → ℕ) → Span → Step → Bool → Bool → List Ins → List Ins → Type 0
+AddsAction seats size span step one two old new =
+    (a : Action) × IsAction span.target seats span.count step a × (a.takes_first ≡ one) × (a.takes_second ≡ two) × (new ≡ old ++ action_far_code span.count size (far_by span.first size) (aligned_first span.aligned) a)
 
 -- under these names of the vector registers
-abbrev pub AddsNamed : List ℕ → List ℕ → (ℕ → ℕ) → Span → List Step → List Ins → List Ins → Type 0
-AddsNamed names at size span steps old new =
-    (actions : List Action) × AreActions span.target at span.count steps actions × (new ≡ old ++ named_code names span.count size (far_by span.first size) (aligned_first span.aligned) actions)
+abbrev pub AddsNamed : List ℕ → Seats → (ℕ → ℕ) → Span → List Step → List Ins → List Ins → Type 0
+AddsNamed names seats size span steps old new =
+    (actions : List Action) × AreActions span.target seats span.count steps actions × (new ≡ old ++ named_code names span.count size (far_by span.first size) (aligned_first span.aligned) actions)
 
-abbrev pub AddsActions : List ℕ → (ℕ → ℕ) → Span → List Step → List Ins → List Ins → Type 0
+abbrev pub AddsActions : Seats → (ℕ → ℕ) → Span → List Step → List Ins → List Ins → Type 0
 AddsActions = AddsNamed own_names
 
--- a block of steps with these places, by the sizes of array slots
-abbrev pub IsBlockBy : List ℕ → List ℕ → List Step → Span → List Ins → Type 0
-IsBlockBy at sizes steps span list = AddsActions at (slice_index sizes) span steps [] list
+-- a block of steps with these seats, by the sizes of array slots
+abbrev pub IsBlockBy : Seats → List ℕ → List Step → Span → List Ins → Type 0
+IsBlockBy seats sizes steps span list = AddsActions seats (slice_index sizes) span steps [] list
 
 -- so many blocks of `count` elements each, one behind another, with the pointers at the first; each is of actions of which Are holds
 abbrev pub AreBlocks : (List Action → Type 0) → ℕ → (ℕ → ℕ) → (ℕ → Bool) → ℕ → List Ins → Type 0
@@ -426,9 +459,9 @@ abbrev pub IsBlocksTurn : (List Action → Type 0) → ℕ → (ℕ → ℕ) →
 IsBlocksTurn Are count size aligned dests sources b list =
     (blocks : List Ins) × AreBlocks Are count size aligned b blocks × (list ≡ blocks ++ (advance_code size (b * count) 0 dests ++ (advance_code size (b * count) 4 sources ++ AluImm Sub 1 (pos (b * count)) ∷ [])))
 
--- a turn of blocks of steps with these places, by the sizes of array slots
-abbrev pub IsTurnBy : List ℕ → List ℕ → List Step → ℕ → ℕ → Span → ℕ → List Ins → Type 0
-IsTurnBy at sizes steps dests sources span = IsBlocksTurn (AreActions span.target at span.count steps) span.count (slice_index sizes) (aligned_first span.aligned) dests sources
+-- a turn of blocks of steps with these seats, by the sizes of array slots
+abbrev pub IsTurnBy : Seats → List ℕ → List Step → ℕ → ℕ → Span → ℕ → List Ins → Type 0
+IsTurnBy seats sizes steps dests sources span = IsBlocksTurn (AreActions span.target seats span.count steps) span.count (slice_index sizes) (aligned_first span.aligned) dests sources
 
 -- so many elements from the one that the pointers are at, by rules for the target, with aligned stores to the first dest or without
 abbrev pub span_of : CodeTarget → ℕ → Bool → Span
@@ -437,11 +470,11 @@ span_of target count aligned = record { first = 0; count = count; aligned = alig
 -- a block for so many elements of a function's code for the target, by these places of its values, with aligned stores to the first dest or without
 abbrev pub IsBlock : FunctionValue → CodeTarget → List ℕ → ℕ → Bool → List Ins → Type 0
 IsBlock f target at count aligned list =
-    (actions : List Action) × AreActions target at count (steps_of f) actions × (list ≡ actions_far_code count (size_of_slot f.vars) (far_by 0 (size_of_slot f.vars)) (aligned_first aligned) actions)
+    (actions : List Action) × AreActions target (seats_of f at) count (steps_of f) actions × (list ≡ actions_far_code count (size_of_slot f.vars) (far_by 0 (size_of_slot f.vars)) (aligned_first aligned) actions)
 
 -- a turn of so many blocks of a function's code, each of `count` elements, with aligned stores to the first dest or without
 abbrev pub IsTurnOf : FunctionValue → CodeTarget → List ℕ → ℕ → Bool → ℕ → List Ins → Type 0
-IsTurnOf f target at count aligned = IsBlocksTurn (AreActions target at count (steps_of f)) count (size_of_slot f.vars) (aligned_first aligned) (count_of kind.Dest f.vars) (count_of kind.Source f.vars)
+IsTurnOf f target at count aligned = IsBlocksTurn (AreActions target (seats_of f at) count (steps_of f)) count (size_of_slot f.vars) (aligned_first aligned) (count_of kind.Dest f.vars) (count_of kind.Source f.vars)
 
 -- ---- the elements of a row
 
@@ -538,6 +571,7 @@ InPlaces (ToSlot k) = Unit {0}
 abbrev pub IsLoaded : Layout → (ℕ → ℕ) → ℕ → Source → Type 0
 IsLoaded l size count (FromArray k) = IsMoved size count k
 IsLoaded l size count (FromPattern j) = j < length l.patterns.items
+IsLoaded l size count (FromResident j g) = g < registers
 IsLoaded l size count (FromPlace p) = p < registers
 IsLoaded l size count (FromSlot k) = k < spill_slots
 
@@ -549,7 +583,7 @@ IsStored l size count (ToResident g) = g < length l.acc_sizes.items
 IsStored l size count (ToPlace p) = p < registers
 IsStored l size count (ToSlot k) = k < spill_slots
 
-pub record IsReady (l : Layout) (at : List ℕ) (size : ℕ → ℕ) (count : ℕ) (step : Step) : Type 0 where
+pub record IsReady (l : Layout) (seats : Seats) (size : ℕ → ℕ) (count : ℕ) (step : Step) : Type 0 where
   pub has_rule : HasRule count step.op
-  pub sources : Each (IsLoaded l size count) (map (source_of at) step.sources.items)
-  pub to : Each (IsStored l size count) (map (target_of at) step.results.items)
+  pub sources : Each (IsLoaded l size count) (map (source_of seats) step.sources.items)
+  pub to : Each (IsStored l size count) (map (target_of seats.places) step.results.items)

@@ -25,7 +25,7 @@ use Rattle.orc_frame.specs.Function.{subject_of}
 use Rattle.orc_frame.specs.GoodCall.{GoodCall, lowered}
 use Rattle.orc_frame.specs.Parts.{Between, InFrame}
 use Rattle.orc_frame.specs.Subject.{Call, IsArray, VerySame, cell, rows}
-use Rattle.orc_region.specs.Code.{pointer, last_place, is_resident, sum_register}
+use Rattle.orc_region.specs.Code.{pointer, last_place, is_resident, resident_register}
 use Rattle.orc_region.specs.Stores.{TouchesCell, StoresFirst}
 
 -- placed steps and a layout are of this function
@@ -54,7 +54,15 @@ PointsAt f args r i c = (k : ℕ) → IsArray (subject_of f) k → c.gpr (pointe
 
 -- byte b of running sum g, where values have places up to the last one and RSP is `rsp`: of its register, or of its slot of the frame
 abbrev pub sum_byte : ℕ → ℕ → Core → ℕ → ℕ → Option ℕ
-sum_byte last rsp c g b = if is_resident last g then Some (get_or (c.xmm (sum_register g)) b 0) else c.memory (rsp + sum_slot g + b)
+sum_byte last rsp c g b = if is_resident last g then Some (get_or (c.xmm (resident_register g)) b 0) else c.memory (rsp + sum_slot g + b)
+
+-- byte q of a pattern
+abbrev pub byte_of : FunctionValue → Call → ℕ → ℕ → ℕ
+byte_of f args k q = pattern_byte (pattern_at (layout_of f) k).way (number_of (layout_of f).params.items args.param (pattern_at (layout_of f) k).number) q
+
+-- the number of a pattern among residents
+abbrev pub pattern_resident : FunctionValue → ℕ → ℕ
+pattern_resident f k = length (layout_of f).acc_sizes.items + k
 
 -- where emulation has the state e, and values have these places: RSP is lowered, and RDI has the block's address
 pub record Holds (f : FunctionValue) (at : List ℕ) (s : Core) (args : Call) (e : State) (c : Core) : Type 0 where
@@ -63,9 +71,9 @@ pub record Holds (f : FunctionValue) (at : List ℕ) (s : Core) (args : Call) (e
   -- outside the frame memory is emulation's, and no byte was unmapped
   pub agree : (a : ℕ) → (InFrame (lowered s) a → ⊥) → c.memory a ≡ e.memory a
   pub mapped : (a : ℕ) → IsMapped s.memory a → IsMapped c.memory a
-  -- each pattern's bytes are in its slot
-  pub patterns : (k : ℕ) → k < length (layout_of f).patterns.items → (q : ℕ) → q < 16 →
-      c.memory (lowered s + pattern_slot k + q) ≡ Some (pattern_byte (pattern_at (layout_of f) k).way (number_of (layout_of f).params.items args.param (pattern_at (layout_of f) k).number) q)
+  -- each pattern's bytes are in its slot, and where it stands in a register too, behind the running sums, they are there
+  pub patterns : (k : ℕ) → k < length (layout_of f).patterns.items → (q : ℕ) → q < 16 → c.memory (lowered s + pattern_slot k + q) ≡ Some (byte_of f args k q)
+  pub residents : (k : ℕ) → k < length (layout_of f).patterns.items → is_resident (last_place at) (pattern_resident f k) ≡ true → (q : ℕ) → q < 16 → get_or (c.xmm (resident_register (pattern_resident f k))) q 0 ≡ byte_of f args k q
   -- the lanes of each running sum add up to emulation's sum, modulo what its bytes hold
   pub running : ℕ → List ℕ
   pub bytes : (g : ℕ) → AreBytes (running g)

@@ -4,9 +4,9 @@ ghost use Rattle.std.specs.Prelude.{◌≡◌, ◌≢◌, ◌<◌, ◌≤◌, �
 ghost use Rattle.x86_ins.specs.Way.{Each};
 ghost use Rattle.x86_ins.specs.Renaming.{IsPermutation, renaming};
 ghost use Rattle.orc_program.specs.Need.{registers};
-ghost use Rattle.orc_region.specs.Code.{source_of, target_of, own_names, exchanged, take_names, source_names, place_register, made_in, first_register, second_register, third_register, sum_home, to_sum, exchange, InPlaces};
+ghost use Rattle.orc_region.specs.Code.{seats_in, source_of, target_of, own_names, exchanged, take_names, source_names, place_register, made_in, first_register, second_register, third_register, sum_home, to_sum, exchange, InPlaces};
 
-use crate::sums::{is_resident, sum_register};
+use crate::residents::{Seats, is_resident, resident_register};
 use crate::taking::Takes;
 use orc_plan::{Item, place_of};
 use x86_ins::Xmm;
@@ -59,8 +59,8 @@ fn made_in(at: &[u8], number: u8, item: Item) -> Xmm
 fn sum_home(at: &[u8], sum: u8) -> Xmm
     ensures { result ≡ sum_home (to_sum at.now sum) }
 {
-    if is_resident(at, sum) {
-        sum_register(sum)
+    if is_resident(at, u16::from(sum)) {
+        resident_register(u16::from(sum))
     } else {
         SUM
     }
@@ -163,14 +163,15 @@ fn exchanged(a: u8, b: u8, names: &[u8; 16]) -> [u8; 16]
 }
 
 /// The names where a source may be taken over: its register then changes names with the one that the source would go to.
-fn take_names(taken: bool, home: Xmm, at: &[u8], item: Item, names: &[u8; 16]) -> [u8; 16]
+#[tactic(auto, using(crate::proofs::Block::Sums::pattern_names))]
+fn take_names(taken: bool, home: Xmm, seats: &Seats<'_>, item: Item, names: &[u8; 16]) -> [u8; 16]
     requires { IsPermutation names.now }
-    ensures is { result ≡ take_names taken home (source_of at.now item) names.now }
+    ensures is { result ≡ take_names taken home (source_of (seats_in seats.now) item) names.now }
     ensures permutation { IsPermutation result }
 {
     match item {
         Item::Value(value) => {
-            let place = place_of(at, value);
+            let place = place_of(seats.places, value);
             if place >= REGISTERS {
                 return *names;
             }
@@ -188,20 +189,20 @@ fn take_names(taken: bool, home: Xmm, at: &[u8], item: Item, names: &[u8; 16]) -
 pub fn source_names(
     takes: Takes,
     homes: &Homes,
-    at: &[u8],
+    seats: &Seats<'_>,
     sources: &[Item],
     names: &[u8; 16],
 ) -> [u8; 16]
     requires { IsPermutation names.now }
-    ensures is { result ≡ source_names takes.first takes.second homes.now.first homes.now.second (map (source_of at.now) sources.now) names.now }
+    ensures is { result ≡ source_names takes.first takes.second homes.now.first homes.now.second (map (source_of (seats_in seats.now)) sources.now) names.now }
     ensures permutation { IsPermutation result }
 {
     match sources {
         [] => *names,
-        [one] => take_names(takes.first, homes.first, at, *one, names),
+        [one] => take_names(takes.first, homes.first, seats, *one, names),
         [one, two, ..] => {
-            let names = take_names(takes.first, homes.first, at, *one, names);
-            take_names(takes.second, homes.second, at, *two, &names)
+            let names = take_names(takes.first, homes.first, seats, *one, names);
+            take_names(takes.second, homes.second, seats, *two, &names)
         }
     }
 }

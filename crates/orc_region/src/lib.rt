@@ -8,12 +8,12 @@
 mod homes;
 mod lists;
 mod loops;
+mod residents;
 mod rules;
 mod span;
-mod sums;
 mod taking;
 mod turns;
 
 pub use lists::{COUNTER, pointer};
-pub use sums::{sum_loads, sum_stores};
+pub use residents::{resident_loads, sum_stores};
 pub use turns::{region, row_flow};

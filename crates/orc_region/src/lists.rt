@@ -11,14 +11,14 @@ ghost use Rattle.x86_flow.specs.Moves.{IsWidth, away, load_far_code, store_eithe
 ghost use Rattle.orc_frame.specs.Frame.{IsLayout};
 ghost use Rattle.orc_frame.specs.Layout.{pattern_slot, sum_slot, spill_slot};
 ghost use Rattle.orc_program.specs.Need.{places, registers};
-ghost use Rattle.orc_region.specs.Code.{HasRule, pointer, place_register, aligned_first, far_by, source_of, target_of, source_far_code, brought, sources_far_code, sum_code, result_far_code, results_far_code, advance_code, first_register, second_register, third_register, AddsRule, AddsAction, AddsNamed, AddsActions, IsMoved, IsLoaded, IsStored, IsReady};
+ghost use Rattle.orc_region.specs.Code.{HasRule, pointer, place_register, aligned_first, far_by, source_of, target_of, source_far_code, brought, sources_far_code, sum_code, result_far_code, results_far_code, advance_code, first_register, second_register, third_register, AddsRule, AddsAction, AddsNamed, AddsActions, IsMoved, IsLoaded, IsStored, IsReady, seats_in, from_pattern};
 
 use crate::homes::{
     Homes, REGISTERS, SUM, homes_of, names_of, own_names, place_register, source_names,
 };
+use crate::residents::{is_resident, pattern_number, resident_register};
 use crate::rules::rule_for;
-use crate::span::Span;
-use crate::sums::is_resident;
+use crate::span::Setting;
 use crate::taking::{Takes, takes_of};
 use orc_frame::{Layout, STACK, pattern_at, spill_slot_at, sum_at};
 use orc_ops::Op;
@@ -54,38 +54,37 @@ pub fn pointer(slot: usize) -> Gpr
 /// Adds what loads elements of a slot.
 fn load_cells(
     list: &mut InsList,
-    sizes: &[u8; 12],
+    setting: &Setting<'_>,
     slot: usize,
     dst: Xmm,
-    span: Span,
 ) -> Result<(), AllocError>
-    requires moved { IsMoved (slice_index sizes.now) span.count slot }
-    requires near { span.first ≤ 64 }
-    ensures { OnOk result (list.new ≡ list.old ++ load_far_code (span.count * slice_index sizes.now slot) dst (pointer slot) (far_by span.first (slice_index sizes.now) slot)) }
+    requires moved { IsMoved (slice_index setting.now.sizes.now) setting.now.span.count slot }
+    requires near { setting.now.span.first ≤ 64 }
+    ensures { OnOk result (list.new ≡ list.old ++ load_far_code (setting.now.span.count * slice_index setting.now.sizes.now slot) dst (pointer slot) (far_by setting.now.span.first (slice_index setting.now.sizes.now) slot)) }
 {
-    let size = sizes[slot] as usize;
+    let size = setting.sizes[slot] as usize;
     push_load_far(
         list,
-        span.count * size,
+        setting.span.count * size,
         dst,
         pointer(slot),
-        span.first * size,
+        setting.span.first * size,
     )
 }
 
 /// Adds what stores elements of a slot, which for the first dest may be an aligned store.
 fn store_cells(
     list: &mut InsList,
-    sizes: &[u8; 12],
+    setting: &Setting<'_>,
     slot: usize,
     src: Xmm,
-    span: Span,
 ) -> Result<(), AllocError>
-    requires moved { IsMoved (slice_index sizes.now) span.count slot }
-    requires near { span.first ≤ 64 }
-    ensures { OnOk result (list.new ≡ list.old ++ store_either_code (aligned_first span.aligned slot) (span.count * slice_index sizes.now slot) src (pointer slot) (far_by span.first (slice_index sizes.now) slot)) }
+    requires moved { IsMoved (slice_index setting.now.sizes.now) setting.now.span.count slot }
+    requires near { setting.now.span.first ≤ 64 }
+    ensures { OnOk result (list.new ≡ list.old ++ store_either_code (aligned_first setting.now.span.aligned slot) (setting.now.span.count * slice_index setting.now.sizes.now slot) src (pointer slot) (far_by setting.now.span.first (slice_index setting.now.sizes.now) slot)) }
 {
-    let size = sizes[slot] as usize;
+    let span = setting.span;
+    let size = setting.sizes[slot] as usize;
     let far = span.first * size;
     if span.aligned && slot == 0 {
         push_aligned_store(list, src, pointer(slot), far)
@@ -126,24 +125,44 @@ fn store_slot(list: &mut InsList, src: Xmm, disp: i32) -> Result<(), AllocError>
     })
 }
 
+/// Adds what brings a pattern to a register, from the one in which it stands or from the frame.
+fn push_pattern(
+    list: &mut InsList,
+    setting: &Setting<'_>,
+    pattern: u8,
+    dst: Xmm,
+) -> Result<(), AllocError>
+    requires layout { IsLayout setting.now.layout.now }
+    requires loaded { IsLoaded setting.now.layout.now (slice_index setting.now.sizes.now) setting.now.span.count (from_pattern (seats_in setting.now.seats) pattern) }
+    ensures { OnOk result (list.new ≡ list.old ++ source_far_code setting.now.span.count (slice_index setting.now.sizes.now) (far_by setting.now.span.first (slice_index setting.now.sizes.now)) dst (from_pattern (seats_in setting.now.seats) pattern)) }
+{
+    let number = pattern_number(setting.seats.sums, pattern);
+    if is_resident(setting.seats.places, number) {
+        list.push(Ins::Vec {
+            op: VecOp::Movdqa,
+            dst,
+            src: resident_register(number),
+        })
+    } else {
+        load_slot(list, dst, pattern_at(setting.layout, usize::from(pattern)))
+    }
+}
+
 /// Adds what brings a source to a register: elements of an array, a pattern, or a value from its place, a register or a slot of the frame.
 fn push_source(
     list: &mut InsList,
-    at: &[u8],
-    sizes: &[u8; 12],
-    layout: &Layout,
+    setting: &Setting<'_>,
     item: Item,
     dst: Xmm,
-    span: Span,
 ) -> Result<(), AllocError>
-    requires layout { IsLayout layout.now }
-    requires loaded { IsLoaded layout.now (slice_index sizes.now) span.count (source_of at.now item) }
-    requires near { span.first ≤ 64 }
-    ensures { OnOk result (list.new ≡ list.old ++ source_far_code span.count (slice_index sizes.now) (far_by span.first (slice_index sizes.now)) dst (source_of at.now item)) }
+    requires layout { IsLayout setting.now.layout.now }
+    requires loaded { IsLoaded setting.now.layout.now (slice_index setting.now.sizes.now) setting.now.span.count (source_of (seats_in setting.now.seats) item) }
+    requires near { setting.now.span.first ≤ 64 }
+    ensures { OnOk result (list.new ≡ list.old ++ source_far_code setting.now.span.count (slice_index setting.now.sizes.now) (far_by setting.now.span.first (slice_index setting.now.sizes.now)) dst (source_of (seats_in setting.now.seats) item)) }
 {
     match item {
         Item::Value(value) => {
-            let place = place_of(at, value);
+            let place = place_of(setting.seats.places, value);
             if place < REGISTERS {
                 list.push(Ins::Vec {
                     op: VecOp::Movdqa,
@@ -151,84 +170,71 @@ fn push_source(
                     src: place_register(place),
                 })
             } else {
-                load_slot(list, dst, slot_of_place(layout, place))
+                load_slot(list, dst, slot_of_place(setting.layout, place))
             }
         }
-        Item::Array(slot) => load_cells(list, sizes, slot as usize, dst, span),
-        Item::Acc { slot, .. } => load_cells(list, sizes, slot as usize, dst, span),
-        Item::Pattern(number) => load_slot(list, dst, pattern_at(layout, number as usize)),
+        Item::Array(slot) => load_cells(list, setting, slot as usize, dst),
+        Item::Acc { slot, .. } => load_cells(list, setting, slot as usize, dst),
+        Item::Pattern(number) => push_pattern(list, setting, number, dst),
     }
 }
 
 /// Adds what brings a source to a register, unless it is taken over.
 fn push_brought(
     list: &mut InsList,
-    at: &[u8],
-    sizes: &[u8; 12],
-    layout: &Layout,
+    setting: &Setting<'_>,
     item: Item,
     taken: bool,
     dst: Xmm,
-    span: Span,
 ) -> Result<(), AllocError>
-    requires layout { IsLayout layout.now }
-    requires loaded { IsLoaded layout.now (slice_index sizes.now) span.count (source_of at.now item) }
-    requires near { span.first ≤ 64 }
-    ensures { OnOk result (list.new ≡ list.old ++ brought taken (source_far_code span.count (slice_index sizes.now) (far_by span.first (slice_index sizes.now)) dst (source_of at.now item))) }
+    requires layout { IsLayout setting.now.layout.now }
+    requires loaded { IsLoaded setting.now.layout.now (slice_index setting.now.sizes.now) setting.now.span.count (source_of (seats_in setting.now.seats) item) }
+    requires near { setting.now.span.first ≤ 64 }
+    ensures { OnOk result (list.new ≡ list.old ++ brought taken (source_far_code setting.now.span.count (slice_index setting.now.sizes.now) (far_by setting.now.span.first (slice_index setting.now.sizes.now)) dst (source_of (seats_in setting.now.seats) item))) }
 {
     if taken {
         Ok(())
     } else {
-        push_source(list, at, sizes, layout, item, dst, span)
+        push_source(list, setting, item, dst)
     }
 }
 
 /// Adds what brings sources to registers, but for those that are taken over.
 fn push_sources(
     list: &mut InsList,
-    at: &[u8],
-    sizes: &[u8; 12],
-    layout: &Layout,
+    setting: &Setting<'_>,
     sources: &[Item],
     takes: Takes,
     homes: &Homes,
-    span: Span,
 ) -> Result<(), AllocError>
-    requires layout { IsLayout layout.now }
-    requires loaded { Each (IsLoaded layout.now (slice_index sizes.now) span.count) (map (source_of at.now) sources.now) }
-    requires near { span.first ≤ 64 }
-    ensures { OnOk result (list.new ≡ list.old ++ sources_far_code takes.first takes.second span.count (slice_index sizes.now) (far_by span.first (slice_index sizes.now)) homes.now.first homes.now.second (map (source_of at.now) sources.now)) }
+    requires layout { IsLayout setting.now.layout.now }
+    requires loaded { Each (IsLoaded setting.now.layout.now (slice_index setting.now.sizes.now) setting.now.span.count) (map (source_of (seats_in setting.now.seats)) sources.now) }
+    requires near { setting.now.span.first ≤ 64 }
+    ensures { OnOk result (list.new ≡ list.old ++ sources_far_code takes.first takes.second setting.now.span.count (slice_index setting.now.sizes.now) (far_by setting.now.span.first (slice_index setting.now.sizes.now)) homes.now.first homes.now.second (map (source_of (seats_in setting.now.seats)) sources.now)) }
 {
     let (one, two) = (takes.first, takes.second);
     match sources {
         [] => Ok(()),
-        [first] => push_brought(list, at, sizes, layout, *first, one, homes.first, span),
+        [first] => push_brought(list, setting, *first, one, homes.first),
         [first, second, ..] => {
-            push_brought(list, at, sizes, layout, *first, one, homes.first, span)?;
-            push_brought(list, at, sizes, layout, *second, two, homes.second, span)
+            push_brought(list, setting, *first, one, homes.first)?;
+            push_brought(list, setting, *second, two, homes.second)
         }
     }
 }
 
 /// Adds what loads the running sum that the first result is, if it is one and stands in the frame.
-fn push_sum(
-    list: &mut InsList,
-    at: &[u8],
-    sizes: &[u8; 12],
-    layout: &Layout,
-    results: &[Item],
-    count: usize,
-) -> Result<(), AllocError>
-    requires layout { IsLayout layout.now }
-    requires stored { Each (IsStored layout.now (slice_index sizes.now) count) (map (target_of at.now) results.now) }
-    ensures { OnOk result (list.new ≡ list.old ++ sum_code (map (target_of at.now) results.now)) }
+fn push_sum(list: &mut InsList, setting: &Setting<'_>, results: &[Item]) -> Result<(), AllocError>
+    requires layout { IsLayout setting.now.layout.now }
+    requires stored { Each (IsStored setting.now.layout.now (slice_index setting.now.sizes.now) setting.now.span.count) (map (target_of setting.now.seats.places.now) results.now) }
+    ensures { OnOk result (list.new ≡ list.old ++ sum_code (map (target_of setting.now.seats.places.now) results.now)) }
 {
     match results {
         [Item::Acc { slot, .. }, ..] => {
-            if is_resident(at, *slot) {
+            if is_resident(setting.seats.places, u16::from(*slot)) {
                 Ok(())
             } else {
-                load_slot(list, SUM, sum_at(layout, *slot as usize))
+                load_slot(list, SUM, sum_at(setting.layout, *slot as usize))
             }
         }
         _ => Ok(()),
@@ -239,34 +245,31 @@ fn push_sum(
 /// there already.
 fn push_result(
     list: &mut InsList,
-    at: &[u8],
-    sizes: &[u8; 12],
-    layout: &Layout,
+    setting: &Setting<'_>,
     item: Item,
     src: Xmm,
-    span: Span,
 ) -> Result<(), AllocError>
-    requires layout { IsLayout layout.now }
-    requires stored { IsStored layout.now (slice_index sizes.now) span.count (target_of at.now item) }
-    requires near { span.first ≤ 64 }
-    ensures { OnOk result (list.new ≡ list.old ++ result_far_code span.count (slice_index sizes.now) (far_by span.first (slice_index sizes.now)) (aligned_first span.aligned) src (target_of at.now item)) }
+    requires layout { IsLayout setting.now.layout.now }
+    requires stored { IsStored setting.now.layout.now (slice_index setting.now.sizes.now) setting.now.span.count (target_of setting.now.seats.places.now item) }
+    requires near { setting.now.span.first ≤ 64 }
+    ensures { OnOk result (list.new ≡ list.old ++ result_far_code setting.now.span.count (slice_index setting.now.sizes.now) (far_by setting.now.span.first (slice_index setting.now.sizes.now)) (aligned_first setting.now.span.aligned) src (target_of setting.now.seats.places.now item)) }
 {
     match item {
         Item::Value(value) => {
-            let place = place_of(at, value);
+            let place = place_of(setting.seats.places, value);
             if place < REGISTERS {
                 Ok(())
             } else {
-                store_slot(list, src, slot_of_place(layout, place))
+                store_slot(list, src, slot_of_place(setting.layout, place))
             }
         }
-        Item::Array(slot) => store_cells(list, sizes, slot as usize, src, span),
-        Item::Pattern(slot) => store_cells(list, sizes, slot as usize, src, span),
+        Item::Array(slot) => store_cells(list, setting, slot as usize, src),
+        Item::Pattern(slot) => store_cells(list, setting, slot as usize, src),
         Item::Acc { slot, .. } => {
-            if is_resident(at, slot) {
+            if is_resident(setting.seats.places, u16::from(slot)) {
                 Ok(())
             } else {
-                store_slot(list, SUM, sum_at(layout, slot as usize))
+                store_slot(list, SUM, sum_at(setting.layout, slot as usize))
             }
         }
     }
@@ -275,23 +278,20 @@ fn push_result(
 /// Adds what stores results: the first from XMM0, and then a second one from XMM1.
 fn push_results(
     list: &mut InsList,
-    at: &[u8],
-    sizes: &[u8; 12],
-    layout: &Layout,
+    setting: &Setting<'_>,
     results: &[Item],
-    span: Span,
 ) -> Result<(), AllocError>
-    requires layout { IsLayout layout.now }
-    requires stored { Each (IsStored layout.now (slice_index sizes.now) span.count) (map (target_of at.now) results.now) }
-    requires near { span.first ≤ 64 }
-    ensures { OnOk result (list.new ≡ list.old ++ results_far_code span.count (slice_index sizes.now) (far_by span.first (slice_index sizes.now)) (aligned_first span.aligned) (map (target_of at.now) results.now)) }
+    requires layout { IsLayout setting.now.layout.now }
+    requires stored { Each (IsStored setting.now.layout.now (slice_index setting.now.sizes.now) setting.now.span.count) (map (target_of setting.now.seats.places.now) results.now) }
+    requires near { setting.now.span.first ≤ 64 }
+    ensures { OnOk result (list.new ≡ list.old ++ results_far_code setting.now.span.count (slice_index setting.now.sizes.now) (far_by setting.now.span.first (slice_index setting.now.sizes.now)) (aligned_first setting.now.span.aligned) (map (target_of setting.now.seats.places.now) results.now)) }
 {
     match results {
         [] => Ok(()),
-        [first] => push_result(list, at, sizes, layout, *first, FIRST, span),
+        [first] => push_result(list, setting, *first, FIRST),
         [first, second, ..] => {
-            push_result(list, at, sizes, layout, *first, FIRST, span)?;
-            push_result(list, at, sizes, layout, *second, SECOND, span)
+            push_result(list, setting, *first, FIRST)?;
+            push_result(list, setting, *second, SECOND)
         }
     }
 }
@@ -320,100 +320,81 @@ fn push_renamed(list: &mut InsList, more: &[Ins], names: &[u8; 16]) -> Result<()
 /// Adds what computes an opcode in the registers of its results, or adds its numbers of elements to a running sum.
 fn push_rule(
     list: &mut InsList,
-    at: &[u8],
+    setting: &Setting<'_>,
     op: Op,
     results: &[Item],
     homes: &Homes,
-    span: Span,
 ) -> Result<(), AllocError>
-    requires rule { HasRule span.count op }
-    requires first { homes.now.first ≡ first_register (map (target_of at.now) results.now) }
-    requires second { homes.now.second ≡ second_register (map (target_of at.now) results.now) }
-    requires sum { homes.now.sum ≡ third_register (map (target_of at.now) results.now) }
-    ensures { OnOk result (AddsRule span.target span.count op (map (target_of at.now) results.now) list.old list.new) }
+    requires rule { HasRule setting.now.span.count op }
+    requires first { homes.now.first ≡ first_register (map (target_of setting.now.seats.places.now) results.now) }
+    requires second { homes.now.second ≡ second_register (map (target_of setting.now.seats.places.now) results.now) }
+    requires sum { homes.now.sum ≡ third_register (map (target_of setting.now.seats.places.now) results.now) }
+    ensures { OnOk result (AddsRule setting.now.span.target setting.now.span.count op (map (target_of setting.now.seats.places.now) results.now) list.old list.new) }
 {
-    let rule = rule_for(op, span.target, span.count);
+    let rule = rule_for(op, setting.span.target, setting.span.count);
     push_renamed(list, rule.as_slice(), &names_of(homes))
 }
 
 /// Adds what does an instruction on elements, of whose sources some are taken over.
 fn push_action(
     list: &mut InsList,
-    at: &[u8],
-    sizes: &[u8; 12],
-    layout: &Layout,
+    setting: &Setting<'_>,
     step: &Step,
     takes: Takes,
-    span: Span,
 ) -> Result<(), AllocError>
-    requires layout { IsLayout layout.now }
-    requires ready { IsReady layout.now at.now (slice_index sizes.now) span.count step.now }
-    requires near { span.first ≤ 64 }
-    ensures { OnOk result (AddsAction at.now (slice_index sizes.now) span step.now takes.first takes.second list.old list.new) }
+    requires layout { IsLayout setting.now.layout.now }
+    requires ready { IsReady setting.now.layout.now (seats_in setting.now.seats) (slice_index setting.now.sizes.now) setting.now.span.count step.now }
+    requires near { setting.now.span.first ≤ 64 }
+    ensures { OnOk result (AddsAction (seats_in setting.now.seats) (slice_index setting.now.sizes.now) setting.now.span step.now takes.first takes.second list.old list.new) }
 {
     let results = step.results.as_slice();
-    let homes = homes_of(at, results);
-    push_sources(
-        list,
-        at,
-        sizes,
-        layout,
-        step.sources.as_slice(),
-        takes,
-        &homes,
-        span,
-    )?;
-    push_sum(list, at, sizes, layout, results, span.count)?;
-    push_rule(list, at, step.op, results, &homes, span)?;
-    push_results(list, at, sizes, layout, results, span)
+    let homes = homes_of(setting.seats.places, results);
+    push_sources(list, setting, step.sources.as_slice(), takes, &homes)?;
+    push_sum(list, setting, results)?;
+    push_rule(list, setting, step.op, results, &homes)?;
+    push_results(list, setting, results)
 }
 
 /// Adds what does an instruction and those after it on elements, under these names of the vector registers.
 fn push_named(
     alloc: Global,
     list: &mut InsList,
+    setting: &Setting<'_>,
     names: &[u8; 16],
-    at: &[u8],
-    sizes: &[u8; 12],
-    layout: &Layout,
     steps: &[Step],
-    span: Span,
 ) -> Result<(), AllocError>
     requires names { IsPermutation names.now }
-    requires layout { IsLayout layout.now }
-    requires ready { All (IsReady layout.now at.now (slice_index sizes.now) span.count) steps.now }
-    requires near { span.first ≤ 64 }
-    ensures { OnOk result (AddsNamed names.now at.now (slice_index sizes.now) span steps.now list.old list.new) }
+    requires layout { IsLayout setting.now.layout.now }
+    requires ready { All (IsReady setting.now.layout.now (seats_in setting.now.seats) (slice_index setting.now.sizes.now) setting.now.span.count) steps.now }
+    requires near { setting.now.span.first ≤ 64 }
+    ensures { OnOk result (AddsNamed names.now (seats_in setting.now.seats) (slice_index setting.now.sizes.now) setting.now.span steps.now list.old list.new) }
 {
     let [step, later @ ..] = steps else {
         return Ok(());
     };
     let sources = step.sources.as_slice();
-    let takes = takes_of(at, later, sources);
-    let homes = homes_of(at, step.results.as_slice());
-    let names = source_names(takes, &homes, at, sources, names);
+    let takes = takes_of(&setting.seats, later, sources);
+    let homes = homes_of(setting.seats.places, step.results.as_slice());
+    let names = source_names(takes, &homes, &setting.seats, sources, names);
     let mut own = InsList::new(alloc);
-    push_action(&mut own, at, sizes, layout, step, takes, span)?;
+    push_action(&mut own, setting, step, takes)?;
     push_renamed(list, own.as_slice(), &names)?;
-    push_named(alloc, list, &names, at, sizes, layout, later, span)
+    push_named(alloc, list, setting, &names, later)
 }
 
 /// Adds what does the steps on elements.
 pub fn push_actions(
     alloc: Global,
     list: &mut InsList,
-    at: &[u8],
-    sizes: &[u8; 12],
-    layout: &Layout,
+    setting: &Setting<'_>,
     steps: &[Step],
-    span: Span,
 ) -> Result<(), AllocError>
-    requires layout { IsLayout layout.now }
-    requires ready { All (IsReady layout.now at.now (slice_index sizes.now) span.count) steps.now }
-    requires near { span.first ≤ 64 }
-    ensures { OnOk result (AddsActions at.now (slice_index sizes.now) span steps.now list.old list.new) }
+    requires layout { IsLayout setting.now.layout.now }
+    requires ready { All (IsReady setting.now.layout.now (seats_in setting.now.seats) (slice_index setting.now.sizes.now) setting.now.span.count) steps.now }
+    requires near { setting.now.span.first ≤ 64 }
+    ensures { OnOk result (AddsActions (seats_in setting.now.seats) (slice_index setting.now.sizes.now) setting.now.span steps.now list.old list.new) }
 {
-    push_named(alloc, list, &own_names(), at, sizes, layout, steps, span)
+    push_named(alloc, list, setting, &own_names(), steps)
 }
 
 /// Moves the pointer of a slot on by `count` elements.

@@ -4,9 +4,10 @@
 //! source, and stands for it in all that follows in the block. So nothing is copied.
 
 ghost use Rattle.std.specs.Prelude.{◌≡◌, ◌∷◌, ℕ, map};
-ghost use Rattle.orc_region.specs.Code.{source_of, target_of, is_from, is_to, some_from, some_to, is_free, is_last, is_beside, is_first_taken, is_second_taken};
+ghost use Rattle.orc_region.specs.Code.{seats_in, source_of, target_of, is_from, is_to, some_from, some_to, is_free, is_last, is_beside, is_first_taken, is_second_taken};
 
 use crate::homes::REGISTERS;
+use crate::residents::Seats;
 use orc_plan::{Item, Step, place_of};
 
 /// Which sources of an instruction are taken over.
@@ -19,12 +20,12 @@ pub struct Takes {
 }
 
 /// Whether a source comes from a place.
-#[tactic(auto, using(crate::proofs::Block::Places::from_this))]
-fn is_from(at: &[u8], place: u8, item: Item) -> bool
-    ensures { result ≡ is_from place (source_of at.now item) }
+#[tactic(auto, using(crate::proofs::Block::Places::from_this, crate::proofs::Block::Sums::pattern_elsewhere))]
+fn is_from(seats: &Seats<'_>, place: u8, item: Item) -> bool
+    ensures { result ≡ is_from place (source_of (seats_in seats.now) item) }
 {
     match item {
-        Item::Value(value) => place_of(at, value) == place,
+        Item::Value(value) => place_of(seats.places, value) == place,
         Item::Array(_) | Item::Acc { .. } | Item::Pattern(_) => false,
     }
 }
@@ -41,13 +42,13 @@ fn is_to(at: &[u8], place: u8, item: Item) -> bool
 }
 
 /// Whether one of the sources comes from a place.
-fn some_from(at: &[u8], place: u8, sources: &[Item]) -> bool
-    ensures { result ≡ some_from place (map (source_of at.now) sources.now) }
+fn some_from(seats: &Seats<'_>, place: u8, sources: &[Item]) -> bool
+    ensures { result ≡ some_from place (map (source_of (seats_in seats.now)) sources.now) }
 {
     match sources {
         [] => false,
-        [one] => is_from(at, place, *one),
-        [one, two, ..] => is_from(at, place, *one) || is_from(at, place, *two),
+        [one] => is_from(seats, place, *one),
+        [one, two, ..] => is_from(seats, place, *one) || is_from(seats, place, *two),
     }
 }
 
@@ -63,27 +64,29 @@ fn some_to(at: &[u8], place: u8, results: &[Item]) -> bool
 }
 
 /// Whether none of these steps reads what stands at a place: before one does, one makes a value there.
-fn is_free(at: &[u8], place: u8, steps: &[Step]) -> bool
-    ensures { result ≡ is_free at.now place steps.now }
+fn is_free(seats: &Seats<'_>, place: u8, steps: &[Step]) -> bool
+    ensures { result ≡ is_free (seats_in seats.now) place steps.now }
 {
     match steps {
         [] => true,
         [step, later @ ..] => {
-            !some_from(at, place, step.sources.as_slice())
-                && (some_to(at, place, step.results.as_slice()) || is_free(at, place, later))
+            !some_from(seats, place, step.sources.as_slice())
+                && (some_to(seats.places, place, step.results.as_slice())
+                    || is_free(seats, place, later))
         }
     }
 }
 
 /// Whether no later step reads what is in a source's register.
-fn is_last(at: &[u8], later: &[Step], item: Item) -> bool
-    ensures { result ≡ is_last at.now later.now (source_of at.now item) }
+#[tactic(auto, using(crate::proofs::Block::Sums::pattern_later))]
+fn is_last(seats: &Seats<'_>, later: &[Step], item: Item) -> bool
+    ensures { result ≡ is_last (seats_in seats.now) later.now (source_of (seats_in seats.now) item) }
 {
     match item {
         Item::Value(value) => {
-            let place = place_of(at, value);
+            let place = place_of(seats.places, value);
             if place < REGISTERS {
-                is_free(at, place, later)
+                is_free(seats, place, later)
             } else {
                 false
             }
@@ -93,14 +96,15 @@ fn is_last(at: &[u8], later: &[Step], item: Item) -> bool
 }
 
 /// Whether a second source is in a first one's register.
-fn is_beside(at: &[u8], one: Item, other: Item) -> bool
-    ensures { result ≡ is_beside (source_of at.now one) (source_of at.now other) }
+#[tactic(auto, using(crate::proofs::Block::Sums::pattern_beside))]
+fn is_beside(seats: &Seats<'_>, one: Item, other: Item) -> bool
+    ensures { result ≡ is_beside (source_of (seats_in seats.now) one) (source_of (seats_in seats.now) other) }
 {
     match one {
         Item::Value(value) => {
-            let place = place_of(at, value);
+            let place = place_of(seats.places, value);
             if place < REGISTERS {
-                is_from(at, place, other)
+                is_from(seats, place, other)
             } else {
                 false
             }
@@ -110,9 +114,9 @@ fn is_beside(at: &[u8], one: Item, other: Item) -> bool
 }
 
 /// Which of the sources an instruction takes over that has these steps behind it.
-pub fn takes_of(at: &[u8], later: &[Step], sources: &[Item]) -> Takes
-    ensures first { result.first ≡ is_first_taken at.now later.now (map (source_of at.now) sources.now) }
-    ensures second { result.second ≡ is_second_taken at.now later.now (map (source_of at.now) sources.now) }
+pub fn takes_of(seats: &Seats<'_>, later: &[Step], sources: &[Item]) -> Takes
+    ensures first { result.first ≡ is_first_taken (seats_in seats.now) later.now (map (source_of (seats_in seats.now)) sources.now) }
+    ensures second { result.second ≡ is_second_taken (seats_in seats.now) later.now (map (source_of (seats_in seats.now)) sources.now) }
 {
     match sources {
         [] => Takes {
@@ -120,12 +124,12 @@ pub fn takes_of(at: &[u8], later: &[Step], sources: &[Item]) -> Takes
             second: false,
         },
         [one] => Takes {
-            first: is_last(at, later, *one),
+            first: is_last(seats, later, *one),
             second: false,
         },
         [one, two, ..] => Takes {
-            first: is_last(at, later, *one) && !is_beside(at, *one, *two),
-            second: is_last(at, later, *two) && !is_beside(at, *two, *one),
+            first: is_last(seats, later, *one) && !is_beside(seats, *one, *two),
+            second: is_last(seats, later, *two) && !is_beside(seats, *two, *one),
         },
     }
 }

@@ -7,12 +7,13 @@ ghost use Rattle.orc_plan.specs.Places.{GoodPlaces};
 ghost use Rattle.orc_frame.specs.Frame.{IsLayout};
 ghost use Rattle.x86_flow.specs.Tree.{flat_of};
 ghost use Rattle.sse_laws.specs.Targets.{IsCodeFor};
-ghost use Rattle.orc_region.specs.Code.{AreActions, IsReady, IsBlockBy, AreBlocks, IsTurnBy, IsBlock, IsTurnOf, AreWholeTurns, AreFromFirst, AreFromBoundary, IsElements, aligned_first, blocks_of, shift_of, used_from};
+ghost use Rattle.orc_region.specs.Code.{AreActions, IsReady, IsBlockBy, AreBlocks, IsTurnBy, IsBlock, IsTurnOf, AreWholeTurns, AreFromFirst, AreFromBoundary, IsElements, aligned_first, seats_with, blocks_of, shift_of, used_from};
 ghost use Rattle.orc_region.specs.Elements.{AreOf, DoesElements, DoesRow};
 
 use crate::lists::{COUNTER, push_actions, push_advances};
 use crate::loops::{aligned_loops, plain_loops, tested_loops, whole_loops, wide_loops};
-use crate::span::Span;
+use crate::residents::seats_by;
+use crate::span::{Setting, Span};
 use orc_frame::Layout;
 use orc_ops::Target;
 use orc_plan::{Core, Placed};
@@ -50,20 +51,18 @@ fn block_list(
     span: Span,
 ) -> Result<InsList, AllocError>
     requires layout { IsLayout layout.now }
-    requires ready { All (IsReady layout.now places.now (slice_index core.now.sizes) span.count) core.now.steps }
+    requires ready { All (IsReady layout.now (seats_with layout.now places.now) (slice_index core.now.sizes) span.count) core.now.steps }
     requires near { span.first ≤ 64 }
-    ensures { IfOk result (IsBlockBy places.now core.now.sizes core.now.steps span) }
+    ensures { IfOk result (IsBlockBy (seats_with layout.now places.now) core.now.sizes core.now.steps span) }
 {
-    let mut list = InsList::new(alloc);
-    push_actions(
-        alloc,
-        &mut list,
-        places,
-        &core.sizes,
+    let setting = Setting {
+        seats: seats_by(places, layout),
+        sizes: &core.sizes,
         layout,
-        core.steps.as_slice(),
         span,
-    )?;
+    };
+    let mut list = InsList::new(alloc);
+    push_actions(alloc, &mut list, &setting, core.steps.as_slice())?;
     Ok(list)
 }
 
@@ -77,26 +76,23 @@ fn blocks_list(
     blocks: usize,
 ) -> Result<InsList, AllocError>
     requires layout { IsLayout layout.now }
-    requires ready { All (IsReady layout.now places.now (slice_index core.now.sizes) span.count) core.now.steps }
+    requires ready { All (IsReady layout.now (seats_with layout.now places.now) (slice_index core.now.sizes) span.count) core.now.steps }
     requires count { span.count ≤ 16 }
     requires blocks { blocks ≤ 4 }
-    ensures { IfOk result (AreBlocks (AreActions span.target places.now span.count core.now.steps) span.count (slice_index core.now.sizes) (aligned_first span.aligned) blocks) }
+    ensures { IfOk result (AreBlocks (AreActions span.target (seats_with layout.now places.now) span.count core.now.steps) span.count (slice_index core.now.sizes) (aligned_first span.aligned) blocks) }
 {
     let mut list = InsList::new(alloc);
     for k in 0..blocks {
-        let block = Span {
-            first: k * span.count,
-            ..span
-        };
-        push_actions(
-            alloc,
-            &mut list,
-            places,
-            &core.sizes,
+        let setting = Setting {
+            seats: seats_by(places, layout),
+            sizes: &core.sizes,
             layout,
-            core.steps.as_slice(),
-            block,
-        )?;
+            span: Span {
+                first: k * span.count,
+                ..span
+            },
+        };
+        push_actions(alloc, &mut list, &setting, core.steps.as_slice())?;
     }
     Ok(list)
 }
@@ -111,10 +107,10 @@ fn turn_list(
     blocks: usize,
 ) -> Result<InsList, AllocError>
     requires layout { IsLayout layout.now }
-    requires ready { All (IsReady layout.now places.now (slice_index core.now.sizes) span.count) core.now.steps }
+    requires ready { All (IsReady layout.now (seats_with layout.now places.now) (slice_index core.now.sizes) span.count) core.now.steps }
     requires count { span.count ≤ 16 }
     requires blocks { blocks ≤ 4 }
-    ensures { IfOk result (IsTurnBy places.now core.now.sizes core.now.steps (used_from (slice_index core.now.sizes) 0 4) (used_from (slice_index core.now.sizes) 4 8) span blocks) }
+    ensures { IfOk result (IsTurnBy (seats_with layout.now places.now) core.now.sizes core.now.steps (used_from (slice_index core.now.sizes) 0 4) (used_from (slice_index core.now.sizes) 4 8) span blocks) }
 {
     let sizes = &core.sizes;
     let by = blocks * span.count;

@@ -29,11 +29,12 @@ use Rattle.orc_frame.specs.Parts.{InFrame, InChanged, InBlock, InReturn, InSums,
 use Rattle.orc_frame.specs.GoodCall.{GoodCall}
 use Rattle.orc_frame.specs.Function.{IsCellByte, subject_of}
 use Rattle.orc_program.specs.Need.{turns}
-use Rattle.orc_region.specs.Code.{Turns, pointer, elements_of, sum_register, sum_loads_code, sum_stores_code}
+use Rattle.orc_region.specs.Code.{Turns, pointer, elements_of, last_place, resident_register, resident_loads_code, sum_stores_code}
 use Rattle.orc_region.specs.Elements.{HasCome, Holds, PointsAt, InElements, InWords, IsDest, IsQuiet}
 use Rattle.orc_region.proofs.Block.Cells.{Numbers}
 use Rattle.orc_region.proofs.Block.Frames.{Framed, framed_below, no_sum, IsFrame}
 use Rattle.orc_region.proofs.Block.Elements.{Agrees}
+use Rattle.orc_region.proofs.Block.Sums.{IsResident}
 use Rattle.orc_region.proofs.Sizes.Steps.{regions_of}
 use Rattle.orc_region.proofs.Checked.Direct.{pattern_of}
 use Rattle.orc_region.proofs.Checked.Knows.{width_of}
@@ -47,7 +48,7 @@ use Rattle.orc_region.proofs.Calls.Doing.{OnWay}
 use Rattle.orc_region.proofs.Calls.Blocks.{arrays_known}
 use Rattle.orc_region.proofs.Calls.Rows.{most_besides, most_turn, Wanted, row_does}
 use Rattle.orc_region.proofs.Block.Keeping.{line_bounded, ins_of}
-use Rattle.orc_region.proofs.Calls.Sums.{Stored, fine_loads, loads_line, stores_line}
+use Rattle.orc_region.proofs.Calls.Residents.{Stored, fine_loads, loads_line, stores_line}
 use Rattle.x86_flow.proofs.Moves.{line_append}
 use Rattle.orc_asm.proofs.Row.Emulated.{end_with, sum_of_end}
 use Rattle.orc_asm.proofs.Row.Lines.{InRows}
@@ -120,7 +121,7 @@ module _ {target : Target} (f : FunctionValue) (is : is_function f ≡ true) (at
       record {
         saved_words = words_stay c d (λ x l u n. below x l u) h.saved_words;
         totals = h.totals;
-        framed = framed_below numbers lowered is_framed c d h.totals (λ x l u. below x l (omega (arith, u))) (λ x i m. subst (λ o. is_some o ≡ true) (sym (same x (λ t. omega (arith, t.1, i.0)))) m) (λ g l. ap (λ v. v (sum_register g)) xmm) h.framed;
+        framed = framed_below numbers lowered is_framed c d h.totals (λ x l u. below x l (omega (arith, u))) (λ x i m. subst (λ o. is_some o ≡ true) (sym (same x (λ t. omega (arith, t.1, i.0)))) m) (λ g l. ap (λ v. v (resident_register g)) xmm) h.framed;
         agrees = h.agrees;
       }
 
@@ -186,6 +187,20 @@ module _ {target : Target} (f : FunctionValue) (is : is_function f ≡ true) (at
   few_sums : count ≤ 4
   few_sums = omega (arith, sums_count f, known.few.accs)
 
+  -- and the patterns, some of which registers have
+
+  abbrev patterns : ℕ
+  patterns = length (layout_of f).patterns.items
+
+  patterns_same : patterns ≡ numbers.patterns
+  patterns_same = ap length (patterns_are f)
+
+  few_patterns : patterns ≤ 48
+  few_patterns = omega (arith, patterns_same, is_framed.few_patterns)
+
+  abbrev byte : ℕ → ℕ → ℕ
+  byte j b = pattern_byte (pattern_of f j).way (numbers.number j) b
+
   frame_room : lowered + frame_size ≤ 2 ^ 47
   frame_room = (let a = stack_room in omega (arith, a))
 
@@ -198,7 +213,7 @@ module _ {target : Target} (f : FunctionValue) (is : is_function f ≡ true) (at
 
   module _ (first : List Ins) (prepares : Prepares (layout_of f) first) where
     abbrev loads : List Ins
-    loads = sum_loads_code at count
+    loads = resident_loads_code at count patterns
 
     begins : (d : Core) × Line Q (first ++ loads) s.core d × Steady f known code s args back good Kept (start s.core.memory) d
     begins =
@@ -208,7 +223,9 @@ module _ {target : Target} (f : FunctionValue) (is : is_function f ≡ true) (at
         let stack : c.gpr 4 ≡ lowered = (let w = h.stack in omega (arith, w, frame_low)) in
         let outside : (a : ℕ) → (Frame a → ⊥) → c.memory a ≡ s.core.memory a = λ a nf. h.outside a (λ w. nf (omega (arith, w.0, stack), omega (arith, w.1, stack))) in
         let zero_sums : (g : ℕ) → g < count → (b : ℕ) → b < 16 → c.memory (lowered + sum_slot g + b) ≡ Some 0 = λ g l b lb. ap (λ a. c.memory (a + sum_slot g + b)) (sym stack) ∙ h.sums g l b lb in
-        let y = loads_line at Q lowered frame_room (λ g b. 0) c stack (λ u i gs ms t. frame_step c u i stack (λ a nc nf. outside a nf) gs (λ a nf. ap (λ m. m a) ms) t) count few_sums zero_sums in
+        let there = first_patterns c stack h in
+        let filled : (j : ℕ) → j < patterns → (b : ℕ) → b < 16 → c.memory (lowered + pattern_slot j + b) ≡ Some (byte j b) = λ j l b lb. there j (omega (arith, l, patterns_same)) b lb in
+        let y = loads_line at Q lowered frame_room c stack (λ u i gs ms t. frame_step c u i stack (λ a nc nf. outside a nf) gs (λ a nf. ap (λ m. m a) ms) t) count (λ g b. 0) few_sums zero_sums patterns byte few_patterns filled in
         let d = y.0 in
         let w = y.2 in
         let gpr : (r : ℕ) → d.gpr r ≡ c.gpr r = λ r. ap (λ g. g r) w.gpr in
@@ -222,15 +239,19 @@ module _ {target : Target} (f : FunctionValue) (is : is_function f ≡ true) (at
             agree = λ a nf. memory a ∙ outside a nf;
             mapped = λ a w. mapped f known code s args back good a w;
             frame = λ a w. is_mapped c.memory d.memory a (sym (memory a)) (h.frame a (omega (arith, w.0, stack), omega (arith, w.1, stack)));
-            bounded = line_bounded Q loads c d (ins_of loads (fine_loads at count few_sums)) y.1 h.bounded;
+            bounded = line_bounded Q loads c d (ins_of loads (fine_loads at count patterns few_sums few_patterns)) y.1 h.bounded;
             kept = record {
               saved_words = λ j l. ap (λ m. word m (lowered + saved_slot j)) w.memory ∙ ap (λ a. word c.memory (a + saved_slot j)) (sym stack) ∙ h.saved j l;
               totals = λ g. 0;
               framed = record {
-                patterns = λ j l b lb. memory (lowered + pattern_slot j + b) ∙ first_patterns c stack h j l b lb;
+                patterns = λ j l b lb. memory (lowered + pattern_slot j + b) ∙ there j l b lb;
+                residents = λ j l r b lb.
+                    let same = sums_count f in
+                    let stands : IsResident (last_place at) (count + j) = subst (λ n. IsResident (last_place at) (n + j)) (sym same) r in
+                    ap (λ n. get_or (d.xmm (resident_register (n + j))) b 0) (sym same) ∙ w.in_patterns j (omega (arith, l, patterns_same)) stands b lb;
                 running = λ g. [];
                 bytes = λ g r. lit< tt;
-                sums = λ g l b lb. w.sums g (omega (arith, l, sums_count f)) b lb;
+                sums = λ g l b lb. w.in_sums g (omega (arith, l, sums_count f)) b lb;
                 totals_are = λ g l. ap (cut (8 * width_of f g)) (no_lanes (width_of f g));
                 spilled = λ x i. is_mapped c.memory d.memory x (sym (memory x)) (h.frame x ((let l = i.0 in omega (arith, l, stack)), (let u = i.1 in omega (arith, u, stack))));
               };
@@ -393,7 +414,7 @@ module _ {target : Target} (f : FunctionValue) (is : is_function f ≡ true) (at
         )
 
   pub parts : (first last : List Ins) → Prepares (layout_of f) first → Finishes (layout_of f) last
-      → Parts f known code s args back good Fair (first ++ sum_loads_code at count) (elements_of f single wide aligned large) (sum_stores_code at count ++ last) (regions_of (most_besides f) (turns f args.n) (most_turn f target)) (turns f args.n * (subject_of f).operands)
+      → Parts f known code s args back good Fair (first ++ resident_loads_code at count patterns) (elements_of f single wide aligned large) (sum_stores_code at count ++ last) (regions_of (most_besides f) (turns f args.n) (most_turn f target)) (turns f args.n * (subject_of f).operands)
   parts first last prepares finishes = record {
     Kept = Kept;
     kept_on = kept_on;

@@ -15,7 +15,7 @@ use Rattle.x86_flow.specs.Tree.{flat_of}
 use Rattle.x86_flow.specs.Touching.{AreOwn, touch_weight}
 use Rattle.x86_flow.proofs.Plans.{weigh}
 use Rattle.x86_flow.proofs.Shapes.{size_both}
-use Rattle.x86_flow.proofs.Spelled.{each_both, all_allowed, size_within}
+use Rattle.x86_flow.proofs.Spelled.{IsFine, each_both, all_allowed, size_within}
 use Rattle.orc_frame.specs.declared.frame.Layout.{Layout}
 use Rattle.orc_frame.specs.Layout.{layout_of}
 use Rattle.orc_frame.specs.Frame.{Prepares, Finishes}
@@ -27,14 +27,14 @@ use Rattle.orc_frame.specs.Subject.{rows as rows_of}
 use Rattle.orc_asm.specs.RunsAs.{quiet, fully}
 use Rattle.orc_asm.specs.RunsAs.{wide as wide_promise}
 use Rattle.orc_asm.specs.Function.{RunsFully}
-use Rattle.orc_region.specs.Code.{Turns, IsElements, elements_of, sum_loads_code, sum_stores_code}
+use Rattle.orc_region.specs.Code.{Turns, IsElements, elements_of, resident_loads_code, sum_stores_code}
 use Rattle.orc_asm.specs.Rows.{rows_flow, whole_flow}
 use Rattle.orc_region.proofs.Checked.Layouts.{patterns_are, sizes_are}
 use Rattle.orc_region.proofs.Checked.Slots.{Limits, limits}
 use Rattle.orc_region.proofs.Sizes.Loops.{Fits}
 use Rattle.orc_region.proofs.Built.Turns.{fits_elements}
 use Rattle.orc_program.specs.Need.{steps}
-use Rattle.orc_region.proofs.Calls.Sums.{fine_loads, fine_stores, loads_few, stores_few, loads_own, stores_own}
+use Rattle.orc_region.proofs.Calls.Residents.{fine_loads, fine_stores, loads_few, stores_few, loads_own, stores_own}
 use Rattle.orc_region.proofs.Sizes.Steps.{regions_of}
 use Rattle.orc_asm.proofs.Row.Counts.{rows_bytes, rows_allowed}
 use Rattle.orc_asm.proofs.Row.Path.{own_free, Parts}
@@ -95,9 +95,13 @@ module _ {target : Target} (f : FunctionValue) (h : is_function f ≡ true) (l :
   abbrev sums : ℕ
   sums = length l.acc_sizes.items
 
-  -- the frame's lists, and the moves of running sums to registers and back
+  -- the residents go to their registers
+  abbrev loads : List Ins
+  loads = resident_loads_code at sums (length l.patterns.items)
+
+  -- the frame's lists, and the moves of residents to registers and of running sums back
   abbrev front : List Ins
-  front = first ++ sum_loads_code at sums
+  front = first ++ loads
 
   abbrev behind : List Ins
   behind = sum_stores_code at sums ++ last
@@ -108,14 +112,20 @@ module _ {target : Target} (f : FunctionValue) (h : is_function f ≡ true) (l :
   few_sums : sums ≤ 4
   few_sums = fact.few_sums
 
+  fine_front : Each IsFine loads
+  fine_front = fine_loads at sums (length l.patterns.items) few_sums fact.few_patterns
+
+  few_front : length loads ≤ sums + 9
+  few_front = loads_few at sums (length l.patterns.items)
+
   front_allowed : Each IsAllowed front
-  front_allowed = each_both IsAllowed first (sum_loads_code at sums) x.first_allowed (all_allowed (sum_loads_code at sums) (fine_loads at sums few_sums))
+  front_allowed = each_both IsAllowed first loads x.first_allowed (all_allowed loads fine_front)
 
   behind_allowed : Each IsAllowed behind
   behind_allowed = each_both IsAllowed (sum_stores_code at sums) last (all_allowed (sum_stores_code at sums) (fine_stores at sums few_sums)) x.last_allowed
 
   front_own : AreOwn front
-  front_own by stack block = each_both (λ i. touch_weight by i ≡ 0) first (sum_loads_code at sums) (x.first_own by stack block) (loads_own at sums by stack block)
+  front_own by stack block = each_both (λ i. touch_weight by i ≡ 0) first loads (x.first_own by stack block) (loads_own at sums (length l.patterns.items) by stack block)
 
   behind_own : AreOwn behind
   behind_own by stack block = each_both (λ i. touch_weight by i ≡ 0) (sum_stores_code at sums) last (stores_own at sums by stack block) (x.last_own by stack block)
@@ -140,20 +150,20 @@ module _ {target : Target} (f : FunctionValue) (h : is_function f ≡ true) (l :
       let all = size_both (front ++ (rows ++ behind)) (Ret ∷ []) in
       let begins = size_both front (rows ++ behind) in
       let back = size_both rows behind in
-      let loads = size_both first (sum_loads_code at sums) in
+      let starts = size_both first loads in
       let stores = size_both (sum_stores_code at sums) last in
-      let few_loads = size_within (sum_loads_code at sums) (fine_loads at sums few_sums) in
+      let few_loads = size_within loads fine_front in
       let few_stores = size_within (sum_stores_code at sums) (fine_stores at sums few_sums) in
       let middle = rows_bytes dests sources few.dests few.sources elements f.two_d in
       let b = fits.bytes in
-      (omega (arith, all, ret_bytes), omega (arith, all, ret_bytes, begins, back, loads, stores, few_loads, few_stores, loads_few at sums, stores_few at sums, middle, b, x.first_bytes, x.first_short, x.last_bytes, x.last_short, fact.few_patterns, fact.few_sums))
+      (omega (arith, all, ret_bytes), omega (arith, all, ret_bytes, begins, back, starts, stores, few_loads, few_stores, few_front, stores_few at sums, middle, b, x.first_bytes, x.first_short, x.last_bytes, x.last_short, fact.few_patterns, fact.few_sums))
 
   short : AreShort f target front behind (most_turn f target) (most_besides f)
   short =
       let patterns : length l.patterns.items ≡ length (patterns_of f.vars f.insns) = ap (λ (y : Layout). length y.patterns.items) x.layout ∙ ap length (patterns_are f) in
       let accumulators : length l.acc_sizes.items ≡ count_of kind.Accumulator f.vars = ap (λ (y : Layout). length y.acc_sizes.items) x.layout ∙ ap length (sizes_are f) ∙ length-acc_sizes_of f in
       record {
-        lists = omega (arith, length-append first (sum_loads_code at sums), length-append (sum_stores_code at sums) last, loads_few at sums, stores_few at sums, few_sums, x.first_short, x.last_short, patterns, accumulators);
+        lists = omega (arith, length-append first loads, length-append (sum_stores_code at sums) last, few_front, stores_few at sums, few_sums, x.first_short, x.last_short, patterns, accumulators);
         turn_few = omega arith;
         besides_few = omega arith;
       }
@@ -170,7 +180,7 @@ module _ {target : Target} (f : FunctionValue) (h : is_function f ≡ true) (l :
       let subject = subject_of f in
       lift subject (steps f target) (fully subject) (both_lift (quiet subject) (wide_promise subject) (quiet_lifts subject) (wide_lifts subject)) (spell_all (with_return flow))
       (runs_with f known front elements behind (most_turn f target) (most_besides f) some short (λ s args. WideAt subject args) (λ code s args back good. own_wide f known code s args back good)
-      (λ code s args back good. subst (λ y. Parts f known code s args back good (WideAt (subject_of f) args) (first ++ sum_loads_code at (length y.acc_sizes.items)) elements (sum_stores_code at (length y.acc_sizes.items) ++ last) (regions_of (most_besides f) ((subject_of f).turns args.n) (most_turn f target)) ((subject_of f).turns args.n * some)) (sym x.layout)
+      (λ code s args back good. subst (λ y. Parts f known code s args back good (WideAt (subject_of f) args) (first ++ resident_loads_code at (length y.acc_sizes.items) (length y.patterns.items)) elements (sum_stores_code at (length y.acc_sizes.items) ++ last) (regions_of (most_besides f) ((subject_of f).turns args.n) (most_turn f target)) ((subject_of f).turns args.n * some)) (sym x.layout)
       (parts f h at single wide aligned large turns code s args back good first last (subst (λ y. Prepares y first) x.layout x.prepares) (subst (λ y. Finishes y last) x.layout x.finishes)))
       (fully subject)
       (λ s args way t q each counted. (q, wide_way subject s args way t each (λ R sees. subst (λ k. AtMost k R way) (bound args) (counted R sees))))
@@ -180,10 +190,10 @@ module _ {target : Target} (f : FunctionValue) (h : is_function f ≡ true) (l :
       bound args = ap₂ (λ a b. a + rows_of (subject_of f) args * ((subject_of f).turns args.n * some) + b) first_free last_free
 
 -- as the bytes are built from the lists around the rows and the tree that does their elements
-pub whole_runs : (target : Target) (f : FunctionValue) → is_function f ≡ true → (l : Layout) (first last : List Ins) → Lists f l first last → (at : List ℕ) (tree : Tree) → IsElements f target at tree → (begins ends : List Ins) → begins ≡ first ++ sum_loads_code at (length l.acc_sizes.items) → ends ≡ sum_stores_code at (length l.acc_sizes.items) ++ last → (bytes : List ℕ) (two_d : Bool) (d s : ℕ) → two_d ≡ f.two_d → d ≡ count_of kind.Dest f.vars → s ≡ count_of kind.Source f.vars
+pub whole_runs : (target : Target) (f : FunctionValue) → is_function f ≡ true → (l : Layout) (first last : List Ins) → Lists f l first last → (at : List ℕ) (tree : Tree) → IsElements f target at tree → (begins ends : List Ins) → begins ≡ first ++ resident_loads_code at (length l.acc_sizes.items) (length l.patterns.items) → ends ≡ sum_stores_code at (length l.acc_sizes.items) ++ last → (bytes : List ℕ) (two_d : Bool) (d s : ℕ) → two_d ≡ f.two_d → d ≡ count_of kind.Dest f.vars → s ≡ count_of kind.Source f.vars
     → bytes ≡ spell_all (with_return (whole_flow begins (Plain (flat_of tree)) ends two_d d s)) → RunsFully f target bytes × HasCodeLength bytes
 whole_runs target f h l first last x at tree (single, wide, aligned, large, turns, t) begins ends p q bytes two_d d s a b c e =
-    let loads = first ++ sum_loads_code at (length l.acc_sizes.items) in
+    let loads = first ++ resident_loads_code at (length l.acc_sizes.items) (length l.patterns.items) in
     let stores = sum_stores_code at (length l.acc_sizes.items) ++ last in
     let is : bytes ≡ spell_all (with_return (flow f h l first last x at single wide aligned large turns)) =
     e ∙ ap₂ (λ y z. spell_all (with_return (whole_flow y (Plain (flat_of tree)) z two_d d s))) p q
@@ -205,10 +215,11 @@ module _ (f : FunctionValue) (h : is_function f ≡ true) (l : Layout) (layout :
   abbrev sums_of : ℕ
   sums_of = length l.acc_sizes.items
 
-  pub front_spelled : (first list : List Ins) → Each IsAllowed first → list ≡ first ++ sum_loads_code at sums_of → AllSpelled list
+  pub front_spelled : (first list : List Ins) → Each IsAllowed first → list ≡ first ++ resident_loads_code at sums_of (length l.patterns.items) → AllSpelled list
   front_spelled first list fine e =
-      let loads = sum_loads_code at sums_of in
-      subst AllSpelled (sym e) (allowed_spelled (first ++ loads) (each_both IsAllowed first loads fine (all_allowed loads (fine_loads at sums_of (facts l (f, h, layout)).few_sums))))
+      let known = facts l (f, h, layout) in
+      let starts = resident_loads_code at sums_of (length l.patterns.items) in
+      subst AllSpelled (sym e) (allowed_spelled (first ++ starts) (each_both IsAllowed first starts fine (all_allowed starts (fine_loads at sums_of (length l.patterns.items) known.few_sums known.few_patterns))))
 
   pub behind_spelled : (last list : List Ins) → Each IsAllowed last → list ≡ sum_stores_code at sums_of ++ last → AllSpelled list
   behind_spelled last list fine e =

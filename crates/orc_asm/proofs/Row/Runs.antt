@@ -61,7 +61,7 @@ one_or false m = refl
 
 -- what the lists, and a turn, may have
 pub record AreShort (f : FunctionValue) (target : Target) (first last : List Ins) (turn besides : ℕ) : Type 0 where
-  pub lists : length first + length last ≤ 23 + 8 * length (patterns_of f.vars f.insns) + 16 * count_of kind.Accumulator f.vars
+  pub lists : length first + length last ≤ 32 + 8 * length (patterns_of f.vars f.insns) + 16 * count_of kind.Accumulator f.vars
   pub turn_few : turn ≤ cost_for f target + (count_of kind.Dest f.vars + count_of kind.Source f.vars) + 4
   -- what a row's elements take besides their turns
   pub besides_few : besides ≤ 17 + 3 * (count_of kind.Dest f.vars + count_of kind.Source f.vars)

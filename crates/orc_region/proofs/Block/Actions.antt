@@ -34,9 +34,9 @@ use Rattle.orc_program.specs.Meaning.{sub_lane, pack}
 use Rattle.orc_frame.specs.Layout.{pattern_slot, sum_slot, frame_size, spill_slot}
 use Rattle.orc_program.specs.Need.{registers}
 use Rattle.orc_frame.specs.Parts.{InChanged}
-use Rattle.orc_region.specs.Code.{Action, IsRule, Source, FromArray, FromPattern, FromPlace, FromSlot, Target, ToArray, ToSum, ToResident, ToPlace, ToSlot, pointer, place_register, sum_register, slot_place, made_in, first_register, second_register, third_register, sum_home, rule_register, rule_code, source_far_code, brought, sources_far_code, sum_code, result_far_code, results_far_code, action_code, action_far_code}
+use Rattle.orc_region.specs.Code.{Action, IsRule, Source, FromArray, FromPattern, FromResident, FromPlace, FromSlot, Target, ToArray, ToSum, ToResident, ToPlace, ToSlot, pointer, place_register, resident_register, slot_place, made_in, first_register, second_register, third_register, sum_home, rule_register, rule_code, source_far_code, brought, sources_far_code, sum_code, result_far_code, results_far_code, action_code, action_far_code}
 use Rattle.orc_region.specs.Elements.{sum_byte}
-use Rattle.orc_region.proofs.Block.RuleRegisters.{register_0, register_1, register_one, register_place, adds_renamed, resident_register, resident_0, resident_1, resident_2, resident_grown, resident_kept, seen}
+use Rattle.orc_region.proofs.Block.RuleRegisters.{register_0, register_1, register_one, register_place, adds_renamed, adding_register, resident_0, resident_1, resident_2, resident_grown, resident_kept, seen}
 use Rattle.orc_region.proofs.Block.Sums.{IsResident, IsFramed, SameSums, byte_register, byte_slot, byte_same, SourceWithin, TargetWithin, IsClear, clear_of}
 use Rattle.orc_region.proofs.Block.Registers.{not_0}
 use Rattle.orc_region.proofs.Arithmetic.Digits.{digit, digit_small, byte_split, byte_within, byte_further}
@@ -51,6 +51,7 @@ use Rattle.orc_region.proofs.Block.Frames.{IsFrame, Framed, framed_same, framed_
 abbrev pub IsMovedFrom : ℕ → (ℕ → ℕ) → Source → Type 0
 IsMovedFrom count size (FromArray k) = IsWidth (count * size k)
 IsMovedFrom count size (FromPattern j) = Unit {0}
+IsMovedFrom count size (FromResident j g) = Unit {0}
 IsMovedFrom count size (FromPlace p) = Unit {0}
 IsMovedFrom count size (FromSlot k) = Unit {0}
 
@@ -227,6 +228,7 @@ module _ (n : ℕ) (base size : ℕ → ℕ) (P : ℕ → Type 0) (numbers : Num
   abbrev pub InRegister : ℕ → ℕ → (ℕ → Local) → Source → List ℕ → Type 0
   InRegister w prefix sig (FromArray k) x = (q : ℕ) → q < count → (p : ℕ) → p < prefix → lane w (q * prefix + p) x ≡ sub_lane (8 * w) ((sig q).cells k) p
   InRegister w prefix sig (FromPattern j) x = (b : ℕ) → b < 16 → get_or x b 0 ≡ digit (numbers.number j) (b % numbers.period j)
+  InRegister w prefix sig (FromResident j g) x = (b : ℕ) → b < 16 → get_or x b 0 ≡ digit (numbers.number j) (b % numbers.period j)
   InRegister w prefix sig (FromPlace k) x = (q : ℕ) → q < count → (p : ℕ) → p < prefix → lane w (q * prefix + p) x ≡ sub_lane (8 * w) ((sig q).values k) p
   InRegister w prefix sig (FromSlot k) x = (q : ℕ) → q < count → (p : ℕ) → p < prefix → lane w (q * prefix + p) x ≡ sub_lane (8 * w) ((sig q).values (slot_place k)) p
 
@@ -234,12 +236,14 @@ module _ (n : ℕ) (base size : ℕ → ℕ) (P : ℕ → Type 0) (numbers : Num
   abbrev pub IsThere : (ℕ → ℕ) → (ℕ → Local) → Core → Source → Type 0
   IsThere live sig c (FromArray k) = Unit {0}
   IsThere live sig c (FromPattern j) = Unit {0}
+  IsThere live sig c (FromResident j g) = Unit {0}
   IsThere live sig c (FromPlace p) = StandsAt live sig c p
   IsThere live sig c (FromSlot k) = StandsAt live sig c (slot_place k)
 
   pub is_there : (live : ℕ → ℕ) (sig : ℕ → Local) (c : Core) (s : Source) → SourceWithin numbers.last s → Standing live sig c → IsThere live sig c s
   is_there live sig c (FromArray k) l stand = tt
   is_there live sig c (FromPattern j) l stand = tt
+  is_there live sig c (FromResident j g) l stand = tt
   is_there live sig c (FromPlace p) l stand = stand p l
   is_there live sig c (FromSlot k) l stand = stand (slot_place k) l
 
@@ -247,6 +251,7 @@ module _ (n : ℕ) (base size : ℕ → ℕ) (P : ℕ → Type 0) (numbers : Num
   abbrev pub HasRoom : ℕ → ℕ → Source → Type 0
   HasRoom w prefix (FromArray k) = Unit {0}
   HasRoom w prefix (FromPattern j) = Unit {0}
+  HasRoom w prefix (FromResident j g) = Unit {0}
   HasRoom w prefix (FromPlace p) = count * (w * prefix) ≤ 16
   HasRoom w prefix (FromSlot k) = count * (w * prefix) ≤ 16
 
@@ -254,6 +259,7 @@ module _ (n : ℕ) (base size : ℕ → ℕ) (P : ℕ → Type 0) (numbers : Num
   there_still : (live : ℕ → ℕ) (sig : ℕ → Local) (c d : Core) (s : Source) (ts : List Target) → IsKept n base size P numbers ts s → d.memory ≡ c.memory → ((z : ℕ) → z ≢ first_register ts → d.xmm z ≡ c.xmm z) → IsThere live sig c s → IsThere live sig d s
   there_still live sig c d (FromArray k) ts kept memory same h = tt
   there_still live sig c d (FromPattern j) ts kept memory same h = tt
+  there_still live sig c d (FromResident j g) ts kept memory same h = tt
   there_still live sig c d (FromPlace p) ts kept memory same h =
       still live sig c d p (λ b lb. held_same rsp c d p b (same (place_register p) (λ z. kept.0 (sym z))) (ap (λ f. f (rsp + spill_slot (p - registers) + b)) memory)) h
   there_still live sig c d (FromSlot k) ts kept memory same h =
@@ -286,6 +292,21 @@ module _ (n : ℕ) (base size : ℕ → ℕ) (P : ℕ → Type 0) (numbers : Num
         l.0,
         (stays c _ refl (λ r ne. refl), (l.0, l.1, refl)),
         record { memory = l.2.memory; gpr = λ r ne. ap (λ f. f r) l.2.gpr; others = l.2.others; lanes = λ bytes. l.2.bytes },
+      )
+  load_source i (FromResident j g) w prefix x c live sig totals o wide fits at stack h framed there room bound stays =
+      let y = resident_register g in
+      let new = result_of (shape Movdqa) (c.xmm x) (c.xmm y) in
+      let d : Core = with_lanes c (change c.xmm x new) in
+      let byte : (b : ℕ) → b < 16 → get_or (c.xmm y) b 0 ≡ digit (numbers.number j) (b % numbers.period j) = λ b lb.
+      ap (λ k. get_or (c.xmm (resident_register k)) b 0) o.2 ∙ framed.residents j o.0 (subst (IsResident numbers.last) o.2 o.3) b lb in (
+        d,
+        (stays c _ refl (λ r ne. refl), (d, refl, refl)),
+        record {
+          memory = refl;
+          gpr = λ r ne. refl;
+          others = λ z ne. change_other c.xmm x new z ne;
+          lanes = λ bytes b lb. ap (λ v. get_or v b 0) (change_same c.xmm x new) ∙ copied_byte (c.xmm x) (c.xmm y) (bound.xmm y) b lb ∙ byte b lb;
+        },
       )
   load_source i (FromPlace p) w prefix x c live sig totals o wide fits at stack h framed there room bound stays =
       let y = place_register p in
@@ -345,26 +366,19 @@ module _ (n : ℕ) (base size : ℕ → ℕ) (P : ℕ → Type 0) (numbers : Num
   bring_source true i s w prefix x c live sig totals o wide fits at stack h framed there room bound stays = (c, refl, record { memory = refl; gpr = λ r ne. refl; others = λ y ne. refl; lanes = λ bytes. there })
   bring_source false i s w prefix x c live sig totals o wide fits at stack h framed there room bound stays = load_source i s w prefix x c live sig totals o wide fits at stack h framed there room bound stays
 
-  -- the first source of a lane
-  first_value : (op : Op) (prefix : ℕ) (s : Source) (live : ℕ → ℕ) (sig : ℕ → Local) (x : List ℕ) → IsFrom n base size P numbers live (size_of_source op 0) prefix s → InRegister (size_of_source op 0) prefix sig s x
-      → (q : ℕ) → q < count → (p : ℕ) → p < prefix → (q * prefix + p) * widest op + widest op ≤ 16 → (b : ℕ) → formula op (lane (size_of_source op 0) (q * prefix + p) x) b ≡ formula op (given_by numbers.number (size_of_source op 0) (sig q) s p) b
-  first_value op prefix (FromArray k) live sig x o h q l p lp fits b = ap (λ v. formula op v b) (h q l p lp)
-  first_value op prefix (FromPlace k) live sig x o h q l p lp fits b = ap (λ v. formula op v b) (h q l p lp)
-  first_value op prefix (FromSlot k) live sig x o h q l p lp fits b = ap (λ v. formula op v b) (h q l p lp)
-  first_value op prefix (FromPattern j) live sig x o h q l p lp fits b =
-      ap (λ v. formula op v b) (pattern_lane x (size_of_source op 0) (numbers.number j) (q * prefix + p) (λ k lk. h k lk ∙ ap (λ w. digit (numbers.number j) (k % w)) o.1) (narrower (q * prefix + p) (size_of_source op 0) (widest op) (first_width op) fits))
+  -- the lanes of a pattern as a first source, and as a second one or a count
+  pattern_first : (op : Op) (prefix j : ℕ) (x : List ℕ) → numbers.period j ≡ size_of_source op 0 → ((k : ℕ) → k < 16 → get_or x k 0 ≡ digit (numbers.number j) (k % numbers.period j))
+      → (q p : ℕ) → (q * prefix + p) * widest op + widest op ≤ 16 → (b : ℕ) → formula op (lane (size_of_source op 0) (q * prefix + p) x) b ≡ formula op (numbers.number j) b
+  pattern_first op prefix j x e h q p fits b =
+      ap (λ v. formula op v b) (pattern_lane x (size_of_source op 0) (numbers.number j) (q * prefix + p) (λ k lk. h k lk ∙ ap (λ w. digit (numbers.number j) (k % w)) e) (narrower (q * prefix + p) (size_of_source op 0) (widest op) (first_width op) fits))
       ∙ formula_first op (numbers.number j) b
 
-  -- and the second, or the count
-  second_value : (op : Op) (prefix : ℕ) (s : Source) (live : ℕ → ℕ) (sig : ℕ → Local) (x : ℕ → List ℕ) → IsFrom n base size P numbers live (size_of_source op 1) prefix s → IsBeside n base size P numbers op s → InRegister (size_of_source op 1) prefix sig s (x 1)
-      → (q : ℕ) → q < count → (p : ℕ) → p < prefix → (q * prefix + p) * widest op + widest op ≤ 16 → (a : ℕ) → formula op a (second_of op (q * prefix + p) x) ≡ formula op a (given_by numbers.number (size_of_source op 1) (sig q) s p)
-  second_value op prefix (FromArray k) live sig x o plain h q l p lp fits a = ap (formula op a) (second_is op (q * prefix + p) x plain ∙ h q l p lp)
-  second_value op prefix (FromPlace k) live sig x o plain h q l p lp fits a = ap (formula op a) (second_is op (q * prefix + p) x plain ∙ h q l p lp)
-  second_value op prefix (FromSlot k) live sig x o plain h q l p lp fits a = ap (formula op a) (second_is op (q * prefix + p) x plain ∙ h q l p lp)
-  second_value op prefix (FromPattern j) live sig x o plain h q l p lp fits a = go (is_shift (row op).kind) refl
+  pattern_second : (op : Op) (prefix j : ℕ) (x : ℕ → List ℕ) → numbers.period j ≡ size_of_source op 1 → ((k : ℕ) → k < 16 → get_or (x 1) k 0 ≡ digit (numbers.number j) (k % numbers.period j))
+      → (q p : ℕ) → (q * prefix + p) * widest op + widest op ≤ 16 → (a : ℕ) → formula op a (second_of op (q * prefix + p) x) ≡ formula op a (numbers.number j)
+  pattern_second op prefix j x e h q p fits a = go (is_shift (row op).kind) refl
     where
       bytes : (k : ℕ) → k < 16 → get_or (x 1) k 0 ≡ digit (numbers.number j) (k % size_of_source op 1)
-      bytes k lk = h k lk ∙ ap (λ w. digit (numbers.number j) (k % w)) o.1
+      bytes k lk = h k lk ∙ ap (λ w. digit (numbers.number j) (k % w)) e
 
       at_lane : (t : ℕ) → t * size_of_source op 1 + size_of_source op 1 ≤ 16 → formula op a (lane (size_of_source op 1) t (x 1)) ≡ formula op a (numbers.number j)
       at_lane t room = ap (formula op a) (pattern_lane (x 1) (size_of_source op 1) (numbers.number j) t bytes room) ∙ formula_second op a (numbers.number j)
@@ -375,6 +389,24 @@ module _ (n : ℕ) (base size : ℕ → ℕ) (P : ℕ → Type 0) (numbers : Num
           let eight : size_of_source op 1 ≡ 8 = shift_two op e in
           ap (λ b. formula op a (if b then lane 8 0 (x 1) else lane (size_of_source op 1) (q * prefix + p) (x 1))) e
           ∙ ap (λ w. formula op a (lane w 0 (x 1))) (sym eight) ∙ at_lane 0 (omega (arith, eight))
+
+  -- the first source of a lane
+  first_value : (op : Op) (prefix : ℕ) (s : Source) (live : ℕ → ℕ) (sig : ℕ → Local) (x : List ℕ) → IsFrom n base size P numbers live (size_of_source op 0) prefix s → InRegister (size_of_source op 0) prefix sig s x
+      → (q : ℕ) → q < count → (p : ℕ) → p < prefix → (q * prefix + p) * widest op + widest op ≤ 16 → (b : ℕ) → formula op (lane (size_of_source op 0) (q * prefix + p) x) b ≡ formula op (given_by numbers.number (size_of_source op 0) (sig q) s p) b
+  first_value op prefix (FromArray k) live sig x o h q l p lp fits b = ap (λ v. formula op v b) (h q l p lp)
+  first_value op prefix (FromPlace k) live sig x o h q l p lp fits b = ap (λ v. formula op v b) (h q l p lp)
+  first_value op prefix (FromSlot k) live sig x o h q l p lp fits b = ap (λ v. formula op v b) (h q l p lp)
+  first_value op prefix (FromPattern j) live sig x o h q l p lp fits b = pattern_first op prefix j x o.1 h q p fits b
+  first_value op prefix (FromResident j g) live sig x o h q l p lp fits b = pattern_first op prefix j x o.1 h q p fits b
+
+  -- and the second, or the count
+  second_value : (op : Op) (prefix : ℕ) (s : Source) (live : ℕ → ℕ) (sig : ℕ → Local) (x : ℕ → List ℕ) → IsFrom n base size P numbers live (size_of_source op 1) prefix s → IsBeside n base size P numbers op s → InRegister (size_of_source op 1) prefix sig s (x 1)
+      → (q : ℕ) → q < count → (p : ℕ) → p < prefix → (q * prefix + p) * widest op + widest op ≤ 16 → (a : ℕ) → formula op a (second_of op (q * prefix + p) x) ≡ formula op a (given_by numbers.number (size_of_source op 1) (sig q) s p)
+  second_value op prefix (FromArray k) live sig x o plain h q l p lp fits a = ap (formula op a) (second_is op (q * prefix + p) x plain ∙ h q l p lp)
+  second_value op prefix (FromPlace k) live sig x o plain h q l p lp fits a = ap (formula op a) (second_is op (q * prefix + p) x plain ∙ h q l p lp)
+  second_value op prefix (FromSlot k) live sig x o plain h q l p lp fits a = ap (formula op a) (second_is op (q * prefix + p) x plain ∙ h q l p lp)
+  second_value op prefix (FromPattern j) live sig x o plain h q l p lp fits a = pattern_second op prefix j x o.1 h q p fits a
+  second_value op prefix (FromResident j g) live sig x o plain h q l p lp fits a = pattern_second op prefix j x o.1 h q p fits a
 
   -- what an opcode makes of each sub-lane
   abbrev made : Op → Local → List Source → ℕ → ℕ × ℕ
@@ -403,12 +435,14 @@ module _ (n : ℕ) (base size : ℕ → ℕ) (P : ℕ → Type 0) (numbers : Num
   pub first_room : (op : Op) (prefix : ℕ) (s : Source) → Room op prefix → HasRoom (size_of_source op 0) prefix s
   first_room op prefix (FromArray k) room = tt
   first_room op prefix (FromPattern j) room = tt
+  first_room op prefix (FromResident j g) room = tt
   first_room op prefix (FromPlace p) room = room.first
   first_room op prefix (FromSlot k) room = room.first
 
   pub second_room : (op : Op) (prefix : ℕ) (s : Source) → IsBeside n base size P numbers op s → Room op prefix → HasRoom (size_of_source op 1) prefix s
   second_room op prefix (FromArray k) plain room = tt
   second_room op prefix (FromPattern j) plain room = tt
+  second_room op prefix (FromResident j g) plain room = tt
   second_room op prefix (FromPlace p) plain room = room.second plain
   second_room op prefix (FromSlot k) plain room = room.second plain
 
@@ -444,7 +478,7 @@ module _ (n : ℕ) (base size : ℕ → ℕ) (P : ℕ → Type 0) (numbers : Num
       let at' : Points i b.gpr = λ j hj s. (ap (λ y. y + far j) (x.2.gpr (pointer j) (not_0 j)) ∙ (at j hj s).0, (at j hj s).1) in
       let h' : Lanes n base size P i count b.memory sig = λ j hj q l r lr. ap (λ f. f (base j + (i + q) * size j + r)) x.2.memory ∙ h j hj q l r lr in
       let there : IsAt two live sig (size_of_source op 1) prefix e b t = at_still two live sig (size_of_source op 1) prefix e c b t ts (λ z. apart (sym z)) kept.1.0 x.2.memory (λ z ne. x.2.others z ne) stand.1 in
-      let y = bring_source two i t (size_of_source op 1) prefix e b live sig totals known.1 wide.1.0 w at' (x.2.gpr 4 (λ e. omega (arith, e)) ∙ stack) h' (framed_same numbers rsp ground.frame c b totals (λ y l u. ap (λ f. f y) x.2.memory) (λ g l. x.2.others (sum_register g) (λ e. (clear g l).0 (sym e))) framed) there (second_room op prefix t known.2 room) (line_bounded Q front c b (each_front IsIns front back ins) x.1 bound) (λ u i m g. stays u i (m ∙ x.2.memory) (λ r ne. g r ne ∙ x.2.gpr r ne)) in
+      let y = bring_source two i t (size_of_source op 1) prefix e b live sig totals known.1 wide.1.0 w at' (x.2.gpr 4 (λ e. omega (arith, e)) ∙ stack) h' (framed_same numbers rsp ground.frame c b totals (λ y l u. ap (λ f. f y) x.2.memory) (λ g l. x.2.others (resident_register g) (λ e. (clear g l).0 (sym e))) framed) there (second_room op prefix t known.2 room) (line_bounded Q front c b (each_front IsIns front back ins) x.1 bound) (λ u i m g. stays u i (m ∙ x.2.memory) (λ r ne. g r ne ∙ x.2.gpr r ne)) in
       let d = y.0 in
       let line : Line Q (front ++ back) c d = line_append Q front back c b d x.1 y.1 in
       let bd = line_bounded Q (front ++ back) c d ins line bound in
@@ -522,7 +556,7 @@ module _ (n : ℕ) (base size : ℕ → ℕ) (P : ℕ → Type 0) (numbers : Num
   frame_same i c d w o x l u = o x (λ at. ground.apart at.0 at.1.0 (i + at.2) (omega (arith, at.3, w)) at.4 at.5 (subst (λ a. rsp ≤ a) at.6 l) (subst (λ a. a < rsp + frame_size) at.6 u))
 
   frame_kept : (i : ℕ) (c d : Core) (totals : ℕ → ℕ) → i + count ≤ n → Others n base size (OfDests P) i count c.memory d.memory → d.xmm ≡ c.xmm → Framed numbers rsp c totals → Framed numbers rsp d totals
-  frame_kept i c d totals w o same = framed_same numbers rsp ground.frame c d totals (frame_same i c.memory d.memory w o) (λ g l. ap (λ x. x (sum_register g)) same)
+  frame_kept i c d totals w o same = framed_same numbers rsp ground.frame c d totals (frame_same i c.memory d.memory w o) (λ g l. ap (λ x. x (resident_register g)) same)
 
   -- what a store of 16 bytes of the frame leaves that elements may change
   slot_stored : (i far : ℕ) (mem end : Memory) (z : ℕ → ℕ) (first : Memory) (sig : ℕ → Local) → far + 16 ≤ frame_size → ((b : ℕ) → b < 16 → InChanged rsp numbers.sums (rsp + far + b)) → i + count ≤ n → IsFill 16 mem (rsp + far) z end → Lanes n base size P i count mem sig → Rest i first mem
@@ -621,7 +655,7 @@ module _ (n : ℕ) (base size : ℕ → ℕ) (P : ℕ → Type 0) (numbers : Num
           xmm = s.3;
           lanes = kept.0;
           standing = λ p l out. made_at w prefix (slot_place k) g live sig d (c.xmm x) bytes lanes (λ b lb. held_slot rsp d k b ∙ f.inside b lb) p (λ ne. still live sig c d p (beside p ne) (stand p l out (λ e. omega (arith, e, few))));
-          framed = framed_spilled numbers rsp ground.frame c d totals k z f (λ g l. ap (λ x. x (sum_register g)) s.3) framed;
+          framed = framed_spilled numbers rsp ground.frame c d totals k z f (λ g l. ap (λ x. x (resident_register g)) s.3) framed;
           others = kept.1;
         },
       )
@@ -766,7 +800,7 @@ module _ (n : ℕ) (base size : ℕ → ℕ) (P : ℕ → Type 0) (numbers : Num
       let same : (p : ℕ) → d.xmm (place_register p) ≡ c.xmm (place_register p) = λ p. ap (λ f. f (place_register p)) s.3 ∙ adds.keeps b.xmm (place_register p) (omega arith) ∙ l.2.others (place_register p) (λ e. omega (arith, e)) in
       let beside : (k : ℕ) → k < numbers.sums → k ≢ g → (j : ℕ) → j < 16 → sum_byte numbers.last rsp d k j ≡ sum_byte numbers.last rsp c k j = λ k lk ne j lj.
       byte_same numbers.last rsp c d k j (λ r. same (registers - (k + 1))) (λ m. f.outside (rsp + sum_slot k + j) (λ q lq e. ne (omega (arith, e, lj, lq)))) in
-      let grown = framed_grown numbers rsp ground.frame c d totals framed g (amount op prefix ss sig) lg (after rule b.xmm 2) (registers_after rule b.xmm bounded.xmm 2) (λ j lj. byte_slot numbers.last rsp d g j slot ∙ f.inside j lj) beside
+      let grown = framed_grown numbers rsp ground.frame c d totals framed g (amount op prefix ss sig) lg (after rule b.xmm 2) (registers_after rule b.xmm bounded.xmm 2) (λ j lj. byte_slot numbers.last rsp d g j slot ∙ f.inside j lj) beside (λ k ne r. same (registers - (k + 1)))
       (λ y ly uy. f.outside y (λ j lj e. omega (arith, e, uy))) (λ y i. f.outside y (λ j lj e. let a = i.0 in omega (arith, e, lj, lg, few, a)))
       (grows op prefix ss sig rule g (framed.running g) c.xmm b.xmm width one adds value (l.2.others 0 (λ e. omega (arith, e))) (l.2.others 1 (λ e. omega (arith, e))) l.2.bytes bounded.xmm) in (
         d,
@@ -785,23 +819,23 @@ module _ (n : ℕ) (base size : ℕ → ℕ) (P : ℕ → Type 0) (numbers : Num
       → Lanes n base size P i count c.memory sig → Framed numbers rsp c totals → Standing live sig c → Values op prefix ss sig c.xmm → Bounded c → Rest i first c.memory → Keeps i c.gpr first
       → (d : Core) × Line Q (map (renamed (rule_register (ToResident g ∷ []))) rule) c d × Wrote i op prefix (ToResident g ∷ []) (λ q. packed op prefix (made op (sig q) ss)) live sig totals first c d
   resident_line i op prefix ss rule g c first live sig totals lg register width one adds h framed stand value bound o keeps =
-      let list = map (renamed (resident_register g)) rule in
+      let list = map (renamed (adding_register g)) rule in
       let new : ℕ → List ℕ = after list c.xmm in
       let d : Core = with_lanes c new in
       let y : ℕ → List ℕ = seen g rule c.xmm in
       let few = ground.frame.few_sums in
-      let same : (r : ℕ) → 6 ≤ r → r ≢ sum_register g → new r ≡ c.xmm r = resident_kept g rule c.xmm adds.keeps in
+      let same : (r : ℕ) → 6 ≤ r → r ≢ resident_register g → new r ≡ c.xmm r = resident_kept g rule c.xmm adds.keeps in
       let held_sum : (b : ℕ) → b < 16 → get_or (y 2) b 0 ≡ get_or (framed.running g) b 0 = λ b lb.
       ap (λ r. get_or (c.xmm r) b 0) (resident_2 g) ∙ ap (or_else 0) (sym (byte_register numbers.last rsp c g b register) ∙ framed.sums g lg b lb) in
-      let small : (r : ℕ) → AreBytes (y r) = λ r. bound.xmm (resident_register g r) in
+      let small : (r : ℕ) → AreBytes (y r) = λ r. bound.xmm (adding_register g r) in
       let more = grows op prefix ss sig rule g (framed.running g) c.xmm y width one adds value (ap c.xmm (resident_0 g)) (ap c.xmm (resident_1 g)) held_sum small in
-      let at_home : new (sum_register g) ≡ after rule y 2 = resident_grown g rule c.xmm in
+      let at_home : new (resident_register g) ≡ after rule y 2 = resident_grown g rule c.xmm in
       let beside : (k : ℕ) → k < numbers.sums → k ≢ g → (j : ℕ) → j < 16 → sum_byte numbers.last rsp d k j ≡ sum_byte numbers.last rsp c k j = λ k lk ne j lj.
-      byte_same numbers.last rsp c d k j (λ r. same (sum_register k) (omega arith) (λ e. ne (omega (arith, e, lk, lg, few)))) (λ m. refl) in
+      byte_same numbers.last rsp c d k j (λ r. same (resident_register k) (omega arith) (λ e. ne (omega (arith, e, lk, lg, few)))) (λ m. refl) in
       let grown = framed_grown numbers rsp ground.frame c d totals framed g (amount op prefix ss sig) lg (after rule y 2) (registers_after rule y small 2)
-      (λ j lj. byte_register numbers.last rsp d g j register ∙ ap (λ v. Some (get_or v j 0)) at_home) beside (λ y ly uy. refl) (λ y i. refl) more in (
+      (λ j lj. byte_register numbers.last rsp d g j register ∙ ap (λ v. Some (get_or v j 0)) at_home) beside (λ k ne r. same (resident_register k) (omega arith) (λ e. ne (omega (arith, e, r, register)))) (λ y ly uy. refl) (λ y i. refl) more in (
         d,
-        rule_line Q list (simd_renamed (resident_register g) rule ∙ adds.vectors) c (λ t ins gs fs ms. stay i c c.gpr first (λ r ne. refl) o keeps t ins ms (λ r ne. ap (λ f. f r) gs)),
+        rule_line Q list (simd_renamed (adding_register g) rule ∙ adds.vectors) c (λ t ins gs fs ms. stay i c c.gpr first (λ r ne. refl) o keeps t ins ms (λ r ne. ap (λ f. f r) gs)),
         record {
           gpr = λ r ne. refl;
           lanes = h;
@@ -910,7 +944,7 @@ module _ (n : ℕ) (base size : ℕ → ℕ) (P : ℕ → Type 0) (numbers : Num
       let g = x.2 in
       let s = finish_line i a.op a.prefix a.sources a.rule a.to e first less sig totals known.to fit.rule known.apart known.to_within fit.to fits
       (each_front IsIns (sum_code a.to) (rule_code a ++ results_far_code count size far aligned a.to) (each_back IsIns loads rest ins_a)) w (λ k hk t. (ap (λ y. y + far k) (g.gpr (pointer k) (not_0 k)) ∙ (at k hk t).0, (at k hk t).1)) (g.gpr 4 (λ z. omega (arith, z)) ∙ stack)
-      (λ k hk q l r lr. ap (λ f. f (base k + (i + q) * size k + r)) g.memory ∙ h k hk q l r lr) (framed_same numbers rsp ground.frame c e totals (λ y l u. ap (λ f. f y) g.memory) (λ k l. g.others (sum_register k) (λ z. (clear k l).0 (sym z)) (λ z. (clear k l).1 (sym z))) framed)
+      (λ k hk q l r lr. ap (λ f. f (base k + (i + q) * size k + r)) g.memory ∙ h k hk q l r lr) (framed_same numbers rsp ground.frame c e totals (λ y l u. ap (λ f. f y) g.memory) (λ k l. g.others (resident_register k) (λ z. (clear k l).0 (sym z)) (λ z. (clear k l).1 (sym z))) framed)
       (λ p l nf ns. still_there less sig c e p l (g.others (place_register p) (λ z. nf (sym z)) (λ z. ns (sym z))) (λ x a u. ap (λ f. f x) g.memory) (remains p l nf ns)) g.value g.bounded
       (λ v out sums. ap (λ f. f v) g.memory ∙ o v out sums) (λ t ins gs m. keeps t ins (λ r ne. gs r ne ∙ g.gpr r ne) m) in
       let d = s.0 in

@@ -12,9 +12,9 @@ use Rattle.sse_laws.specs.Meets.{is_shift, is_sum}
 use Rattle.x86_ins.specs.Way.{Each}
 use Rattle.orc_program.specs.Need.{registers}
 use Rattle.orc_frame.specs.Layout.{spill_slots}
-use Rattle.orc_region.specs.Code.{Action, Source, FromArray, FromPattern, FromPlace, FromSlot, Target, ToArray, ToSum, ToResident, ToPlace, ToSlot, place_register, slot_place, first_register, second_register}
+use Rattle.orc_region.specs.Code.{Action, Source, FromArray, FromPattern, FromResident, FromPlace, FromSlot, Target, ToArray, ToSum, ToResident, ToPlace, ToSlot, place_register, slot_place, first_register, second_register}
 use Rattle.orc_region.proofs.Arithmetic.Digits.{digit, byte_within, byte_further, byte_split, byte_apart}
-use Rattle.orc_region.proofs.Block.Sums.{SourceWithin, TargetWithin}
+use Rattle.orc_region.proofs.Block.Sums.{IsResident, SourceWithin, TargetWithin}
 
 pub eq_yes : (x y : ℕ) → x ≡ y → (x == y) ≡ true
 eq_yes x y e = grind (arith, e)
@@ -39,6 +39,7 @@ pub record Numbers : Type 0 where
 abbrev pub given_by : (ℕ → ℕ) → ℕ → Local → Source → ℕ → ℕ
 given_by number w l (FromArray k) = sub_lane (8 * w) (l.cells k)
 given_by number w l (FromPattern j) = λ q. number j
+given_by number w l (FromResident j g) = λ q. number j
 given_by number w l (FromPlace p) = sub_lane (8 * w) (l.values p)
 given_by number w l (FromSlot k) = sub_lane (8 * w) (l.values (slot_place k))
 
@@ -163,6 +164,7 @@ module _ (n : ℕ) (base size : ℕ → ℕ) (P : ℕ → Type 0) where
     abbrev pub IsFrom : (ℕ → ℕ) → ℕ → ℕ → Source → Type 0
     IsFrom live w prefix (FromArray k) = IsOf k (w * prefix)
     IsFrom live w prefix (FromPattern j) = (j < numbers.patterns) × (numbers.period j ≡ w)
+    IsFrom live w prefix (FromResident j g) = (j < numbers.patterns) × (numbers.period j ≡ w) × (g ≡ numbers.sums + j) × IsResident numbers.last g
     IsFrom live w prefix (FromPlace p) = (p < registers) × (live p ≡ w * prefix)
     IsFrom live w prefix (FromSlot k) = (k < spill_slots) × (live (slot_place k) ≡ w * prefix)
 
@@ -170,6 +172,7 @@ module _ (n : ℕ) (base size : ℕ → ℕ) (P : ℕ → Type 0) where
     abbrev pub IsBeside : Op → Source → Type 0
     IsBeside op (FromArray k) = is_shift (row op).kind ≡ false
     IsBeside op (FromPattern j) = Unit {0}
+    IsBeside op (FromResident j g) = Unit {0}
     IsBeside op (FromPlace p) = is_shift (row op).kind ≡ false
     IsBeside op (FromSlot k) = is_shift (row op).kind ≡ false
 
@@ -207,6 +210,7 @@ module _ (n : ℕ) (base size : ℕ → ℕ) (P : ℕ → Type 0) where
     abbrev pub IsKept : List Target → Source → Type 0
     IsKept ts (FromArray k) = Unit {0}
     IsKept ts (FromPattern j) = Unit {0}
+    IsKept ts (FromResident j g) = Unit {0}
     IsKept ts (FromPlace p) = (first_register ts ≢ place_register p) × (second_register ts ≢ place_register p)
     IsKept ts (FromSlot k) = Unit {0}
 

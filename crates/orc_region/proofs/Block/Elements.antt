@@ -19,7 +19,7 @@ use Rattle.orc_program.specs.Slots.{slot_of}
 use Rattle.orc_program.specs.Meaning.{State, Gap, cell, sub_lane, go_on, write_result, write_results, act, element, row_of}
 use Rattle.orc_program.specs.Checks.{number_in}
 use Rattle.x86_flow.proofs.Moves.{IsFill}
-use Rattle.orc_region.specs.Code.{Action, Source, FromArray, FromPattern, FromPlace, FromSlot, Target, ToArray, ToSum, ToResident, ToPlace, ToSlot, slot_place}
+use Rattle.orc_region.specs.Code.{Action, Source, FromArray, FromPattern, FromResident, FromPlace, FromSlot, Target, ToArray, ToSum, ToResident, ToPlace, ToSlot, slot_place}
 use Rattle.orc_region.proofs.Arithmetic.Digits.{digit}
 use Rattle.orc_region.proofs.Block.Cells.{Numbers, Local, given_by, given, computed, adds_to, results_add, eq_yes, Lanes, Others, IsOf, Separate, Low, set_local, set_target, set_results, value_of, local_act, local, adds, store_lanes, store_others, others_more, cell_apart}
 use Rattle.orc_region.proofs.Block.Emulated.{IsCells, IsDest, IsSum, IsTemp, state, meant, Holds, IsLow, Gives, array_gives, temp_gives, number_gives, array_takes, sum_takes, temp_takes, Writes, act_one, act_two}
@@ -31,6 +31,7 @@ use Rattle.orc_program.proofs.Nth.{place_again}
 abbrev pub IsRead : FunctionValue → (ℕ → Operand) → (ℕ → ℕ → Type 0) → ℕ → ℕ → Operand → Source → Type 0
 IsRead f patterns V w prefix o (FromArray k) = (p : ℕ) × (o ≡ operand.Var p) × IsCells f p (w * prefix) × (slot_of f.vars p ≡ k)
 IsRead f patterns V w prefix o (FromPattern j) = number_in f.vars o ≡ Some (patterns j)
+IsRead f patterns V w prefix o (FromResident j g) = number_in f.vars o ≡ Some (patterns j)
 IsRead f patterns V w prefix o (FromPlace p) = (x : ℕ) × (o ≡ operand.Var x) × IsTemp f x × V x p
 IsRead f patterns V w prefix o (FromSlot k) = (x : ℕ) × (o ≡ operand.Var x) × IsTemp f x × V x (slot_place k)
 
@@ -298,6 +299,10 @@ module _ (f : FunctionValue) (call : Call) (r : ℕ) (base size : ℕ → ℕ) (
       subst (λ o. Gives f call r e w prefix (state mem temps sums) o (sub_lane (8 * w) (l.values p))) (sym is.1)
       (temp_gives f call r e is.0 w prefix (l.values p) (state mem temps sums) is.2 (c is.0 p is.3))
 
+  gives_pattern : (e w prefix : ℕ) (o : Operand) (j : ℕ) (V : ℕ → ℕ → Type 0) (mem : Memory) (temps sums : ℕ → ℕ) → IsRead f patterns V w prefix o (FromPattern j) → Gives f call r e w prefix (state mem temps sums) o (λ q. numbers.number j)
+  gives_pattern e w prefix o j V mem temps sums is =
+      subst (λ n. Gives f call r e w prefix (state mem temps sums) o (λ q. n)) (sym (number_is j)) (number_gives f call r e w prefix (state mem temps sums) o (patterns j) is)
+
   gives : (e w prefix : ℕ) (o : Operand) (s : Source) (V : ℕ → ℕ → Type 0) (mem : Memory) (temps sums : ℕ → ℕ) (l : Local) → IsRead f patterns V w prefix o s → e < call.n → Cells e 1 mem (λ q. l) → Carries V temps l
       → Gives f call r e w prefix (state mem temps sums) o (given_by numbers.number w l s)
   gives e w prefix o (FromArray k) V mem temps sums l is le h c =
@@ -306,8 +311,8 @@ module _ (f : FunctionValue) (call : Call) (r : ℕ) (base size : ℕ → ℕ) (
       subst (λ k. Gives f call r e w prefix (state mem temps sums) o (sub_lane (8 * w) (l.cells k))) is.3
       (subst (λ o. Gives f call r e w prefix (state mem temps sums) o (sub_lane (8 * w) (l.cells (slot_of f.vars p)))) (sym is.1)
       (array_gives f call r e p w prefix (l.cells (slot_of f.vars p)) (state mem temps sums) is.2 (low_cell e p b is.2 le) (holds e p b mem l is.2 le h)))
-  gives e w prefix o (FromPattern j) V mem temps sums l is le h c =
-      subst (λ n. Gives f call r e w prefix (state mem temps sums) o (λ q. n)) (sym (number_is j)) (number_gives f call r e w prefix (state mem temps sums) o (patterns j) is)
+  gives e w prefix o (FromPattern j) V mem temps sums l is le h c = gives_pattern e w prefix o j V mem temps sums is
+  gives e w prefix o (FromResident j g) V mem temps sums l is le h c = gives_pattern e w prefix o j V mem temps sums is
   gives e w prefix o (FromPlace p) V mem temps sums l is le h c = gives_temp e w prefix o p V mem temps sums l is c
   gives e w prefix o (FromSlot k) V mem temps sums l is le h c = gives_temp e w prefix o (slot_place k) V mem temps sums l is c
 

@@ -1,4 +1,4 @@
--- Patterns, running sums and spill slots, in the frame and, of running sums, in registers.
+-- Patterns, running sums and spill slots, in the frame and, of patterns and running sums, in registers.
 use Rattle.std.proofs.Common.{◌≡◌, ◌≢◌, ℕ, zero, suc, ◌+◌, ◌-◌, ◌*◌, ◌/◌, ◌%◌, ◌^◌, ◌<◌, ◌≤◌, ◌==◌, Bool, true, false, if◌then◌else◌, List, get_or, Some, Ok, is_some, refl, sym, ap, ◌∙◌, subst, arith, ⊎_elim}
 use Rattle.std.proofs.lemmas.Bool.{cases_eq, cases_lt}
 use Rattle.std.proofs.lemmas.Nat.{mod-mul-add}
@@ -18,11 +18,11 @@ use Rattle.sse_acc.proofs.Totals.{sum_below-zero, sum_below-suc, sum_below-same}
 use Rattle.orc_frame.specs.Layout.{pattern_slot, sum_slot, saved_slot, frame_size, spill_slot}
 use Rattle.orc_frame.specs.Parts.{InSpilled}
 use Rattle.orc_program.specs.Need.{places}
-use Rattle.orc_region.specs.Code.{ToSum}
+use Rattle.orc_region.specs.Code.{ToSum, resident_register}
 use Rattle.orc_region.specs.Elements.{sum_byte}
 use Rattle.orc_region.proofs.Arithmetic.Digits.{digit, byte_within}
 use Rattle.orc_region.proofs.Block.Cells.{Numbers, adds_to, eq_yes}
-use Rattle.orc_region.proofs.Block.Sums.{SameSums, byte_same}
+use Rattle.orc_region.proofs.Block.Sums.{IsResident, SameSums, byte_same}
 
 -- ---- moves of 16 bytes, so far from RSP
 
@@ -114,16 +114,17 @@ module _ (numbers : Numbers) (rsp : ℕ) where
     pub low : rsp + frame_size ≤ 2 ^ 47
     pub few_places : numbers.last < places
 
-  -- the patterns' slots hold their bytes, the lanes of each running sum add up to its total, modulo what the sum's bytes hold, and the spill slots are mapped
+  -- the patterns' slots hold their bytes, and their registers, where they stand in some, the lanes of each running sum add up to its total, modulo what the sum's bytes hold, and the spill slots are mapped
   pub record Framed (c : Core) (totals : ℕ → ℕ) : Type 0 where
     pub patterns : (j : ℕ) → j < numbers.patterns → (b : ℕ) → b < 16 → c.memory (rsp + pattern_slot j + b) ≡ Some (digit (numbers.number j) (b % numbers.period j))
+    pub residents : (j : ℕ) → j < numbers.patterns → IsResident numbers.last (numbers.sums + j) → (b : ℕ) → b < 16 → get_or (c.xmm (resident_register (numbers.sums + j))) b 0 ≡ digit (numbers.number j) (b % numbers.period j)
     pub running : ℕ → List ℕ
     pub bytes : (g : ℕ) → AreBytes (running g)
     pub sums : (g : ℕ) → g < numbers.sums → (b : ℕ) → b < 16 → sum_byte numbers.last rsp c g b ≡ Some (get_or (running g) b 0)
     pub totals_are : (g : ℕ) → g < numbers.sums → cut (8 * numbers.width g) (sum_of (numbers.width g) (running g)) ≡ cut (8 * numbers.width g) (totals g)
     pub spilled : (x : ℕ) → InSpilled rsp x → IsMapped c.memory x
 
-  -- the registers of running sums are as before
+  -- the registers of residents are as before
   abbrev pub Resting : Core → Core → Type 0
   Resting = SameSums numbers.last rsp
 
@@ -131,6 +132,7 @@ module _ (numbers : Numbers) (rsp : ℕ) where
   pub framed_below : IsFrame → (c d : Core) (totals : ℕ → ℕ) → ((x : ℕ) → rsp ≤ x → x < rsp + saved_slot 0 → d.memory x ≡ c.memory x) → ((x : ℕ) → InSpilled rsp x → IsMapped c.memory x → IsMapped d.memory x) → Resting c d → Framed c totals → Framed d totals
   framed_below is c d totals same there rest h = record {
     patterns = λ j l b lb. same (rsp + pattern_slot j + b) (omega arith) (omega (arith, l, lb, is.few_patterns)) ∙ h.patterns j l b lb;
+    residents = λ j l r b lb. ap (λ v. get_or v b 0) (rest (numbers.sums + j) r) ∙ h.residents j l r b lb;
     running = h.running;
     bytes = h.bytes;
     sums = λ g l b lb. byte_same numbers.last rsp c d g b (rest g) (λ f. same (rsp + sum_slot g + b) (omega arith) (omega (arith, l, lb, is.few_sums))) ∙ h.sums g l b lb;
@@ -145,6 +147,7 @@ module _ (numbers : Numbers) (rsp : ℕ) where
   pub framed_totals : (c : Core) (a b : ℕ → ℕ) → ((g : ℕ) → a g ≡ b g) → Framed c a → Framed c b
   framed_totals c a b e h = record {
     patterns = h.patterns;
+    residents = h.residents;
     running = h.running;
     bytes = h.bytes;
     sums = h.sums;
@@ -175,7 +178,7 @@ module _ (numbers : Numbers) (rsp : ℕ) where
   -- a running sum has grown, and nothing else in the frame
   module _ (is : IsFrame) (c d : Core) (totals : ℕ → ℕ) (h : Framed c totals) (g v : ℕ) (l : g < numbers.sums) (x : List ℕ) (small : AreBytes x)
       (there : (b : ℕ) → b < 16 → sum_byte numbers.last rsp d g b ≡ Some (get_or x b 0)) (beside : (k : ℕ) → k < numbers.sums → k ≢ g → (b : ℕ) → b < 16 → sum_byte numbers.last rsp d k b ≡ sum_byte numbers.last rsp c k b)
-      (low : (y : ℕ) → rsp ≤ y → y < rsp + sum_slot 0 → d.memory y ≡ c.memory y) (high : (y : ℕ) → InSpilled rsp y → d.memory y ≡ c.memory y)
+      (rest : (k : ℕ) → k ≢ g → IsResident numbers.last k → d.xmm (resident_register k) ≡ c.xmm (resident_register k)) (low : (y : ℕ) → rsp ≤ y → y < rsp + sum_slot 0 → d.memory y ≡ c.memory y) (high : (y : ℕ) → InSpilled rsp y → d.memory y ≡ c.memory y)
       (grows : cut (8 * numbers.width g) (sum_of (numbers.width g) x) ≡ cut (8 * numbers.width g) (sum_of (numbers.width g) (h.running g) + v)) where
     abbrev new : ℕ → List ℕ
     new = change h.running g x
@@ -206,6 +209,7 @@ module _ (numbers : Numbers) (rsp : ℕ) where
     pub framed_grown : Framed d (λ k. totals k + adds_to (ToSum g) v k)
     framed_grown = record {
       patterns = λ j lj b lb. low (rsp + pattern_slot j + b) (omega arith) (omega (arith, lj, lb, is.few_patterns)) ∙ h.patterns j lj b lb;
+      residents = λ j lj r b lb. ap (λ v. get_or v b 0) (rest (numbers.sums + j) (λ e. omega (arith, e, l)) r) ∙ h.residents j lj r b lb;
       running = new;
       bytes = grown_bytes;
       sums = grown_there;

@@ -22,7 +22,7 @@ use Rattle.sse_acc.specs.Sums.{sum_below}
 use Rattle.orc_program.specs.Need.{registers}
 use Rattle.orc_frame.specs.Layout.{spill_slot}
 use Rattle.orc_region.proofs.Arithmetic.Digits.{digit}
-use Rattle.orc_region.specs.Code.{Action, Source, FromArray, FromPattern, FromPlace, FromSlot, Target, ToArray, ToSum, ToResident, ToPlace, ToSlot, pointer, place_register, slot_place, sum_register, made_in, first_register, second_register, take_names, source_names, action_names, action_far_code, named_code}
+use Rattle.orc_region.specs.Code.{Action, Source, FromArray, FromPattern, FromResident, FromPlace, FromSlot, Target, ToArray, ToSum, ToResident, ToPlace, ToSlot, pointer, place_register, slot_place, resident_register, made_in, first_register, second_register, take_names, source_names, action_names, action_far_code, named_code}
 use Rattle.orc_region.proofs.Block.Cells.{eq_yes, Numbers, Local, Lanes, IsFrom, AreFrom, IsMade, AreTo, IsKept, IsKnown, AllKnown, live_act, local_act, local}
 use Rattle.orc_region.proofs.Block.Frames.{Framed, framed_same, framed_totals}
 use Rattle.orc_region.proofs.Block.Keeping.{line_bounded}
@@ -85,6 +85,7 @@ abbrev IsTakenAt : Bool → Source → ℕ → Type 0
 IsTakenAt false s r = ⊥
 IsTakenAt true (FromArray k) r = ⊥
 IsTakenAt true (FromPattern j) r = ⊥
+IsTakenAt true (FromResident j g) r = ⊥
 IsTakenAt true (FromPlace p) r = r ≡ place_register p
 IsTakenAt true (FromSlot k) r = ⊥
 
@@ -98,10 +99,12 @@ record Took (one : Bool) (x : ℕ) (s : Source) (v w : Core) : Type 0 where
 took : (one : Bool) (x : ℕ) (s : Source) (names : List ℕ) (c : Core) → x < 16 → Took one x s (seen_as names c) (seen_as (take_names one x s names) c)
 took false x (FromArray k) names c l = record { memory = refl; here = λ r e. absurd e; others = λ r lr ne nt. refl; all = λ e r. refl }
 took false x (FromPattern j) names c l = record { memory = refl; here = λ r e. absurd e; others = λ r lr ne nt. refl; all = λ e r. refl }
+took false x (FromResident j g) names c l = record { memory = refl; here = λ r e. absurd e; others = λ r lr ne nt. refl; all = λ e r. refl }
 took false x (FromPlace p) names c l = record { memory = refl; here = λ r e. absurd e; others = λ r lr ne nt. refl; all = λ e r. refl }
 took false x (FromSlot k) names c l = record { memory = refl; here = λ r e. absurd e; others = λ r lr ne nt. refl; all = λ e r. refl }
 took true x (FromArray k) names c l = record { memory = refl; here = λ r e. absurd e; others = λ r lr ne nt. refl; all = λ e r. refl }
 took true x (FromPattern j) names c l = record { memory = refl; here = λ r e. absurd e; others = λ r lr ne nt. refl; all = λ e r. refl }
+took true x (FromResident j g) names c l = record { memory = refl; here = λ r e. absurd e; others = λ r lr ne nt. refl; all = λ e r. refl }
 took true x (FromSlot k) names c l = record { memory = refl; here = λ r e. absurd e; others = λ r lr ne nt. refl; all = λ e r. refl }
 took true x (FromPlace p) names c l = record {
   memory = refl;
@@ -115,6 +118,7 @@ apart_not : (one : Bool) (s : Source) (q : ℕ) → IsApart one s (FromPlace q) 
 apart_not false s q h z = z
 apart_not true (FromArray k) q h z = z
 apart_not true (FromPattern j) q h z = z
+apart_not true (FromResident j g) q h z = z
 apart_not true (FromSlot k) q h z = z
 apart_not true (FromPlace p) q h z = true≢false (sym (eq_yes q p (let e : q ≡ p = omega (arith, z) in e)) ∙ h refl)
 
@@ -139,6 +143,7 @@ module _ (n : ℕ) (base size : ℕ → ℕ) (P : ℕ → Type 0) (numbers : Num
   small_of : (live : ℕ → ℕ) (w prefix : ℕ) (s : Source) → From live w prefix s → IsSmall s
   small_of live w prefix (FromArray k) o = tt
   small_of live w prefix (FromPattern j) o = tt
+  small_of live w prefix (FromResident j g) o = tt
   small_of live w prefix (FromPlace p) o = o.0
   small_of live w prefix (FromSlot k) o = tt
 
@@ -146,12 +151,14 @@ module _ (n : ℕ) (base size : ℕ → ℕ) (P : ℕ → Type 0) (numbers : Num
   abbrev OfRegister : Source → (ℕ → Type 0) → Type 0
   OfRegister (FromArray k) F = Unit {0}
   OfRegister (FromPattern j) F = Unit {0}
+  OfRegister (FromResident j g) F = Unit {0}
   OfRegister (FromPlace p) F = F (place_register p)
   OfRegister (FromSlot k) F = Unit {0}
 
   of_register : (s : Source) (F : ℕ → Type 0) → ((r : ℕ) → F r) → OfRegister s F
   of_register (FromArray k) F h = tt
   of_register (FromPattern j) F h = tt
+  of_register (FromResident j g) F h = tt
   of_register (FromPlace p) F h = h (place_register p)
   of_register (FromSlot k) F h = tt
 
@@ -159,6 +166,7 @@ module _ (n : ℕ) (base size : ℕ → ℕ) (P : ℕ → Type 0) (numbers : Num
   there_moved : (live : ℕ → ℕ) (sig : ℕ → Local) (v w : Core) (s : Source) → w.memory ≡ v.memory → OfRegister s (λ r. w.xmm r ≡ v.xmm r) → There live sig v s → There live sig w s
   there_moved live sig v w (FromArray k) m same h = tt
   there_moved live sig v w (FromPattern j) m same h = tt
+  there_moved live sig v w (FromResident j g) m same h = tt
   there_moved live sig v w (FromPlace p) m same h = still n base size P numbers rsp ground Q far aligned count some live sig v w p (λ b lb. held_still rsp v w p b (λ l. same) m) h
   there_moved live sig v w (FromSlot k) m same h = still n base size P numbers rsp ground Q far aligned count some live sig v w (slot_place k) (λ b lb. held_still rsp v w (slot_place k) b (λ l. absurd (omega (arith, l))) m) h
 
@@ -167,6 +175,7 @@ module _ (n : ℕ) (base size : ℕ → ℕ) (P : ℕ → Type 0) (numbers : Num
   bring false rest x s w prefix live sig c d m o room there t = there_moved live sig c d s t.memory (of_register s (λ r. d.xmm r ≡ c.xmm r) (t.all refl)) there
   bring true rest x (FromArray k) w prefix live sig c d m o room there t = absurd m
   bring true rest x (FromPattern j) w prefix live sig c d m o room there t = absurd m
+  bring true rest x (FromResident j g) w prefix live sig c d m o room there t = absurd m
   bring true rest x (FromSlot k) w prefix live sig c d m o room there t = absurd m
   bring true rest x (FromPlace p) w prefix live sig c d m o room there t =
       in_register n base size P numbers rsp ground Q far aligned count some live sig c w prefix p (d.xmm x) o.0 o.1 there room (t.here (place_register p) refl)
@@ -180,6 +189,7 @@ module _ (n : ℕ) (base size : ℕ → ℕ) (P : ℕ → Type 0) (numbers : Num
   remains false x s live sig v w p ne t h = still n base size P numbers rsp ground Q far aligned count some live sig v w p (λ b lb. held_still rsp v w p b (λ l. t.all refl (place_register p)) t.memory) h
   remains true x (FromArray k) live sig v w p ne t h = still n base size P numbers rsp ground Q far aligned count some live sig v w p (λ b lb. held_still rsp v w p b (λ l. t.others (place_register p) (omega (arith, l)) (λ z. ne (sym z)) (λ z. z)) t.memory) h
   remains true x (FromPattern j) live sig v w p ne t h = still n base size P numbers rsp ground Q far aligned count some live sig v w p (λ b lb. held_still rsp v w p b (λ l. t.others (place_register p) (omega (arith, l)) (λ z. ne (sym z)) (λ z. z)) t.memory) h
+  remains true x (FromResident j g) live sig v w p ne t h = still n base size P numbers rsp ground Q far aligned count some live sig v w p (λ b lb. held_still rsp v w p b (λ l. t.others (place_register p) (omega (arith, l)) (λ z. ne (sym z)) (λ z. z)) t.memory) h
   remains true x (FromSlot k) live sig v w p ne t h = still n base size P numbers rsp ground Q far aligned count some live sig v w p (λ b lb. held_still rsp v w p b (λ l. t.others (place_register p) (omega (arith, l)) (λ z. ne (sym z)) (λ z. z)) t.memory) h
   remains true x (FromPlace a) live sig v w p ne t h = ⊎_elim
       (λ e k lk r lr. let none : change live a 0 p ≡ 0 = ap (change live a 0) e ∙ change_same live a 0 in absurd (omega (arith, lr, none)))
@@ -192,6 +202,7 @@ module _ (n : ℕ) (base size : ℕ → ℕ) (P : ℕ → Type 0) (numbers : Num
   not_first false t ts k z = z
   not_first true (FromArray j) ts k z = z
   not_first true (FromPattern j) ts k z = z
+  not_first true (FromResident j g) ts k z = z
   not_first true (FromSlot j) ts k z = z
   not_first true (FromPlace p) ts k z = k.0 z
 
@@ -202,6 +213,7 @@ module _ (n : ℕ) (base size : ℕ → ℕ) (P : ℕ → Type 0) (numbers : Num
       subst (InRegister n base size P numbers rsp ground Q far aligned count some w prefix sig s) (sym (k.others (first_register ts) l ne (not_first two t ts kt))) h
   first_stays false two (FromArray j) t ts w prefix live sig c d ks kt o a ne l k h = tt
   first_stays false two (FromPattern j) t ts w prefix live sig c d ks kt o a ne l k h = tt
+  first_stays false two (FromResident j g) t ts w prefix live sig c d ks kt o a ne l k h = tt
   first_stays false two (FromPlace p) t ts w prefix live sig c d ks kt o a ne l k h =
       there_moved live sig c d (FromPlace p) k.memory (k.others (place_register p) (let x = o.0 in omega (arith, x)) (λ z. ks.1 (sym z)) (apart_not two t p a)) h
   first_stays false two (FromSlot j) t ts w prefix live sig c d ks kt o a ne l k h = there_moved live sig c d (FromSlot j) k.memory tt h
@@ -210,6 +222,7 @@ module _ (n : ℕ) (base size : ℕ → ℕ) (P : ℕ → Type 0) (numbers : Num
   second_there : (one : Bool) (s t : Source) (ts : List Target) (w prefix : ℕ) (live : ℕ → ℕ) (sig : ℕ → Local) (c d : Core) → Kept ts t → From live w prefix t → IsApart one s t → Took one (first_register ts) s c d → There live sig c t → There live sig d t
   second_there one s (FromArray j) ts w prefix live sig c d kt o a k h = tt
   second_there one s (FromPattern j) ts w prefix live sig c d kt o a k h = tt
+  second_there one s (FromResident j g) ts w prefix live sig c d kt o a k h = tt
   second_there one s (FromPlace p) ts w prefix live sig c d kt o a k h =
       there_moved live sig c d (FromPlace p) k.memory (k.others (place_register p) (let x = o.0 in omega (arith, x)) (λ z. kt.0 (sym z)) (apart_not one s p a)) h
   second_there one s (FromSlot j) ts w prefix live sig c d kt o a k h = there_moved live sig c d (FromSlot j) k.memory tt h
@@ -243,19 +256,21 @@ module _ (n : ℕ) (base size : ℕ → ℕ) (P : ℕ → Type 0) (numbers : Num
 
   -- running sums in registers keep their names
   abbrev Fixed : List ℕ → Type 0
-  Fixed names = (g : ℕ) → IsResident numbers.last g → renaming names (sum_register g) ≡ sum_register g
+  Fixed names = (g : ℕ) → IsResident numbers.last g → renaming names (resident_register g) ≡ resident_register g
 
-  fixed_take : (one : Bool) (x : ℕ) (s : Source) (names : List ℕ) → ((g : ℕ) → IsResident numbers.last g → x ≢ sum_register g) → SourceWithin numbers.last s → Fixed names → Fixed (take_names one x s names)
+  fixed_take : (one : Bool) (x : ℕ) (s : Source) (names : List ℕ) → ((g : ℕ) → IsResident numbers.last g → x ≢ resident_register g) → SourceWithin numbers.last s → Fixed names → Fixed (take_names one x s names)
   fixed_take false x (FromArray k) names clear within h = h
   fixed_take false x (FromPattern j) names clear within h = h
+  fixed_take false x (FromResident j g) names clear within h = h
   fixed_take false x (FromPlace p) names clear within h = h
   fixed_take false x (FromSlot k) names clear within h = h
   fixed_take true x (FromArray k) names clear within h = h
   fixed_take true x (FromPattern j) names clear within h = h
+  fixed_take true x (FromResident j g) names clear within h = h
   fixed_take true x (FromSlot k) names clear within h = h
   fixed_take true x (FromPlace p) names clear within h = λ g l.
-      exchanged_name x (place_register p) names (sum_register g) (omega arith)
-      ∙ ap (renaming names) (exchange_other x (place_register p) (sum_register g) (λ z. clear g l (sym z)) (λ z. omega (arith, z, l, within)))
+      exchanged_name x (place_register p) names (resident_register g) (omega arith)
+      ∙ ap (renaming names) (exchange_other x (place_register p) (resident_register g) (λ z. clear g l (sym z)) (λ z. omega (arith, z, l, within)))
       ∙ h g l
 
   pub record Opened (one two : Bool) (op : Op) (prefix : ℕ) (ts : List Target) (ss : List Source) (live : ℕ → ℕ) (sig : ℕ → Local) (names : List ℕ) (c : Core) : Type 0 where
@@ -350,7 +365,7 @@ module _ (n : ℕ) (base size : ℕ → ℕ) (P : ℕ → Type 0) (numbers : Num
         record {
           gpr = λ k ne. ap (λ g. g k) r.gpr ∙ x.2.gpr k ne;
           lanes = λ k hk q l b lb. ap (λ m. m (base k + (i + q) * size k + b)) r.memory ∙ x.2.lanes k hk q l b lb;
-          framed = framed_same numbers rsp ground.frame e d (More a sig totals) (λ y l u. ap (λ m. m y) r.memory) (λ g l. ap d.xmm (sym (fixed g l)) ∙ r.xmm (sum_register g)) x.2.framed;
+          framed = framed_same numbers rsp ground.frame e d (More a sig totals) (λ y l u. ap (λ m. m y) r.memory) (λ g l. ap d.xmm (sym (fixed g l)) ∙ r.xmm (resident_register g)) x.2.framed;
           others = λ b m s. ap (λ g. g b) r.memory ∙ x.2.others b m s;
           bounded = line_bounded Q (map (renamed (renaming names)) list) c d (each_renamed (renaming names) p.below list ins) y.1 bound;
         },
@@ -358,7 +373,7 @@ module _ (n : ℕ) (base size : ℕ → ℕ) (P : ℕ → Type 0) (numbers : Num
       )
 
   -- a whole block
-  pub named_line : (names : List ℕ) (i : ℕ) (actions : List Action) (c : Core) (first : Memory) (live : ℕ → ℕ) (sig : ℕ → Local) (totals : ℕ → ℕ) → IsPermutation names → ((g : ℕ) → IsResident numbers.last g → renaming names (sum_register g) ≡ sum_register g)
+  pub named_line : (names : List ℕ) (i : ℕ) (actions : List Action) (c : Core) (first : Memory) (live : ℕ → ℕ) (sig : ℕ → Local) (totals : ℕ → ℕ) → IsPermutation names → ((g : ℕ) → IsResident numbers.last g → renaming names (resident_register g) ≡ resident_register g)
       → AllKnown n base size P numbers live actions → AllTaken actions → Each (IsFit count size) actions → Each (λ a. Each IsIns (action_far_code count size far aligned a)) actions → i + count ≤ n → Points n base size P numbers rsp ground Q far aligned count some i c.gpr → c.gpr 4 ≡ rsp
       → Lanes n base size P i count c.memory sig → Framed numbers rsp c totals → Standing n base size P numbers rsp ground Q far aligned count some live sig (seen_as names c) → Bounded c → Rest n base size P numbers rsp ground Q far aligned count some i first c.memory → Keeps n base size P numbers rsp ground Q far aligned count some i c.gpr first
       → (d : Core) × Line Q (named_code names count size far aligned actions) c d × Left i c d first (λ q. local n base size P numbers actions (sig q)) (Added actions sig totals)

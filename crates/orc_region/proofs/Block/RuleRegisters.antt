@@ -10,7 +10,7 @@ use Rattle.x86_ins.specs.Vectors.{after}
 use Rattle.x86_ins.specs.Renaming.{renamed}
 use Rattle.x86_ins.proofs.Renamed.{after_same, after_renamed, simd_renamed}
 use Rattle.sse_acc.specs.Sums.{AddsUp, sum_of}
-use Rattle.orc_region.specs.Code.{Target, ToArray, ToSum, ToResident, ToPlace, ToSlot, place_register, sum_register, first_register, second_register, third_register, exchange, rule_register}
+use Rattle.orc_region.specs.Code.{Target, ToArray, ToSum, ToResident, ToPlace, ToSlot, place_register, resident_register, first_register, second_register, third_register, exchange, rule_register}
 
 -- ---- two registers change places
 
@@ -151,36 +151,36 @@ adds_renamed g op count rule h = record {
 -- ---- that of a running sum in a register has the sum there
 
 module _ (g : ℕ) where
-  abbrev pub resident_register : ℕ → ℕ
-  resident_register = rule_register (ToResident g ∷ [])
+  abbrev pub adding_register : ℕ → ℕ
+  adding_register = rule_register (ToResident g ∷ [])
 
-  swapped : (r : ℕ) → resident_register r ≡ exchange 2 (sum_register g) r
-  swapped r = ap (exchange 0 0) (exchange_itself 1 (exchange 2 (sum_register g) r)) ∙ exchange_itself 0 (exchange 2 (sum_register g) r)
+  swapped : (r : ℕ) → adding_register r ≡ exchange 2 (resident_register g) r
+  swapped r = ap (exchange 0 0) (exchange_itself 1 (exchange 2 (resident_register g) r)) ∙ exchange_itself 0 (exchange 2 (resident_register g) r)
 
-  pub resident_0 : resident_register 0 ≡ 0
+  pub resident_0 : adding_register 0 ≡ 0
   resident_0 = swapped 0 ∙ below_sum (ToResident g ∷ []) 0 (omega arith)
 
-  pub resident_1 : resident_register 1 ≡ 1
+  pub resident_1 : adding_register 1 ≡ 1
   resident_1 = swapped 1 ∙ below_sum (ToResident g ∷ []) 1 (omega arith)
 
-  pub resident_2 : resident_register 2 ≡ sum_register g
-  resident_2 = swapped 2 ∙ exchange_first 2 (sum_register g)
+  pub resident_2 : adding_register 2 ≡ resident_register g
+  resident_2 = swapped 2 ∙ exchange_first 2 (resident_register g)
 
-  pub resident_other : (r : ℕ) → 6 ≤ r → r ≢ sum_register g → resident_register r ≡ r
-  resident_other r l ne = swapped r ∙ exchange_other 2 (sum_register g) r (λ e. omega (arith, e, l)) ne
+  pub resident_other : (r : ℕ) → 6 ≤ r → r ≢ resident_register g → adding_register r ≡ r
+  resident_other r l ne = swapped r ∙ exchange_other 2 (resident_register g) r (λ e. omega (arith, e, l)) ne
 
   module _ (rule : List Ins) (x : ℕ → List ℕ) where
     -- the registers as the rule's own names have them
     abbrev pub seen : ℕ → List ℕ
-    seen r = x (resident_register r)
+    seen r = x (adding_register r)
 
-    after_seen : (r : ℕ) → after (map (renamed resident_register) rule) x (resident_register r) ≡ after rule seen r
-    after_seen r = after_renamed resident_register (register_one (ToResident g ∷ [])) rule x r
+    after_seen : (r : ℕ) → after (map (renamed adding_register) rule) x (adding_register r) ≡ after rule seen r
+    after_seen r = after_renamed adding_register (register_one (ToResident g ∷ [])) rule x r
 
-    pub resident_grown : after (map (renamed resident_register) rule) x (sum_register g) ≡ after rule seen 2
-    resident_grown = ap (after (map (renamed resident_register) rule) x) (sym resident_2) ∙ after_seen 2
+    pub resident_grown : after (map (renamed adding_register) rule) x (resident_register g) ≡ after rule seen 2
+    resident_grown = ap (after (map (renamed adding_register) rule) x) (sym resident_2) ∙ after_seen 2
 
-    pub resident_kept : ((y : ℕ → List ℕ) (r : ℕ) → 6 ≤ r → after rule y r ≡ y r) → (r : ℕ) → 6 ≤ r → r ≢ sum_register g → after (map (renamed resident_register) rule) x r ≡ x r
+    pub resident_kept : ((y : ℕ → List ℕ) (r : ℕ) → 6 ≤ r → after rule y r ≡ y r) → (r : ℕ) → 6 ≤ r → r ≢ resident_register g → after (map (renamed adding_register) rule) x r ≡ x r
     resident_kept keeps r l ne =
         let e = resident_other r l ne in
-        ap (after (map (renamed resident_register) rule) x) (sym e) ∙ after_seen r ∙ keeps seen r l ∙ ap x e
+        ap (after (map (renamed adding_register) rule) x) (sym e) ∙ after_seen r ∙ keeps seen r l ∙ ap x e

@@ -8,7 +8,7 @@ use Rattle.orc_ops.specs.declared.target.Target.{Target as CodeTarget}
 use Rattle.orc_ops.specs.Table.{size_of_result, size_of_source}
 use Rattle.orc_program.proofs.Sizes.{both}
 use Rattle.orc_plan.specs.declared.steps.Step.{Step}
-use Rattle.orc_region.specs.Code.{Action, Source, FromArray, FromPattern, FromPlace, FromSlot, Target, ToArray, ToSum, ToResident, ToPlace, ToSlot, slot_place, AreActions, is_from, is_to, some_from, some_to, is_free, is_last, is_beside, is_first_taken, is_second_taken}
+use Rattle.orc_region.specs.Code.{Action, Seats, Source, FromArray, FromPattern, FromResident, FromPlace, FromSlot, Target, ToArray, ToSum, ToResident, ToPlace, ToSlot, slot_place, AreActions, is_from, is_to, some_from, some_to, is_free, is_last, is_beside, is_first_taken, is_second_taken}
 use Rattle.orc_region.proofs.Block.Cells.{Numbers, live_target, live_targets, live_act, IsFrom, AreFrom, IsKnown, AllKnown}
 
 -- of these actions none reads what stands at the place: before one does, one makes a value there
@@ -22,6 +22,7 @@ MayTake false rest s = Unit {0}
 MayTake true rest (FromPlace p) = is_free_in p rest ≡ true
 MayTake true rest (FromArray k) = ⊥
 MayTake true rest (FromPattern j) = ⊥
+MayTake true rest (FromResident j g) = ⊥
 MayTake true rest (FromSlot k) = ⊥
 
 -- the other source isn't in its register
@@ -39,43 +40,44 @@ AllTaken (a ∷ rest) = AreTaken a.takes_first a.takes_second rest a.sources × 
 
 -- ---- the actions of steps
 
-free_same : (target : CodeTarget) (at : List ℕ) (count : ℕ) (steps : List Step) (actions : List Action) (p : ℕ) → AreActions target at count steps actions → is_free at p steps ≡ is_free_in p actions
-free_same target at count [] [] p is = refl
-free_same target at count [] (a ∷ rest) p is = absurd is
-free_same target at count (s ∷ steps) [] p is = absurd is
-free_same target at count (s ∷ steps) (a ∷ rest) p is =
-    ap₂ (λ x y. not x && y) (ap (some_from p) (sym is.0.0.sources)) (ap₂ (λ x y. x || y) (ap (some_to p) (sym is.0.0.to)) (free_same target at count steps rest p is.1))
+free_same : (target : CodeTarget) (seats : Seats) (count : ℕ) (steps : List Step) (actions : List Action) (p : ℕ) → AreActions target seats count steps actions → is_free seats p steps ≡ is_free_in p actions
+free_same target seats count [] [] p is = refl
+free_same target seats count [] (a ∷ rest) p is = absurd is
+free_same target seats count (s ∷ steps) [] p is = absurd is
+free_same target seats count (s ∷ steps) (a ∷ rest) p is =
+    ap₂ (λ x y. not x && y) (ap (some_from p) (sym is.0.0.sources)) (ap₂ (λ x y. x || y) (ap (some_to p) (sym is.0.0.to)) (free_same target seats count steps rest p is.1))
 
 not_yes : (b : Bool) → not b ≡ true → b ≡ false
 not_yes false h = refl
 not_yes true h = absurd (true≢false (sym h))
 
-module _ (at : List ℕ) (later : List Step) (rest : List Action) (free : (p : ℕ) → is_free at p later ≡ is_free_in p rest) where
-  may_take : (b : Bool) (s : Source) → (b ≡ true → is_last at later s ≡ true) → MayTake b rest s
+module _ (seats : Seats) (later : List Step) (rest : List Action) (free : (p : ℕ) → is_free seats p later ≡ is_free_in p rest) where
+  may_take : (b : Bool) (s : Source) → (b ≡ true → is_last seats later s ≡ true) → MayTake b rest s
   may_take false s h = tt
   may_take true (FromPlace p) h = sym (free p) ∙ h refl
   may_take true (FromArray k) h = absurd (true≢false (sym (h refl)))
   may_take true (FromPattern j) h = absurd (true≢false (sym (h refl)))
+  may_take true (FromResident j g) h = absurd (true≢false (sym (h refl)))
   may_take true (FromSlot k) h = absurd (true≢false (sym (h refl)))
 
-  of_sources : (one two : Bool) (ss : List Source) → one ≡ is_first_taken at later ss → two ≡ is_second_taken at later ss → AreTaken one two rest ss
+  of_sources : (one two : Bool) (ss : List Source) → one ≡ is_first_taken seats later ss → two ≡ is_second_taken seats later ss → AreTaken one two rest ss
   of_sources one two [] e f = tt
   of_sources one two (s ∷ []) e f = may_take one s (λ t. sym e ∙ t)
   of_sources one two (s ∷ t ∷ more) e f =
-      let x : one ≡ true → (is_last at later s ≡ true) × (not (is_beside s t) ≡ true) = λ y. both (is_last at later s) (not (is_beside s t)) (sym e ∙ y) in
-      let z : two ≡ true → (is_last at later t ≡ true) × (not (is_beside t s) ≡ true) = λ y. both (is_last at later t) (not (is_beside t s)) (sym f ∙ y) in
+      let x : one ≡ true → (is_last seats later s ≡ true) × (not (is_beside s t) ≡ true) = λ y. both (is_last seats later s) (not (is_beside s t)) (sym e ∙ y) in
+      let z : two ≡ true → (is_last seats later t ≡ true) × (not (is_beside t s) ≡ true) = λ y. both (is_last seats later t) (not (is_beside t s)) (sym f ∙ y) in
       (may_take one s (λ y. (x y).0), may_take two t (λ y. (z y).0), (λ y. not_yes (is_beside s t) (x y).1), (λ y. not_yes (is_beside t s) (z y).1))
 
-pub all_taken : (target : CodeTarget) (at : List ℕ) (count : ℕ) (steps : List Step) (actions : List Action) → AreActions target at count steps actions → AllTaken actions
-all_taken target at count [] [] is = tt
-all_taken target at count [] (a ∷ rest) is = absurd is
-all_taken target at count (s ∷ steps) [] is = absurd is
-all_taken target at count (s ∷ steps) (a ∷ rest) is =
-    (of_sources at steps rest (λ p. free_same target at count steps rest p is.1) a.takes_first a.takes_second a.sources is.0.1.first is.0.1.second, all_taken target at count steps rest is.1)
+pub all_taken : (target : CodeTarget) (seats : Seats) (count : ℕ) (steps : List Step) (actions : List Action) → AreActions target seats count steps actions → AllTaken actions
+all_taken target seats count [] [] is = tt
+all_taken target seats count [] (a ∷ rest) is = absurd is
+all_taken target seats count (s ∷ steps) [] is = absurd is
+all_taken target seats count (s ∷ steps) (a ∷ rest) is =
+    (of_sources seats steps rest (λ p. free_same target seats count steps rest p is.1) a.takes_first a.takes_second a.sources is.0.1.first is.0.1.second, all_taken target seats count steps rest is.1)
 
 -- ---- what is known of places that nothing reads
 
--- a change at another place
+-- a change seats another place
 target_same : (live less : ℕ → ℕ) (t : Target) (bytes p : ℕ) → less p ≡ live p → live_target less t bytes p ≡ live_target live t bytes p
 target_same live less (ToArray k) bytes p e = e
 target_same live less (ToSum g) bytes p e = e
@@ -127,6 +129,7 @@ forget false s live = live
 forget true (FromPlace p) live = change live p 0
 forget true (FromArray k) live = live
 forget true (FromPattern j) live = live
+forget true (FromResident j g) live = live
 forget true (FromSlot k) live = live
 
 abbrev pub forget_all : Bool → Bool → List Source → (ℕ → ℕ) → ℕ → ℕ
@@ -139,6 +142,7 @@ forgot false rest s live p m = inl refl
 forgot true rest (FromPlace q) live p m = ⊎_elim (λ e. inr (subst (λ k. is_free_in k rest ≡ true) (sym e) m)) (λ ne. inl (change_other live q 0 p ne)) (cases_eq p q)
 forgot true rest (FromArray k) live p m = absurd m
 forgot true rest (FromPattern j) live p m = absurd m
+forgot true rest (FromResident j g) live p m = absurd m
 forgot true rest (FromSlot k) live p m = absurd m
 
 forgot_all : (one two : Bool) (rest : List Action) (ss : List Source) (live : ℕ → ℕ) (p : ℕ) → AreTaken one two rest ss → (forget_all one two ss live p ≡ live p) ⊎ (is_free_in p rest ≡ true)
@@ -151,6 +155,7 @@ module _ (n : ℕ) (base size : ℕ → ℕ) (P : ℕ → Type 0) (numbers : Num
   from_less : (live less : ℕ → ℕ) (w prefix : ℕ) (s : Source) → ((p : ℕ) → is_from p s ≡ true → less p ≡ live p) → IsFrom n base size P numbers live w prefix s → IsFrom n base size P numbers less w prefix s
   from_less live less w prefix (FromArray k) h o = o
   from_less live less w prefix (FromPattern j) h o = o
+  from_less live less w prefix (FromResident j g) h o = o
   from_less live less w prefix (FromPlace p) h o = (o.0, h p (eq_true p) ∙ o.1)
   from_less live less w prefix (FromSlot k) h o = (o.0, h (slot_place k) (eq_true (slot_place k)) ∙ o.1)
 

@@ -19,7 +19,7 @@ use Rattle.orc_frame.specs.Layout.{pattern_slot, sum_slot, frame_size, spill_slo
 use Rattle.orc_ops.specs.declared.opcode.Op.{Op}
 use Rattle.orc_ops.specs.Table.{size_of_result, size_of_source}
 use Rattle.orc_region.specs.Stores.{IsMovdquStore}
-use Rattle.orc_region.specs.Code.{Action, IsRule, Source, FromArray, FromPattern, FromPlace, FromSlot, Target, ToArray, ToSum, ToResident, ToPlace, ToSlot, pointer, first_register, second_register, rule_register, rule_code, source_far_code, brought, sources_far_code, sum_code, result_far_code, results_far_code, own_names, action_names, action_far_code, named_code, actions_far_code}
+use Rattle.orc_region.specs.Code.{Action, IsRule, Source, FromArray, FromPattern, FromResident, FromPlace, FromSlot, Target, ToArray, ToSum, ToResident, ToPlace, ToSlot, pointer, first_register, second_register, rule_register, rule_code, source_far_code, brought, sources_far_code, sum_code, result_far_code, results_far_code, own_names, action_names, action_far_code, named_code, actions_far_code}
 use Rattle.orc_region.proofs.Arithmetic.Digits.{byte_split, byte_further}
 use Rattle.orc_region.proofs.Block.Cells.{Numbers, Low, IsFrom, AreFrom, IsMade, AreTo, IsKnown, AllKnown, live_act}
 use Rattle.orc_region.proofs.Sizes.Bytes.{vectors_of, each_brought}
@@ -198,6 +198,7 @@ module _ (n : ℕ) (base size : ℕ → ℕ) (P : ℕ → Type 0) (numbers : Num
       to_cells i (inl h) = inl h
       to_cells i (inr h) = inr (inr (k, record { array = o.array; some = o.some; few = width_few (count * size k) wide; by = h.0; stores = λ m. absurd (h.1 m) }))
   source_goes live w prefix x (FromPattern j) o wide = (inr (inl (pattern_slot j, omega (arith, o.0, few_patterns), (refl, λ u. refl))), tt)
+  source_goes live w prefix x (FromResident j g) o wide = (inl ((refl, λ u. refl)), tt)
   source_goes live w prefix x (FromPlace p) o wide = (inl ((refl, λ u. refl)), tt)
   source_goes live w prefix x (FromSlot k) o wide = (inr (inl (spill_slot k, (let l = o.0 in omega (arith, l)), (refl, λ u. refl))), tt)
 

@@ -1,6 +1,7 @@
 -- Lists that grow by one instruction, by a rule or by an action.
 use Rattle.std.proofs.Common.{◌≡◌, ℕ, suc, ◌+◌, ◌-◌, ◌*◌, ◌<◌, ◌≤◌, Bool, true, false, pos, List, [], ◌∷◌, ◌++◌, length, map, take, drop, get_or, slice_index, Result, Ok, Err, OnOk, refl, sym, ap, ap₂, ◌∙◌, subst, arith, append_assoc}
 use Rattle.std.proofs.lemmas.List.{take_all}
+use Rattle.x86_ins.specs.declared.ins.Addr.{Addr}
 use Rattle.x86_ins.specs.declared.ins.AluOp.TheVariants.{Add, Sub}
 use Rattle.x86_ins.specs.declared.ins.Ins.{Ins}
 use Rattle.x86_ins.specs.declared.ins.Ins.TheVariants.{AluImm}
@@ -8,6 +9,7 @@ use Rattle.x86_ins.specs.Renaming.{renamed, renaming}
 use Rattle.x86_ins.specs.Spelling.{IsIns}
 use Rattle.x86_ins.specs.Way.{Each}
 use Rattle.x86_ins.proofs.Renamed.{renamed_alike}
+use Rattle.x86_flow.specs.Moves.{away}
 use Rattle.orc_ops.specs.declared.opcode.Op.{Op}
 use Rattle.orc_ops.specs.declared.target.Target.{Target as CodeTarget}
 use Rattle.orc_ops.specs.Table.{row}
@@ -18,7 +20,7 @@ use Rattle.sse_acc.specs.Sums.{AddsUp}
 use Rattle.orc_plan.specs.declared.steps.Item.{Item}
 use Rattle.orc_plan.specs.declared.steps.Step.{Step}
 use Rattle.orc_region.specs.declared.span.Span.{Span}
-use Rattle.orc_region.specs.Code.{Action, Source, Target, AreBlocks, IsBlocksTurn, used_from, AddsRule, AddsAction, AddsNamed, is_first_taken, is_second_taken, source_names, action_names, named_code, pointer, far_by, aligned_first, source_of, target_of, first_register, second_register, third_register, exchange, rule_register, rule_code, sources_far_code, sum_code, results_far_code, action_far_code, advance_code}
+use Rattle.orc_region.specs.Code.{Action, Seats, loads_code, resident_load_code, Source, Target, AreBlocks, IsBlocksTurn, used_from, AddsRule, AddsAction, AddsNamed, is_first_taken, is_second_taken, source_names, action_names, named_code, pointer, far_by, aligned_first, source_of, target_of, first_register, second_register, third_register, exchange, rule_register, rule_code, sources_far_code, sum_code, results_far_code, action_far_code, advance_code}
 
 -- what follows from a fact of a success
 pub on_ok : {A E : Type 0} (r : Result A E) (P Q : Type 0) → (P → Q) → OnOk r P → OnOk r Q
@@ -41,6 +43,13 @@ advances_more base c d size count first n i p q e =
     grown base c d (advance_code size count first n) (AluImm Add (pointer (first + n)) (pos (count * size (first + n)))) p (q ∙ ap (λ x. c ++ x ∷ []) e)
     ∙ ap (λ k. base ++ advance_code size count first k) (next n)
 
+-- one more load at the end of a list
+pub loads_more : (base c d : List Ins) (at : List ℕ) (number slot : ℕ → ℕ) (n g : ℕ) (from : Addr) → c ≡ base ++ loads_code at number slot n → d ≡ c ++ resident_load_code at g from → g ≡ number n → from ≡ away 4 (slot n) → d ≡ base ++ loads_code at number slot (n + 1)
+loads_more base c d at number slot n g from p q e f =
+    let load = resident_load_code at (number n) (away 4 (slot n)) in
+    let is : d ≡ c ++ load = q ∙ ap₂ (λ k a. c ++ resident_load_code at k a) e f in
+    is ∙ ap (λ l. l ++ load) p ∙ append_assoc base (loads_code at number slot n) load ∙ ap (λ k. base ++ loads_code at number slot k) (next n)
+
 -- blocks, and what moves the pointers and the counter on, make a turn; `inner` are the sizes as they are read
 pub turn_built : (Are : List Action → Type 0) (count : ℕ) (aligned : ℕ → Bool) (b : ℕ) (sizes inner : List ℕ) → inner ≡ sizes → (blocks l1 l2 l3 : List Ins) (dests sources : ℕ) → AreBlocks Are count (slice_index sizes) aligned b blocks
     → l1 ≡ blocks ++ advance_code (slice_index inner) (b * count) 0 dests → dests ≡ used_from (slice_index inner) 0 4 → l2 ≡ l1 ++ advance_code (slice_index inner) (b * count) 4 sources → sources ≡ used_from (slice_index inner) 4 8 → l3 ≡ l2 ++ AluImm Sub 1 (pos (b * count)) ∷ []
@@ -58,10 +67,10 @@ turn_built Are count aligned b sizes inner same blocks l1 l2 l3 dests sources ar
 
 module _ (size : ℕ → ℕ) (span : Span) where
   -- an instruction's code under its names, and that of the instructions after it
-  pub named_more : (at names mine : List ℕ) (step : Step) (later : List Step) (one two : Bool) (x y : ℕ) (sources : List Source) (results : List Target) (own base c d : List Ins) → sources ≡ map (source_of at) step.sources.items → results ≡ map (target_of at) step.results.items
-      → one ≡ is_first_taken at later sources → two ≡ is_second_taken at later sources → x ≡ first_register results → y ≡ second_register results → mine ≡ source_names one two x y sources names
-      → AddsAction at size span step one two [] own → c ≡ base ++ map (renamed (renaming mine)) own → AddsNamed mine at size span later c d → AddsNamed names at size span (step ∷ later) base d
-  named_more at names mine step later one two x y sources results own base c d es er first second ex ey is action grown rest =
+  pub named_more : (seats : Seats) (names mine : List ℕ) (step : Step) (later : List Step) (one two : Bool) (x y : ℕ) (sources : List Source) (results : List Target) (own base c d : List Ins) → sources ≡ map (source_of seats) step.sources.items → results ≡ map (target_of seats.places) step.results.items
+      → one ≡ is_first_taken seats later sources → two ≡ is_second_taken seats later sources → x ≡ first_register results → y ≡ second_register results → mine ≡ source_names one two x y sources names
+      → AddsAction seats size span step one two [] own → c ≡ base ++ map (renamed (renaming mine)) own → AddsNamed mine seats size span later c d → AddsNamed names seats size span (step ∷ later) base d
+  named_more seats names mine step later one two x y sources results own base c d es er first second ex ey is action grown rest =
       let a = action.0 in
       let from : a.sources ≡ sources = action.1.sources ∙ sym es in
       let to : a.to ≡ results = action.1.to ∙ sym er in
@@ -73,20 +82,20 @@ module _ (size : ℕ → ℕ) (span : Span) where
       ∙ sym is in
       let after : List ℕ → List Ins = λ ns. named_code ns span.count size (far_by span.first size) (aligned_first span.aligned) rest.0 in (
         a ∷ rest.0,
-        ((action.1, record { first = action.2 ∙ first ∙ ap (is_first_taken at later) (sym from); second = action.3 ∙ second ∙ ap (is_second_taken at later) (sym from) }), rest.1),
+        ((action.1, record { first = action.2 ∙ first ∙ ap (is_first_taken seats later) (sym from); second = action.3 ∙ second ∙ ap (is_second_taken seats later) (sym from) }), rest.1),
         rest.2 ∙ ap (λ l. l ++ after mine) grown ∙ append_assoc base (map (renamed (renaming mine)) own) (after mine)
             ∙ ap₂ (λ (l : List Ins) (ns : List ℕ). base ++ (map (renamed (renaming ns)) l ++ after ns)) action.4 (sym same),
       )
 
   -- where the first step and those after it are read from a slice
-  pub named_slice : (at names mine : List ℕ) (steps : List Step) (step : Step) (later : List Step) (one two : Bool) (x y : ℕ) (sources results : List Item) (none own slice base c d : List Ins) → 1 ≤ length steps → step ≡ get_or steps 0 step → later ≡ take (length steps - 1) (drop 1 steps) → sources ≡ step.sources.items → results ≡ step.results.items
-      → one ≡ is_first_taken at later (map (source_of at) sources) → two ≡ is_second_taken at later (map (source_of at) sources) → x ≡ first_register (map (target_of at) results) → y ≡ second_register (map (target_of at) results) → mine ≡ source_names one two x y (map (source_of at) sources) names
-      → none ≡ [] → AddsAction at size span step one two none own → slice ≡ own → c ≡ base ++ map (renamed (renaming mine)) slice → AddsNamed mine at size span later c d → AddsNamed names at size span steps base d
-  named_slice at names mine [] step later one two x y sources results none own slice base c d some is rest es er first second ex ey named empty action same grown after = absurd (omega (arith, some))
-  named_slice at names mine (s ∷ steps) step later one two x y sources results none own slice base c d some is rest es er first second ex ey named empty action same grown after =
+  pub named_slice : (seats : Seats) (names mine : List ℕ) (steps : List Step) (step : Step) (later : List Step) (one two : Bool) (x y : ℕ) (sources results : List Item) (none own slice base c d : List Ins) → 1 ≤ length steps → step ≡ get_or steps 0 step → later ≡ take (length steps - 1) (drop 1 steps) → sources ≡ step.sources.items → results ≡ step.results.items
+      → one ≡ is_first_taken seats later (map (source_of seats) sources) → two ≡ is_second_taken seats later (map (source_of seats) sources) → x ≡ first_register (map (target_of seats.places) results) → y ≡ second_register (map (target_of seats.places) results) → mine ≡ source_names one two x y (map (source_of seats) sources) names
+      → none ≡ [] → AddsAction seats size span step one two none own → slice ≡ own → c ≡ base ++ map (renamed (renaming mine)) slice → AddsNamed mine seats size span later c d → AddsNamed names seats size span steps base d
+  named_slice seats names mine [] step later one two x y sources results none own slice base c d some is rest es er first second ex ey named empty action same grown after = absurd (omega (arith, some))
+  named_slice seats names mine (s ∷ steps) step later one two x y sources results none own slice base c d some is rest es er first second ex ey named empty action same grown after =
       let whole : step ∷ later ≡ s ∷ steps = ap₂ (λ (a : Step) (b : List Step). a ∷ b) is (rest ∙ take_all (length (s ∷ steps) - 1) steps (omega arith)) in
-      subst (λ l. AddsNamed names at size span l base d) whole
-      (named_more at names mine step later one two x y (map (source_of at) sources) (map (target_of at) results) own base c d (ap (map (source_of at)) es) (ap (map (target_of at)) er) first second ex ey named (subst (λ l. AddsAction at size span step one two l own) empty action) (grown ∙ ap (λ l. base ++ map (renamed (renaming mine)) l) same) after)
+      subst (λ l. AddsNamed names seats size span l base d) whole
+      (named_more seats names mine step later one two x y (map (source_of seats) sources) (map (target_of seats.places) results) own base c d (ap (map (source_of seats)) es) (ap (map (target_of seats.places)) er) first second ex ey named (subst (λ l. AddsAction seats size span step one two l own) empty action) (grown ∙ ap (λ l. base ++ map (renamed (renaming mine)) l) same) after)
 
   -- four lists at the end of one
   four : (base a b c d c1 c2 c3 c4 : List Ins) → c1 ≡ base ++ a → c2 ≡ c1 ++ b → c3 ≡ c2 ++ c → c4 ≡ c3 ++ d → c4 ≡ base ++ (a ++ (b ++ (c ++ d)))
@@ -94,11 +103,11 @@ module _ (size : ℕ → ℕ) (span : Span) where
       h4 ∙ ap (λ l. l ++ d) (h3 ∙ ap (λ l. l ++ c) (h2 ∙ ap (λ l. l ++ b) h1)) ∙ append_assoc ((base ++ a) ++ b) c d ∙ append_assoc (base ++ a) b (c ++ d) ∙ append_assoc base a (b ++ (c ++ d))
 
   -- sources, a sum, a rule and results make an action
-  pub action_added : (at : List ℕ) (step : Step) (one two : Bool) (x y : ℕ) (base c1 c2 c3 c4 : List Ins) → x ≡ first_register (map (target_of at) step.results.items) → y ≡ second_register (map (target_of at) step.results.items)
-      → c1 ≡ base ++ sources_far_code one two span.count size (far_by span.first size) x y (map (source_of at) step.sources.items) → c2 ≡ c1 ++ sum_code (map (target_of at) step.results.items) → AddsRule span.target span.count step.op (map (target_of at) step.results.items) c2 c3
-      → c4 ≡ c3 ++ results_far_code span.count size (far_by span.first size) (aligned_first span.aligned) (map (target_of at) step.results.items) → AddsAction at size span step one two base c4
-  action_added at step one two x y base c1 c2 c3 c4 ex ey p q r t =
-      let a : Action = record { op = step.op; prefix = step.prefix; to = map (target_of at) step.results.items; sources = map (source_of at) step.sources.items; rule = r.0; takes_first = one; takes_second = two } in
+  pub action_added : (seats : Seats) (step : Step) (one two : Bool) (x y : ℕ) (base c1 c2 c3 c4 : List Ins) → x ≡ first_register (map (target_of seats.places) step.results.items) → y ≡ second_register (map (target_of seats.places) step.results.items)
+      → c1 ≡ base ++ sources_far_code one two span.count size (far_by span.first size) x y (map (source_of seats) step.sources.items) → c2 ≡ c1 ++ sum_code (map (target_of seats.places) step.results.items) → AddsRule span.target span.count step.op (map (target_of seats.places) step.results.items) c2 c3
+      → c4 ≡ c3 ++ results_far_code span.count size (far_by span.first size) (aligned_first span.aligned) (map (target_of seats.places) step.results.items) → AddsAction seats size span step one two base c4
+  action_added seats step one two x y base c1 c2 c3 c4 ex ey p q r t =
+      let a : Action = record { op = step.op; prefix = step.prefix; to = map (target_of seats.places) step.results.items; sources = map (source_of seats) step.sources.items; rule = r.0; takes_first = one; takes_second = two } in
       let loads : c1 ≡ base ++ sources_far_code one two span.count size (far_by span.first size) (first_register a.to) (second_register a.to) a.sources = p ∙ ap₂ (λ x y. base ++ sources_far_code one two span.count size (far_by span.first size) x y a.sources) ex ey in (
         a,
         record { op = refl; prefix = refl; to = refl; sources = refl; rule = r.1; few = r.2; for_target = r.3 },
@@ -108,12 +117,12 @@ module _ (size : ℕ → ℕ) (span : Span) where
       )
 
   -- the same where operands are read as slices
-  pub action_of_slices : (at : List ℕ) (step : Step) (one two : Bool) (rs ss : List Item) → rs ≡ step.results.items → ss ≡ step.sources.items → (x y : ℕ) (base c1 c2 c3 c4 : List Ins) → x ≡ first_register (map (target_of at) rs) → y ≡ second_register (map (target_of at) rs)
-      → c1 ≡ base ++ sources_far_code one two span.count size (far_by span.first size) x y (map (source_of at) ss) → c2 ≡ c1 ++ sum_code (map (target_of at) rs) → AddsRule span.target span.count step.op (map (target_of at) rs) c2 c3
-      → c4 ≡ c3 ++ results_far_code span.count size (far_by span.first size) (aligned_first span.aligned) (map (target_of at) rs) → AddsAction at size span step one two base c4
-  action_of_slices at step one two rs ss er es x y base c1 c2 c3 c4 ex ey p q r t =
-      let to : map (target_of at) rs ≡ map (target_of at) step.results.items = ap (map (target_of at)) er in
-      action_added at step one two x y base c1 c2 c3 c4 (ex ∙ ap first_register to) (ey ∙ ap second_register to) (p ∙ ap (λ xs. base ++ sources_far_code one two span.count size (far_by span.first size) x y (map (source_of at) xs)) es)
+  pub action_of_slices : (seats : Seats) (step : Step) (one two : Bool) (rs ss : List Item) → rs ≡ step.results.items → ss ≡ step.sources.items → (x y : ℕ) (base c1 c2 c3 c4 : List Ins) → x ≡ first_register (map (target_of seats.places) rs) → y ≡ second_register (map (target_of seats.places) rs)
+      → c1 ≡ base ++ sources_far_code one two span.count size (far_by span.first size) x y (map (source_of seats) ss) → c2 ≡ c1 ++ sum_code (map (target_of seats.places) rs) → AddsRule span.target span.count step.op (map (target_of seats.places) rs) c2 c3
+      → c4 ≡ c3 ++ results_far_code span.count size (far_by span.first size) (aligned_first span.aligned) (map (target_of seats.places) rs) → AddsAction seats size span step one two base c4
+  action_of_slices seats step one two rs ss er es x y base c1 c2 c3 c4 ex ey p q r t =
+      let to : map (target_of seats.places) rs ≡ map (target_of seats.places) step.results.items = ap (map (target_of seats.places)) er in
+      action_added seats step one two x y base c1 c2 c3 c4 (ex ∙ ap first_register to) (ey ∙ ap second_register to) (p ∙ ap (λ xs. base ++ sources_far_code one two span.count size (far_by span.first size) x y (map (source_of seats) xs)) es)
       (q ∙ ap (λ ts. c1 ++ sum_code ts) to) (subst (λ ts. AddsRule span.target span.count step.op ts c2 c3) to r) (t ∙ ap (λ ts. c3 ++ results_far_code span.count size (far_by span.first size) (aligned_first span.aligned) ts) to)
 
 -- ---- a rule under other names

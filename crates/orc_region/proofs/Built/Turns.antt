@@ -24,10 +24,11 @@ use Rattle.orc_plan.specs.Places.{GoodPlaces, PlacedValue}
 use Rattle.orc_frame.specs.declared.frame.Layout.{Layout}
 use Rattle.orc_frame.specs.Frame.{IsLayout}
 use Rattle.orc_frame.specs.Layout.{layout_of}
-use Rattle.orc_region.specs.Code.{IsReady, IsBlock, IsBlockBy, IsTurnBy, IsTurnOf, AreWholeTurns, used_from, Turns, AreFromFirst, AreFromBoundary, IsElements, span_of, shift_of, is_filled, fills, blocks_of, turns_flow, from_first, from_boundary, elements_flow, elements_of}
+use Rattle.orc_region.specs.Code.{Seats, seats_with, seats_of, IsReady, IsBlock, IsBlockBy, IsTurnBy, IsTurnOf, AreWholeTurns, used_from, Turns, AreFromFirst, AreFromBoundary, IsElements, span_of, shift_of, is_filled, fills, blocks_of, turns_flow, from_first, from_boundary, elements_flow, elements_of}
 use Rattle.orc_region.specs.Elements.{AreOf, DoesElements}
 use Rattle.orc_region.specs.Regions.{aligned_row, whole_row, plain_row, tested_row, wide_loop, wide_loops}
 use Rattle.orc_region.proofs.Built.Slots.{first_there, used_dests, used_sources}
+use Rattle.orc_region.proofs.Calls.Setting.{sums_count}
 use Rattle.orc_region.proofs.Calls.Blocks.{does_elements}
 use Rattle.orc_region.proofs.Turn.Blocks.{block_is, block_spelled}
 use Rattle.orc_region.proofs.Checked.Fits.{slot_sized}
@@ -46,9 +47,15 @@ lanes_few f h n e = (let few = (lanes_count f h).most in omega (arith, e, few))
 -- ---- turns
 
 -- by the views of what is handed over
-pub ready_slices : (l : Layout) (count : ℕ) (at sizes sizes' : List ℕ) (steps steps' : List Step) → sizes' ≡ sizes → steps' ≡ steps → All (IsReady l at (slice_index sizes) count) steps → All (IsReady l at (slice_index sizes') count) steps'
-ready_slices l count at sizes sizes' steps steps' b c h =
-    subst (λ xs. All (IsReady l at (slice_index sizes') count) xs) (sym c) (subst (λ xs. All (IsReady l at (slice_index xs) count) steps) (sym b) h)
+pub ready_slices : (l : Layout) (count : ℕ) (seats seats' : Seats) (sizes sizes' : List ℕ) (steps steps' : List Step) → seats' ≡ seats → sizes' ≡ sizes → steps' ≡ steps → All (IsReady l seats (slice_index sizes) count) steps → All (IsReady l seats' (slice_index sizes') count) steps'
+ready_slices l count seats seats' sizes sizes' steps steps' a b c h =
+    subst (λ xs. All (IsReady l seats' (slice_index sizes') count) xs) (sym c) (subst (λ xs. All (IsReady l seats' (slice_index xs) count) steps) (sym b) (subst (λ at. All (IsReady l at (slice_index sizes) count) steps) (sym a) h))
+
+-- a layout's sums are the function's
+seats_are : (f : FunctionValue) (l : Layout) → l ≡ layout_of f → (at : List ℕ) → seats_with l at ≡ seats_of f at
+seats_are f l e at =
+    let behind : ℕ → Seats = λ n. record { places = at; sums = n } in
+    ap behind (ap (λ (y : Layout). length y.acc_sizes.items) e ∙ sums_count f)
 
 some_factor : (count s : ℕ) → count * s ≡ 16 → 0 < s
 some_factor count zero e = absurd (omega (arith, e))
@@ -84,26 +91,30 @@ module _ (f : FunctionValue) (at sizes : List ℕ) (steps : List Step) (x : Lowe
     pub count_few : count ≤ 16
     count_few = several.most
 
-    pub ready : (l : Layout) → l ≡ layout_of f → All (IsReady l at (slice_index sizes) count) steps
+    pub ready : (l : Layout) → l ≡ layout_of f → All (IsReady l (seats_with l at) (slice_index sizes) count) steps
     ready l e =
-        subst (λ y. All (IsReady y at (slice_index sizes) count) steps) (sym e)
-        (ready_slices (layout_of f) count at (sizes_of f) sizes (steps_of f) steps x.sizes_are x.steps_are (ready_is f x.kept at good count several))
+        subst (λ y. All (IsReady y (seats_with y at) (slice_index sizes) count) steps) (sym e)
+        (ready_slices (layout_of f) count (seats_of f at) (seats_with (layout_of f) at) (sizes_of f) sizes (steps_of f) steps (seats_are f (layout_of f) refl at) x.sizes_are x.steps_are (ready_is f x.kept at good count several))
 
-    pub turn_of : (target : CodeTarget) (aligned : Bool) (b : ℕ) (list : List Ins) → IsTurnBy at sizes steps (used_from (slice_index sizes) 0 4) (used_from (slice_index sizes) 4 8) (span_of target count aligned) b list → IsTurnOf f target at count aligned b list
-    turn_of target aligned b list t =
+    pub turn_of : (l : Layout) → l ≡ layout_of f → (target : CodeTarget) (aligned : Bool) (b : ℕ) (list : List Ins) → IsTurnBy (seats_with l at) sizes steps (used_from (slice_index sizes) 0 4) (used_from (slice_index sizes) 4 8) (span_of target count aligned) b list → IsTurnOf f target at count aligned b list
+    turn_of l e target aligned b list t =
+        let seats = seats_of f at in
         let dests = used_from (slice_index sizes) 0 4 in
         let sources = used_from (slice_index sizes) 4 8 in
         turn_is f x.kept at good count several target aligned b list
-        (subst (λ n. IsTurnBy at (sizes_of f) (steps_of f) (count_of kind.Dest f.vars) n (span_of target count aligned) b list) (used_sources f x.kept sizes x.sizes_are)
-        (subst (λ n. IsTurnBy at (sizes_of f) (steps_of f) n sources (span_of target count aligned) b list) (used_dests f x.kept sizes x.sizes_are)
-        (subst (λ xs. IsTurnBy at (sizes_of f) xs dests sources (span_of target count aligned) b list) x.steps_are
-        (subst (λ xs. IsTurnBy at xs steps dests sources (span_of target count aligned) b list) x.sizes_are t))))
+        (subst (λ n. IsTurnBy seats (sizes_of f) (steps_of f) (count_of kind.Dest f.vars) n (span_of target count aligned) b list) (used_sources f x.kept sizes x.sizes_are)
+        (subst (λ n. IsTurnBy seats (sizes_of f) (steps_of f) n sources (span_of target count aligned) b list) (used_dests f x.kept sizes x.sizes_are)
+        (subst (λ xs. IsTurnBy seats (sizes_of f) xs dests sources (span_of target count aligned) b list) x.steps_are
+        (subst (λ xs. IsTurnBy seats xs steps dests sources (span_of target count aligned) b list) x.sizes_are
+        (subst (λ y. IsTurnBy y sizes steps dests sources (span_of target count aligned) b list) (seats_are f l e at) t)))))
 
-    pub block_of : (target : CodeTarget) (aligned : Bool) (list : List Ins) → IsBlockBy at sizes steps (span_of target count aligned) list → IsBlock f target at count aligned list
-    block_of target aligned list t =
+    pub block_of : (l : Layout) → l ≡ layout_of f → (target : CodeTarget) (aligned : Bool) (list : List Ins) → IsBlockBy (seats_with l at) sizes steps (span_of target count aligned) list → IsBlock f target at count aligned list
+    block_of l e target aligned list t =
+        let seats = seats_of f at in
         block_is f x.kept at good count several aligned target list
-        (subst (λ xs. IsBlockBy at (sizes_of f) xs (span_of target count aligned) list) x.steps_are
-        (subst (λ xs. IsBlockBy at xs steps (span_of target count aligned) list) x.sizes_are t))
+        (subst (λ xs. IsBlockBy seats (sizes_of f) xs (span_of target count aligned) list) x.steps_are
+        (subst (λ xs. IsBlockBy seats xs steps (span_of target count aligned) list) x.sizes_are
+        (subst (λ y. IsBlockBy y sizes steps (span_of target count aligned) list) (seats_are f l e at) t)))
 
     pub block_spelled_of : (target : CodeTarget) (aligned : Bool) (list : List Ins) → IsBlock f target at count aligned list → All (λ i. IsTrue (has_spelling i)) list
     block_spelled_of target aligned list t = block_spelled f x.kept at good count several aligned target list t

@@ -1,5 +1,5 @@
 -- What a core inside a good call holds, by the layout of the function, and by the patterns and running sums of its code.
-use Rattle.std.proofs.Common.{◌≡◌, ℕ, ◌*◌, ◌<◌, true, true≢false, List, length, get_or, slice_index, Some, refl, sym, ap, ap₂, ◌∙◌, subst, arith}
+use Rattle.std.proofs.Common.{◌≡◌, ℕ, ◌+◌, ◌*◌, ◌<◌, true, true≢false, List, length, get_or, slice_index, Some, refl, sym, ap, ap₂, ◌∙◌, subst, arith}
 use Rattle.orc_bits.specs.Memory.{IsMapped}
 use Rattle.orc_bits.specs.Numbers.{cut}
 use Rattle.orc_program.specs.declared.program.VarKind.{VarKind}
@@ -22,7 +22,11 @@ use Rattle.orc_frame.specs.GoodCall.{GoodCall, lowered}
 use Rattle.orc_frame.specs.Function.{subject_of}
 use Rattle.orc_frame.proofs.Facts.{Facts, facts}
 use Rattle.orc_frame.proofs.Fills.{IsKnown}
-use Rattle.orc_region.specs.Elements.{Holds}
+use Rattle.orc_region.specs.Code.{last_place, is_resident, resident_register}
+use Rattle.orc_region.specs.Elements.{Holds, pattern_resident}
+use Rattle.orc_program.specs.Need.{registers}
+use Rattle.std.proofs.lemmas.Bool.{ltb-true}
+use Rattle.orc_region.proofs.Block.Sums.{resident_yes}
 use Rattle.orc_region.proofs.Block.Frames.{Framed}
 use Rattle.orc_region.proofs.Block.Elements.{Agrees}
 use Rattle.orc_region.proofs.Checked.Direct.{pattern_of, number_of}
@@ -83,6 +87,10 @@ module _ (f : FunctionValue) (is : is_function f ≡ true) (known : Arrays f) (c
     pub framed_in : Framed (numbers f is known code s args back good at) (lowered s.core) c totals_in
     framed_in = record {
       patterns = λ j l b lb. h.patterns j (subst (λ ps. j < length ps) (sym (patterns_are f)) l) b lb ∙ ap Some (pattern_same j l b);
+      residents = λ j l r b lb.
+          let count = sums_count f in
+          let stands : is_resident (last_place at) (pattern_resident f j) ≡ true = ap (λ n. is_resident (last_place at) (n + j)) count ∙ resident_yes (last_place at) (count_of kind.Accumulator f.vars + j) r in
+          ap (λ n. get_or (c.xmm (resident_register (n + j))) b 0) (sym count) ∙ h.residents j (subst (λ ps. j < length ps) (sym (patterns_are f)) l) stands b lb ∙ pattern_same j l b;
       running = h.running;
       bytes = h.bytes;
       sums = λ g l b lb. h.sums g (omega (arith, l, sums_count f)) b lb;
@@ -109,6 +117,11 @@ module _ (f : FunctionValue) (is : is_function f ≡ true) (known : Arrays f) (c
     agree = agree;
     mapped = mapped;
     patterns = λ j l b lb. let within : j < length (patterns_of f.vars f.insns) = subst (λ ps. j < length ps) (patterns_are f) l in framed.patterns j within b lb ∙ ap Some (sym (pattern_same j within b));
+    residents = λ j l y b lb.
+        let within : j < length (patterns_of f.vars f.insns) = subst (λ ps. j < length ps) (patterns_are f) l in
+        let count = sums_count f in
+        let stands = ltb-true (last_place at + (count_of kind.Accumulator f.vars + j) + 1) registers (ap (λ n. is_resident (last_place at) (n + j)) (sym count) ∙ y) in
+        ap (λ n. get_or (c.xmm (resident_register (n + j))) b 0) count ∙ framed.residents j within stands b lb ∙ sym (pattern_same j within b);
     running = framed.running;
     bytes = framed.bytes;
     sums = λ g l b lb. framed.sums g (omega (arith, l, sums_count f)) b lb;

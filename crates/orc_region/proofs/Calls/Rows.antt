@@ -31,7 +31,7 @@ use Rattle.orc_frame.specs.Parts.{InFrame, InChanged}
 use Rattle.orc_frame.specs.Subject.{Call as Arguments, IsArray, rows, cell}
 use Rattle.orc_frame.specs.GoodCall.{GoodCall, lowered}
 use Rattle.orc_frame.specs.Function.{IsCellByte, subject_of}
-use Rattle.orc_region.specs.Code.{Action, Plan, AreActions, IsTurnOf, Turns, IsElements, plan_with, aligned_first, shift_of, is_filled, blocks_of, turns_flow, from_first, from_boundary, fills, elements_flow, elements_of}
+use Rattle.orc_region.specs.Code.{Action, Plan, AreActions, seats_of, IsTurnOf, Turns, IsElements, plan_with, aligned_first, shift_of, is_filled, blocks_of, turns_flow, from_first, from_boundary, fills, elements_flow, elements_of}
 use Rattle.orc_region.specs.Elements.{meant_call, HasCome, Holds, PointsAt, InElements, IsDest, IsQuiet, IsAlone, DoesRow, arrays_of}
 use Rattle.orc_region.proofs.Block.Cells.{OfDests}
 use Rattle.orc_region.proofs.Block.Emulated.{state}
@@ -127,7 +127,7 @@ module _ {target : CodeTarget} (f : FunctionValue) (is : is_function f ≡ true)
       abbrev Emulates : ℕ → Memory → (ℕ → ℕ) → Type 0
       Emulates = Emul f is known code s args back good r row come.0
 
-      set : (count : ℕ) (actions : List Action) → AreActions target at count (steps_of f) actions → Setting args.n Base Slots (numbers f is known code s args back good at) low (plan_with f actions) Emulates (InFrame low)
+      set : (count : ℕ) (actions : List Action) → AreActions target (seats_of f at) count (steps_of f) actions → Setting args.n Base Slots (numbers f is known code s args back good at) low (plan_with f actions) Emulates (InFrame low)
       set count actions are = setting f is known code s args back good r row target at x.good come.0 count actions are
 
       abbrev several : List Action
@@ -242,7 +242,7 @@ module _ {target : CodeTarget} (f : FunctionValue) (is : is_function f ≡ true)
           let short = turn_few f is at x.good count is_count target aligned blocks near list t in
           let spread = many_short blocks (cost_for f target) (arrays_of f) some_blocks in
           record {
-            turn = turns_map (AreActions target at count (steps_of f)) (Able args.n Base Slots (numbers f is known code s args back good at) low plan Emulates (InFrame low) count (aligned_first aligned)) count size (aligned_first aligned)
+            turn = turns_map (AreActions target (seats_of f at) count (steps_of f)) (Able args.n Base Slots (numbers f is known code s args back good at) low plan Emulates (InFrame low) count (aligned_first aligned)) count size (aligned_first aligned)
                 (λ actions are. record { set = set count actions are; fit = fit_actions f is at x.good count is_count target actions are; known = ins_blocks f is at x.good count is_count target actions are aligned })
                 (count_of kind.Dest f.vars) (count_of kind.Source f.vars) blocks list t;
             known = turn_ins f is at x.good count is_count target aligned blocks near list t;

@@ -20,7 +20,7 @@ use Rattle.orc_frame.specs.GoodCall.{GoodCall, lowered}
 use Rattle.orc_frame.specs.Function.{subject_of}
 use Rattle.orc_frame.proofs.Facts.{Facts, facts}
 use Rattle.orc_frame.proofs.Apart.{length-acc_sizes_of}
-use Rattle.orc_region.specs.Code.{Action, AreActions, plan_with}
+use Rattle.orc_region.specs.Code.{Action, AreActions, seats_of, plan_with}
 use Rattle.orc_region.proofs.Block.Cells.{Numbers, IsOf}
 use Rattle.orc_region.proofs.Block.Frames.{IsFrame}
 use Rattle.orc_region.proofs.Block.Sums.{last_below}
@@ -88,7 +88,7 @@ module _ (f : FunctionValue) (is : is_function f ≡ true) (known : Arrays f) (c
     abbrev pub Emul : State → ℕ → Memory → (ℕ → ℕ) → Type 0
     Emul = Reached f meant r
 
-    pub setting : (target : CodeTarget) (at : List ℕ) → GoodPlaces (steps_of f) at → (e : State) (count : ℕ) (actions : List Action) → AreActions target at count (steps_of f) actions → Setting args.n base Slot (numbers at) rsp (plan_with f actions) (Emul e) Frame
+    pub setting : (target : CodeTarget) (at : List ℕ) → GoodPlaces (steps_of f) at → (e : State) (count : ℕ) (actions : List Action) → AreActions target (seats_of f at) count (steps_of f) actions → Setting args.n base Slot (numbers at) rsp (plan_with f actions) (Emul e) Frame
     setting target at places_are e count actions are = let stand = stand_is f is at places_are in record {
       ground = record {
         separate = separate f known code s args back good r row;
@@ -99,7 +99,7 @@ module _ (f : FunctionValue) (is : is_function f ≡ true) (known : Arrays f) (c
       decided = decided f known code s args back good r row;
       slots = λ k h. h;
       known = all_known f at meant args.n base Slot has known.few.dests target is stand count actions are;
-      taken = all_taken target at count (steps_of f) actions are;
+      taken = all_taken target (seats_of f at) count (steps_of f) actions are;
       few_dests = known.few.dests;
       few_sources = known.few.sources;
       few = (arrays f known code s args back good).few;

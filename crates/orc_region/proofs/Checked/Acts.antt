@@ -23,7 +23,7 @@ use Rattle.orc_plan.specs.Lowered.{last_value, acc_item, result_item, result_ite
 use Rattle.orc_plan.specs.Standing.{Stands, StandAt, AllStand}
 use Rattle.orc_plan.proofs.Last.{last_below}
 use Rattle.orc_program.specs.Slots.{slot_of}
-use Rattle.orc_region.specs.Code.{Source, FromArray, FromPattern, FromPlace, FromSlot, Target, ToPlace, to_place, source_of, target_of, patterns_in, place_register, made_in, first_register, second_register}
+use Rattle.orc_region.specs.Code.{Source, FromArray, FromPattern, FromResident, FromPlace, FromSlot, Target, ToPlace, to_place, seats_of, source_of, target_of, patterns_in, place_register, made_in, first_register, second_register}
 use Rattle.orc_region.proofs.Block.Places.{by_target}
 use Rattle.orc_region.proofs.Block.Sums.{by_sum}
 use Rattle.orc_region.proofs.Block.Emulated.{IsTemp}
@@ -79,17 +79,18 @@ AreFollowed at os ts v w = ⊥
 abbrev pub IsClear : List Target → Source → Type 0
 IsClear ts (FromArray k) = Unit {0}
 IsClear ts (FromPattern j) = Unit {0}
+IsClear ts (FromResident j g) = Unit {0}
 IsClear ts (FromPlace p) = (first_register ts ≢ place_register p) × (second_register ts ≢ place_register p)
 IsClear ts (FromSlot k) = Unit {0}
 
 -- an instruction that passes the checks, before which values of these temps were made, and after which these instructions come
 pub record IsPlanned (f : FunctionValue) (at temps : List ℕ) (insn : Insn) (rest : List Insn) : Type 0 where
   pub sources : AreSourced f at temps (steps_after f.vars (patterns_in f) temps (insn ∷ rest)) insn.op insn.prefix insn.sources.items
-      (map (source_of at) (source_items f.vars (patterns_in f) temps insn.op 0 insn.sources.items))
+      (map (source_of (seats_of f at)) (source_items f.vars (patterns_in f) temps insn.op 0 insn.sources.items))
   pub to : AreTargeted f insn.op insn.prefix insn.results.items (map (target_of at) (result_items f.vars (length temps) insn.results.items))
   pub follows : AreFollowed at insn.results.items (map (target_of at) (result_items f.vars (length temps) insn.results.items))
       (temps, steps_after f.vars (patterns_in f) temps (insn ∷ rest)) (temps ++ made_by f.vars insn, steps_after f.vars (patterns_in f) (temps ++ made_by f.vars insn) rest)
-  pub clear : Each (IsClear (map (target_of at) (result_items f.vars (length temps) insn.results.items))) (map (source_of at) (source_items f.vars (patterns_in f) temps insn.op 0 insn.sources.items))
+  pub clear : Each (IsClear (map (target_of at) (result_items f.vars (length temps) insn.results.items))) (map (source_of (seats_of f at)) (source_items f.vars (patterns_in f) temps insn.op 0 insn.sources.items))
   pub apart : first_register (map (target_of at) (result_items f.vars (length temps) insn.results.items)) ≢ second_register (map (target_of at) (result_items f.vars (length temps) insn.results.items))
   pub prefix : HasPrefix insn.op insn.prefix
 
@@ -392,11 +393,12 @@ module _ (f : FunctionValue) (at temps : List ℕ) (insn : Insn) (rest : List In
   Reads o = (x : ℕ) → o ≡ operand.Var x → IsTemp f x → IsReadHere x
 
   abbrev source_at : ℕ → Operand → Source
-  source_at position o = source_of at (source_item f.vars (patterns_in f) temps (way_of insn.op position) o)
+  source_at position o = source_of (seats_of f at) (source_item f.vars (patterns_in f) temps (way_of insn.op position) o)
 
   clear_one : (ts : List Target) → ((x : ℕ) → IsReadHere x → IsClear ts (FromPlace (last_place x))) → (position : ℕ) (o : Operand) (s : Source) → Reads o → IsSourced f at temps steps insn.op insn.prefix position o s → IsClear ts s
   clear_one ts free position o (FromArray k) reads h = tt
   clear_one ts free position o (FromPattern j) reads h = tt
+  clear_one ts free position o (FromResident j g) reads h = tt
   clear_one ts free position o (FromSlot k) reads h = tt
   clear_one ts free position o (FromPlace a) reads h = subst (λ a. IsClear ts (FromPlace a)) h.4.2 (free h.0 (reads h.0 h.1 h.2))
 
@@ -454,11 +456,11 @@ module _ (f : FunctionValue) (at temps : List ℕ) (insn : Insn) (rest : List In
         (has_uses f.vars earlier insn rest (used insn.op 1 m) (subst (λ os. Has (uses os) (used insn.op 1 m)) (sym are) (second_use f.vars insn.op x y m e)))
 
     sources_good : (ts : List Target) → ((x : ℕ) → IsReadHere x → IsClear ts (FromPlace (last_place x))) → (os : List Operand) → insn.sources.items ≡ os → length os ≡ source_count insn.op → list_all (is_in_range f.vars) os ≡ true
-        → has_no_fault (sources_fault f.vars earlier insn.op insn.prefix 0 os) ≡ true → AreGood ts os (map (source_of at) (source_items f.vars (patterns_in f) temps insn.op 0 os))
+        → has_no_fault (sources_fault f.vars earlier insn.op insn.prefix 0 os) ≡ true → AreGood ts os (map (source_of (seats_of f at)) (source_items f.vars (patterns_in f) temps insn.op 0 os))
     sources_good ts free os are l r h = go os are l r h (some_sizes (size_of_source insn.op 0) (size_of_source insn.op 1) (λ e. omega (arith, e, (has_sizes insn.op).source)))
       where
         go : (os : List Operand) → insn.sources.items ≡ os → length os ≡ source_count insn.op → list_all (is_in_range f.vars) os ≡ true → has_no_fault (sources_fault f.vars earlier insn.op insn.prefix 0 os) ≡ true
-            → (source_count insn.op ≡ 1) × (size_of_source insn.op 1 ≡ 0) ⊎ (source_count insn.op ≡ 2) × (size_of_source insn.op 1 ≢ 0) → AreGood ts os (map (source_of at) (source_items f.vars (patterns_in f) temps insn.op 0 os))
+            → (source_count insn.op ≡ 1) × (size_of_source insn.op 1 ≡ 0) ⊎ (source_count insn.op ≡ 2) × (size_of_source insn.op 1 ≢ 0) → AreGood ts os (map (source_of (seats_of f at)) (source_items f.vars (patterns_in f) temps insn.op 0 os))
         go [] are l r h c = absurd (⊎_elim (λ x. omega (arith, l, x.0)) (λ x. omega (arith, l, x.0)) c)
         go (x ∷ []) are l r h c =
             let one = none_left (source_fault f.vars earlier insn.op insn.prefix 0 x) None h in

@@ -1,5 +1,5 @@
 -- What the checks say of operands: arrays, numbers that are patterns, accumulators, and temps that stand at places.
-use Rattle.std.proofs.Common.{◌≡◌, ℕ, ◌*◌, ◌<◌, ◌≤◌, ◌==◌, ◌&&◌, not, Bool, true, false, if◌then◌else◌, List, length, get_or, slice_index, Some, None, refl, sym, ap, ◌∙◌, subst, arith, ◌⊎◌, inl, inr, ⊎_elim}
+use Rattle.std.proofs.Common.{◌≡◌, ℕ, ◌+◌, ◌*◌, ◌<◌, ◌≤◌, ◌==◌, ◌&&◌, not, Bool, true, false, if◌then◌else◌, List, length, get_or, slice_index, Some, None, refl, sym, ap, ◌∙◌, subst, arith, ◌⊎◌, inl, inr, ⊎_elim}
 use Rattle.std.proofs.lemmas.Bool.{true≢false, eqb-true, ltb-true}
 use Rattle.orc_ops.specs.declared.opcode.Op.{Op}
 use Rattle.orc_ops.specs.declared.opcode.Kind.{Kind}
@@ -12,9 +12,9 @@ use Rattle.orc_program.specs.declared.program.Operand.TheVariants as operand
 use Rattle.orc_program.specs.declared.program.Insn.{Insn}
 use Rattle.orc_program.specs.declared.program.Pattern.{Pattern}
 use Rattle.orc_program.specs.declared.fault.Fault.TheVariants as fault
-use Rattle.orc_program.specs.Program.{FunctionValue, var_at, same_kind, is_array_kind, count_before, is_temp}
+use Rattle.orc_program.specs.Program.{FunctionValue, var_at, same_kind, is_array_kind, count_of, count_before, is_temp}
 use Rattle.orc_program.specs.Slots.{slot_of}
-use Rattle.orc_program.specs.Checks.{check, is_kind, is_scalar, is_wrong_size, is_unset, number_in, way_of, result_kind_fault, source_kind_fault, result_fault, source_fault}
+use Rattle.orc_program.specs.Checks.{check, is_kind, is_scalar, is_wrong_size, is_unset, number_in, pattern_number, way_of, result_kind_fault, source_kind_fault, result_fault, source_fault}
 use Rattle.orc_program.specs.Kept.{is_in_range, has_no_fault}
 use Rattle.sse_laws.specs.Meets.{is_shift, is_sum}
 use Rattle.orc_plan.specs.declared.steps.Item.TheVariants as item
@@ -24,9 +24,9 @@ use Rattle.orc_plan.specs.Standing.{Stands}
 use Rattle.orc_frame.specs.Frame.{no_pattern}
 use Rattle.orc_program.specs.Need.{places, registers, spills}
 use Rattle.orc_frame.specs.Layout.{spill_slots}
-use Rattle.orc_region.specs.Code.{Source, FromArray, FromPattern, FromPlace, FromSlot, Target, ToArray, ToSum, ToResident, ToPlace, ToSlot, slot_place, to_place, source_of, target_of, patterns_in}
+use Rattle.orc_region.specs.Code.{Source, FromArray, FromPattern, FromResident, FromPlace, FromSlot, Target, ToArray, ToSum, ToResident, ToPlace, ToSlot, slot_place, to_place, seats_of, last_place, source_of, target_of, patterns_in}
 use Rattle.orc_region.proofs.Block.Places.{by_source, by_target}
-use Rattle.orc_region.proofs.Block.Sums.{by_sum}
+use Rattle.orc_region.proofs.Block.Sums.{IsResident, by_sum, by_pattern}
 use Rattle.orc_region.proofs.Block.Emulated.{IsCells, IsDest, IsSum, IsTemp}
 use Rattle.orc_region.proofs.Checked.Passing.{none_left, unchecked, size_ok, no_sum}
 use Rattle.orc_program.proofs.KnownPatterns.{Has, pattern_found, used}
@@ -37,10 +37,12 @@ pattern_of f j = get_or (patterns_in f) j no_pattern
 abbrev pub number_of : FunctionValue → ℕ → Operand
 number_of f j = (pattern_of f j).number
 
--- a source of an instruction: cells of the opcode's size, a number that is a pattern, or a temp of the opcode's size that stands at a place; a count is a number
+-- a source of an instruction: cells of the opcode's size, a number that is a pattern, which may be a resident behind the running sums, or a temp of the opcode's size that stands at a place; a count is a number
 abbrev pub IsSourced : FunctionValue → List ℕ → List ℕ → List Step → Op → ℕ → ℕ → Operand → Source → Type 0
 IsSourced f at temps steps op prefix position o (FromArray k) = (p : ℕ) × (o ≡ operand.Var p) × IsCells f p (size_of_source op position * prefix) × (slot_of f.vars p ≡ k) × (position ≡ 1 → is_shift (row op).kind ≡ false)
 IsSourced f at temps steps op prefix position o (FromPattern j) = (number_in f.vars o ≡ Some (number_of f j)) × (j < length (patterns_in f)) × ((pattern_of f j).way ≡ way_of op position)
+IsSourced f at temps steps op prefix position o (FromResident j g) =
+    (number_in f.vars o ≡ Some (number_of f j)) × (j < length (patterns_in f)) × ((pattern_of f j).way ≡ way_of op position) × (g ≡ count_of kind.Accumulator f.vars + j) × IsResident (last_place at) g
 IsSourced f at temps steps op prefix position o (FromPlace a) =
     (x : ℕ) × (o ≡ operand.Var x) × IsTemp f x × ((var_at f.vars x).size ≡ size_of_source op position * prefix) × Stands at temps steps x a × (position ≡ 1 → is_shift (row op).kind ≡ false) × (a < registers)
 IsSourced f at temps steps op prefix position o (FromSlot k) =
@@ -107,12 +109,15 @@ module _ (f : FunctionValue) (at temps : List ℕ) (steps : List Step) (op : Op)
 
   -- where an operand comes from
   abbrev pub from_of : Operand → Source
-  from_of o = source_of at (source_item f.vars (patterns_in f) temps (way_of op position) o)
+  from_of o = source_of (seats_of f at) (source_item f.vars (patterns_in f) temps (way_of op position) o)
 
-  number_sourced : (o m : Operand) → number_in f.vars o ≡ Some m → Used o → Sourced o (source_of at (pattern_item (patterns_in f) m (way_of op position)))
+  number_sourced : (o m : Operand) → number_in f.vars o ≡ Some m → Used o → Sourced o (source_of (seats_of f at) (pattern_item (patterns_in f) m (way_of op position)))
   number_sourced o m e has =
       let x = pattern_found (patterns_in f) (used op position m) no_pattern (has m e) in
-      (e ∙ ap (λ (q : Pattern). Some q.number) (sym x.1), x.0, ap (λ (q : Pattern). q.way) x.1)
+      let j = pattern_number (patterns_in f) (used op position m) in
+      let number = e ∙ ap (λ (q : Pattern). Some q.number) (sym x.1) in
+      let way = ap (λ (q : Pattern). q.way) x.1 in
+      by_pattern (Sourced o) (seats_of f at) j (λ r. (number, x.0, way, refl, r)) (λ r. (number, x.0, way))
 
   var_sourced : (p : ℕ) → p < length f.vars → has_no_fault (source_kind_fault (row op).kind position (Some (var_at f.vars p).kind)) ≡ true → is_wrong_size f.vars (size_of_source op position * prefix) (operand.Var p) ≡ false
       → Used (operand.Var p) → Stood (operand.Var p) → Sourced (operand.Var p) (from_of (operand.Var p))
@@ -123,7 +128,7 @@ module _ (f : FunctionValue) (at temps : List ℕ) (steps : List Step) (op : Op)
       number_is k e = ap (λ k. if same_kind kind.Param k then Some (operand.Var p) else (if same_kind kind.Const k then Some (operand.Number (var_at f.vars p).number) else None)) e
 
       go : (k : VarKind) → (var_at f.vars p).kind ≡ k → has_no_fault (source_kind_fault (row op).kind position (Some k)) ≡ true → (not (is_scalar (Some k)) && not ((var_at f.vars p).size == wanted)) ≡ false
-          → Sourced (operand.Var p) (source_of at (var_item f.vars (patterns_in f) temps (way_of op position) p k))
+          → Sourced (operand.Var p) (source_of (seats_of f at) (var_item f.vars (patterns_in f) temps (way_of op position) p k))
       go kind.Temp e h w =
           let s = stood p refl e in
           let size = same_size (var_at f.vars p).size wanted w in

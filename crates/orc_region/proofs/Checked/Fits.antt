@@ -21,7 +21,7 @@ use Rattle.orc_plan.specs.declared.steps.Step.{Step}
 use Rattle.orc_plan.specs.Lowered.{steps_after, steps_of}
 use Rattle.orc_plan.specs.Lowered.{sizes_of, is_used}
 use Rattle.orc_plan.proofs.SlotSizes.{array_sized, used_sized}
-use Rattle.orc_region.specs.Code.{Action, Source, FromArray, FromPattern, FromPlace, FromSlot, Target, ToArray, ToSum, ToResident, ToPlace, ToSlot, AreActions, plan_with}
+use Rattle.orc_region.specs.Code.{Action, Seats, Source, FromArray, FromPattern, FromResident, FromPlace, FromSlot, Target, ToArray, ToSum, ToResident, ToPlace, ToSlot, AreActions, plan_with}
 use Rattle.orc_region.proofs.Block.Emulated.{IsCells}
 use Rattle.orc_region.proofs.Checked.Slots.{Limits, limits, SlotIs, slot_is}
 use Rattle.orc_region.proofs.Block.Actions.{IsMovedFrom, IsMovedTo}
@@ -60,11 +60,11 @@ no_call = record { n = 0; m = 0; base = λ k. 0; stride = λ k. 0; param = λ k.
 pub lanes_fit : (count k w : ℕ) → count * (w * k) ≤ 16 → count * k * w ≤ 16
 lanes_fit count k w h = omega (arith, h)
 
-same_length : (target : CodeTarget) (at : List ℕ) (count : ℕ) (steps : List Step) (actions : List Action) → AreActions target at count steps actions → length actions ≡ length steps
-same_length target at count [] [] is = refl
-same_length target at count [] (a ∷ rest) is = absurd is
-same_length target at count (s ∷ steps) [] is = absurd is
-same_length target at count (s ∷ steps) (a ∷ rest) is = ap suc (same_length target at count steps rest is.1)
+same_length : (target : CodeTarget) (seats : Seats) (count : ℕ) (steps : List Step) (actions : List Action) → AreActions target seats count steps actions → length actions ≡ length steps
+same_length target seats count [] [] is = refl
+same_length target seats count [] (a ∷ rest) is = absurd is
+same_length target seats count (s ∷ steps) [] is = absurd is
+same_length target seats count (s ∷ steps) (a ∷ rest) is = ap suc (same_length target seats count steps rest is.1)
 
 -- one step per instruction
 step_each : (vars : List Var) (known : List Pattern) (temps : List ℕ) (insns : List Insn) → length (steps_after vars known temps insns) ≡ length insns
@@ -121,6 +121,7 @@ module _ (f : FunctionValue) (h : is_function f ≡ true) where
     moved_from [] h = tt
     moved_from (FromArray k ∷ ss) h = (h.0.0, moved_from ss h.1)
     moved_from (FromPattern j ∷ ss) h = (tt, moved_from ss h.1)
+    moved_from (FromResident j g ∷ ss) h = (tt, moved_from ss h.1)
     moved_from (FromPlace p ∷ ss) h = (tt, moved_from ss h.1)
     moved_from (FromSlot k ∷ ss) h = (tt, moved_from ss h.1)
 
@@ -139,12 +140,12 @@ module _ (f : FunctionValue) (h : is_function f ≡ true) where
           (width_of_count f count is_count (var_at f.vars p).size (size_kept f h p is.inside) (is_count.arrays p is.inside is.array))
 
       -- plans of functions are small
-      pub small_with : (target : CodeTarget) (at : List ℕ) (actions : List Action) → Each (IsMovable count (size_of_slot f.vars)) actions → AreActions target at count (steps_of f) actions → Small count (plan_with f actions)
-      small_with target at actions m is = record {
+      pub small_with : (target : CodeTarget) (seats : Seats) (actions : List Action) → Each (IsMovable count (size_of_slot f.vars)) actions → AreActions target seats count (steps_of f) actions → Small count (plan_with f actions)
+      small_with target seats actions m is = record {
         most = is_count.most;
         dests = few.dests;
         sources = few.sources;
         size = slot_size;
         actions = m;
-        few = omega (arith, same_length target at count (steps_of f) actions is, steps_length f, few_pass f.vars [] f.insns (kept_of f h).insns (omega arith));
+        few = omega (arith, same_length target seats count (steps_of f) actions is, steps_length f, few_pass f.vars [] f.insns (kept_of f h).insns (omega arith));
       }

@@ -29,7 +29,7 @@ use Rattle.orc_frame.specs.Frame.{period}
 use Rattle.orc_frame.specs.Layout.{layout_of}
 use Rattle.orc_frame.proofs.Apart.{length-acc_sizes_of}
 use Rattle.orc_program.specs.declared.program.Pattern.{Pattern}
-use Rattle.orc_region.specs.Code.{Action, Source, FromArray, FromPattern, FromPlace, FromSlot, Target, ToArray, ToSum, ToResident, ToPlace, ToSlot, slot_place, source_of, target_of, IsAction, AreActions, IsLoaded, IsStored, IsReady, patterns_in, first_register, second_register, at_pointer, unaligned, action_code, IsMoved, last_place}
+use Rattle.orc_region.specs.Code.{Action, Source, FromArray, FromPattern, FromResident, FromPlace, FromSlot, Target, ToArray, ToSum, ToResident, ToPlace, ToSlot, slot_place, seats_of, source_of, target_of, IsAction, AreActions, IsLoaded, IsStored, IsReady, patterns_in, first_register, second_register, at_pointer, unaligned, action_code, IsMoved, last_place}
 use Rattle.orc_region.proofs.Block.Cells.{Numbers, IsOf, IsTo, IsFrom, IsBeside, AreFrom, IsMade, AreTo, IsKept, IsKnown, AllKnown, live_target, live_targets, live_act, no_values}
 use Rattle.orc_region.proofs.Block.Emulated.{IsCells, IsSum, meant}
 use Rattle.orc_region.proofs.Block.Elements.{IsRead, AreRead, Follows, IsWritten, AreWritten, IsMeant, AreMeant}
@@ -75,7 +75,7 @@ step_at f temps insn = step_of f.vars (patterns_in f) temps insn
 
 -- where its sources come from and its results go
 abbrev sources_at : FunctionValue → List ℕ → List ℕ → Insn → List Source
-sources_at f at temps insn = map (source_of at) (source_items f.vars (patterns_in f) temps insn.op 0 insn.sources.items)
+sources_at f at temps insn = map (source_of (seats_of f at)) (source_items f.vars (patterns_in f) temps insn.op 0 insn.sources.items)
 
 abbrev targets_at : FunctionValue → List ℕ → List ℕ → Insn → List Target
 targets_at f at temps insn = map (target_of at) (result_items f.vars (length temps) insn.results.items)
@@ -87,6 +87,7 @@ module _ (f : FunctionValue) (at : List ℕ) where
       → IsRead f (number_of f) (StandsIn at (temps, steps)) (size_of_source op position) prefix o s
   is_read temps steps op prefix position o (FromArray k) h = (h.0, h.1, h.2, h.3)
   is_read temps steps op prefix position o (FromPattern j) h = h.0
+  is_read temps steps op prefix position o (FromResident j g) h = h.0
   is_read temps steps op prefix position o (FromPlace a) h = (h.0, h.1, h.2, h.4)
   is_read temps steps op prefix position o (FromSlot k) h = (h.0, h.1, h.2, h.4)
 
@@ -123,7 +124,7 @@ module _ (f : FunctionValue) (at : List ℕ) where
   are_written op prefix (x ∷ y ∷ []) (t ∷ u ∷ m ∷ more) v w p h k = absurd h
   are_written op prefix (x ∷ y ∷ z ∷ rest) ts v w p h k = absurd h
 
-  meant_one : {target : CodeTarget} (count : ℕ) (temps : List ℕ) (insn : Insn) (rest : List Insn) (a : Action) → IsPlanned f at temps insn rest → IsAction target at count (step_at f temps insn) a
+  meant_one : {target : CodeTarget} (count : ℕ) (temps : List ℕ) (insn : Insn) (rest : List Insn) (a : Action) → IsPlanned f at temps insn rest → IsAction target (seats_of f at) count (step_at f temps insn) a
       → IsMeant (StandsIn at) f (number_of f) (temps, steps_from f temps (insn ∷ rest)) (temps ++ made_by f.vars insn, steps_from f (temps ++ made_by f.vars insn) rest) insn a
   meant_one count temps insn rest a d is = record {
     op = is.op;
@@ -136,7 +137,7 @@ module _ (f : FunctionValue) (at : List ℕ) where
         (are_read f at temps (steps_from f temps (insn ∷ rest)) insn.op insn.prefix insn.sources.items (sources_at f at temps insn) d.sources);
   }
 
-  meant_from : (target : CodeTarget) (count : ℕ) (temps : List ℕ) (insns : List Insn) (actions : List Action) → ArePlanned f at temps insns → AreActions target at count (steps_from f temps insns) actions → AreMeant (StandsIn at) f (number_of f) (temps, steps_from f temps insns) insns actions
+  meant_from : (target : CodeTarget) (count : ℕ) (temps : List ℕ) (insns : List Insn) (actions : List Action) → ArePlanned f at temps insns → AreActions target (seats_of f at) count (steps_from f temps insns) actions → AreMeant (StandsIn at) f (number_of f) (temps, steps_from f temps insns) insns actions
   meant_from target count temps [] [] d is = tt
   meant_from target count temps [] (a ∷ rest) d is = absurd is
   meant_from target count temps (insn ∷ insns) [] d is = absurd is
@@ -144,7 +145,7 @@ module _ (f : FunctionValue) (at : List ℕ) where
       ((temps ++ made_by f.vars insn, steps_from f (temps ++ made_by f.vars insn) insns), meant_one count temps insn insns a d.0 is.0.0, meant_from target count (temps ++ made_by f.vars insn) insns rest d.1 is.1)
 
 -- a function's actions do what its instructions do, from the view before the first one, in which nothing stands (`nothing_stands`)
-pub all_meant : (target : CodeTarget) (f : FunctionValue) → is_function f ≡ true → (at : List ℕ) → AllPlaced f at → (count : ℕ) (actions : List Action) → AreActions target at count (steps_of f) actions
+pub all_meant : (target : CodeTarget) (f : FunctionValue) → is_function f ≡ true → (at : List ℕ) → AllPlaced f at → (count : ℕ) (actions : List Action) → AreActions target (seats_of f at) count (steps_of f) actions
     → AreMeant (StandsIn at) f (number_of f) ([], steps_of f) f.insns actions
 unfolding steps_of
 all_meant target f h at stand count actions is = meant_from f at target count [] f.insns actions (are_planned f h at stand) is
@@ -195,12 +196,14 @@ module _ (f : FunctionValue) (at : List ℕ) (call : Call) (n : ℕ) (base : ℕ
       → IsSourced f at temps steps op prefix position o s → From live (size_of_source op position) prefix s
   is_from live temps steps sizes op prefix position o (FromArray k) e h = subst (λ k. IsOf n base (size_of_slot f.vars) P k (size_of_source op position * prefix)) h.3 (has h.0 (size_of_source op position * prefix) h.2)
   is_from live temps steps sizes op prefix position o (FromPattern j) e h = (h.1, ap period h.2 ∙ e)
+  is_from live temps steps sizes op prefix position o (FromResident j g) e h = (h.1, ap period h.2 ∙ e, h.3, h.4)
   is_from live temps steps sizes op prefix position o (FromPlace a) e h = (h.6, sizes h.0 a h.4 ∙ h.3)
   is_from live temps steps sizes op prefix position o (FromSlot k) e h = (h.6, sizes h.0 (slot_place k) h.4 ∙ h.3)
 
   is_beside : (temps : List ℕ) (steps : List Step) (op : Op) (prefix : ℕ) (o : Operand) (s : Source) → IsSourced f at temps steps op prefix 1 o s → IsBeside n base (size_of_slot f.vars) P Of op s
   is_beside temps steps op prefix o (FromArray k) h = h.4 refl
   is_beside temps steps op prefix o (FromPattern j) h = tt
+  is_beside temps steps op prefix o (FromResident j g) h = tt
   is_beside temps steps op prefix o (FromPlace a) h = h.5 refl
   is_beside temps steps op prefix o (FromSlot k) h = h.5 refl
 
@@ -270,6 +273,7 @@ module _ (f : FunctionValue) (at : List ℕ) (call : Call) (n : ℕ) (base : ℕ
   kept ts [] h = tt
   kept ts (FromArray k ∷ ss) h = (tt, kept ts ss h.1)
   kept ts (FromPattern j ∷ ss) h = (tt, kept ts ss h.1)
+  kept ts (FromResident j g ∷ ss) h = (tt, kept ts ss h.1)
   kept ts (FromPlace a ∷ ss) h = (h.0, kept ts ss h.1)
   kept ts (FromSlot k ∷ ss) h = (tt, kept ts ss h.1)
 
@@ -286,14 +290,14 @@ module _ (f : FunctionValue) (at : List ℕ) (call : Call) (n : ℕ) (base : ℕ
     from_within = subst (Each (SourceWithin (last_place at))) (sym s) from_in;
   }
 
-  known_one : {target : CodeTarget} (count : ℕ) (live : ℕ → ℕ) (temps : List ℕ) (insn : Insn) (rest : List Insn) (a : Action) → AreSized f (StandsIn at (temps, steps_from f temps (insn ∷ rest))) live → IsPlanned f at temps insn rest → IsAction target at count (step_at f temps insn) a → Known live a
+  known_one : {target : CodeTarget} (count : ℕ) (live : ℕ → ℕ) (temps : List ℕ) (insn : Insn) (rest : List Insn) (a : Action) → AreSized f (StandsIn at (temps, steps_from f temps (insn ∷ rest))) live → IsPlanned f at temps insn rest → IsAction target (seats_of f at) count (step_at f temps insn) a → Known live a
   known_one count live temps insn rest a sizes d is =
       known_with live a insn.op insn.prefix (targets_at f at temps insn) (sources_at f at temps insn) is.op is.prefix is.to is.sources (are_to insn.op insn.prefix insn.results.items (targets_at f at temps insn) d.prefix d.to)
       (are_from live temps (steps_from f temps (insn ∷ rest)) sizes insn.op insn.prefix insn.sources.items (sources_at f at temps insn) d.sources) d.clear d.apart
-      (targets_within at (result_items f.vars (length temps) insn.results.items)) (sources_within at (source_items f.vars (patterns_in f) temps insn.op 0 insn.sources.items))
+      (targets_within at (result_items f.vars (length temps) insn.results.items)) (sources_within (seats_of f at) (source_items f.vars (patterns_in f) temps insn.op 0 insn.sources.items))
 
   -- the sizes after an action
-  sizes_on : {target : CodeTarget} (count : ℕ) (live : ℕ → ℕ) (temps : List ℕ) (insn : Insn) (rest : List Insn) (a : Action) → AreSized f (StandsIn at (temps, steps_from f temps (insn ∷ rest))) live → IsPlanned f at temps insn rest → IsAction target at count (step_at f temps insn) a
+  sizes_on : {target : CodeTarget} (count : ℕ) (live : ℕ → ℕ) (temps : List ℕ) (insn : Insn) (rest : List Insn) (a : Action) → AreSized f (StandsIn at (temps, steps_from f temps (insn ∷ rest))) live → IsPlanned f at temps insn rest → IsAction target (seats_of f at) count (step_at f temps insn) a
       → AreSized f (StandsIn at (temps ++ made_by f.vars insn, steps_from f (temps ++ made_by f.vars insn) rest)) (live_act live a)
   sizes_on count live temps insn rest a sizes d is =
       let there : View = (temps ++ made_by f.vars insn, steps_from f (temps ++ made_by f.vars insn) rest) in
@@ -302,7 +306,7 @@ module _ (f : FunctionValue) (at : List ℕ) (call : Call) (n : ℕ) (base : ℕ
       ap (live_targets live insn.op insn.prefix) (sym is.to) ∙ ap (λ k. live_targets live insn.op k a.to) (sym is.prefix) ∙ ap (λ o. live_targets live o a.prefix a.to) (sym is.op) in
       subst (AreSized f (StandsIn at there)) e s
 
-  known_from : (target : CodeTarget) (count : ℕ) (live : ℕ → ℕ) (temps : List ℕ) (insns : List Insn) (actions : List Action) → AreSized f (StandsIn at (temps, steps_from f temps insns)) live → ArePlanned f at temps insns → AreActions target at count (steps_from f temps insns) actions
+  known_from : (target : CodeTarget) (count : ℕ) (live : ℕ → ℕ) (temps : List ℕ) (insns : List Insn) (actions : List Action) → AreSized f (StandsIn at (temps, steps_from f temps insns)) live → ArePlanned f at temps insns → AreActions target (seats_of f at) count (steps_from f temps insns) actions
       → AllKnown n base (size_of_slot f.vars) P Of live actions
   known_from target count live temps [] [] sizes d is = tt
   known_from target count live temps [] (a ∷ rest) sizes d is = absurd is
@@ -310,7 +314,7 @@ module _ (f : FunctionValue) (at : List ℕ) (call : Call) (n : ℕ) (base : ℕ
   known_from target count live temps (insn ∷ insns) (a ∷ rest) sizes d is =
       (known_one count live temps insn insns a sizes d.0 is.0.0, known_from target count (live_act live a) (temps ++ made_by f.vars insn) insns rest (sizes_on count live temps insn insns a sizes d.0 is.0.0) d.1 is.1)
 
-  pub all_known : (target : CodeTarget) → is_function f ≡ true → AllPlaced f at → (count : ℕ) (actions : List Action) → AreActions target at count (steps_of f) actions → AllKnown n base (size_of_slot f.vars) P Of no_values actions
+  pub all_known : (target : CodeTarget) → is_function f ≡ true → AllPlaced f at → (count : ℕ) (actions : List Action) → AreActions target (seats_of f at) count (steps_of f) actions → AllKnown n base (size_of_slot f.vars) P Of no_values actions
   unfolding steps_of
   all_known target h stand count actions is = known_from target count no_values [] f.insns actions (λ x p s. absurd (nothing_stands at (steps_from f [] f.insns) x p s)) (are_planned f h at stand) is
 
@@ -320,6 +324,7 @@ module _ (f : FunctionValue) (h : is_function f ≡ true) (at : List ℕ) (count
   from_slot : (temps : List ℕ) (steps : List Step) (op : Op) (prefix position : ℕ) (o : Operand) (s : Source) → IsSourced f at temps steps op prefix position o s → IsFromSlot count (size_of_slot f.vars) s
   from_slot temps steps op prefix position o (FromArray k) d = subst (λ k. IsWidth (count * size_of_slot f.vars k) × (k < 12)) d.3 (slot_width f h count is_count d.0 (size_of_source op position * prefix) d.2, slot_small f h d.0 (size_of_source op position * prefix) d.2)
   from_slot temps steps op prefix position o (FromPattern j) d = let l = patterns_few f h in let m = d.1 in omega (arith, l, m)
+  from_slot temps steps op prefix position o (FromResident j g) d = let r = d.4 in omega (arith, r)
   from_slot temps steps op prefix position o (FromPlace a) d = d.6
   from_slot temps steps op prefix position o (FromSlot k) d = d.6
 
@@ -344,12 +349,14 @@ module _ (f : FunctionValue) (h : is_function f ≡ true) (at : List ℕ) (count
   from_loaded : (temps : List ℕ) (steps : List Step) (op : Op) (prefix position : ℕ) (o : Operand) (s : Source) → IsSourced f at temps steps op prefix position o s → IsLoaded (layout_of f) sizes count s
   from_loaded temps steps op prefix position o (FromArray k) d = moved d.0 (size_of_source op position * prefix) k d.2 d.3
   from_loaded temps steps op prefix position o (FromPattern j) d = subst (λ (ps : List Pattern). j < length ps) (sym (patterns_are f)) d.1
+  from_loaded temps steps op prefix position o (FromResident j g) d = let r = d.4 in omega (arith, r)
   from_loaded temps steps op prefix position o (FromPlace a) d = d.6
   from_loaded temps steps op prefix position o (FromSlot k) d = d.6
 
   from_same : (temps : List ℕ) (steps : List Step) (op : Op) (prefix position : ℕ) (o : Operand) (s : Source) → IsSourced f at temps steps op prefix position o s → SameFrom sizes (size_of_slot f.vars) s
   from_same temps steps op prefix position o (FromArray k) d = same_size d.0 (size_of_source op position * prefix) k d.2 d.3
   from_same temps steps op prefix position o (FromPattern j) d = tt
+  from_same temps steps op prefix position o (FromResident j g) d = tt
   from_same temps steps op prefix position o (FromPlace a) d = tt
   from_same temps steps op prefix position o (FromSlot k) d = tt
 
@@ -394,6 +401,7 @@ module _ (f : FunctionValue) (h : is_function f ≡ true) (at : List ℕ) (count
   from_cost : (temps : List ℕ) (steps : List Step) (op : Op) (prefix position : ℕ) (o : Operand) (s : Source) → IsSourced f at temps steps op prefix position o s → from_weight s ≤ source_cost f.vars o
   from_cost temps steps op prefix position o (FromArray k) d = let e : source_cost f.vars o ≡ 2 = ap (source_cost f.vars) d.1 ∙ array_costs (var_at f.vars d.0).kind d.2.array in omega (arith, e)
   from_cost temps steps op prefix position o (FromPattern j) d = some_cost o
+  from_cost temps steps op prefix position o (FromResident j g) d = some_cost o
   from_cost temps steps op prefix position o (FromPlace a) d = some_cost o
   from_cost temps steps op prefix position o (FromSlot k) d = some_cost o
 
@@ -490,7 +498,7 @@ module _ (f : FunctionValue) (h : is_function f ≡ true) (at : List ℕ) (count
 
   -- ---- actions
 
-  movable_one : {target : CodeTarget} (temps : List ℕ) (insn : Insn) (rest : List Insn) (a : Action) → IsPlanned f at temps insn rest → IsAction target at count (step_at f temps insn) a → IsMovable count (size_of_slot f.vars) a
+  movable_one : {target : CodeTarget} (temps : List ℕ) (insn : Insn) (rest : List Insn) (a : Action) → IsPlanned f at temps insn rest → IsAction target (seats_of f at) count (step_at f temps insn) a → IsMovable count (size_of_slot f.vars) a
   movable_one temps insn rest a d is = record {
     to = subst (Each (IsToSlot count (size_of_slot f.vars))) (sym is.to) (to_few temps insn rest d).slots;
     sources = subst (Each (IsFromSlot count (size_of_slot f.vars))) (sym is.sources) (from_few temps insn rest d).slots;
@@ -499,13 +507,13 @@ module _ (f : FunctionValue) (h : is_function f ≡ true) (at : List ℕ) (count
     rule = is.rule;
   }
 
-  movable_from : (target : CodeTarget) (temps : List ℕ) (insns : List Insn) (actions : List Action) → ArePlanned f at temps insns → AreActions target at count (steps_from f temps insns) actions → Each (IsMovable count (size_of_slot f.vars)) actions
+  movable_from : (target : CodeTarget) (temps : List ℕ) (insns : List Insn) (actions : List Action) → ArePlanned f at temps insns → AreActions target (seats_of f at) count (steps_from f temps insns) actions → Each (IsMovable count (size_of_slot f.vars)) actions
   movable_from target temps [] [] d is = tt
   movable_from target temps [] (a ∷ rest) d is = absurd is
   movable_from target temps (insn ∷ insns) [] d is = absurd is
   movable_from target temps (insn ∷ insns) (a ∷ rest) d is = (movable_one temps insn insns a d.0 is.0.0, movable_from target (temps ++ made_by f.vars insn) insns rest d.1 is.1)
 
-  fit_one : {target : CodeTarget} (temps : List ℕ) (insn : Insn) (rest : List Insn) (a : Action) → IsPlanned f at temps insn rest → FitsIn count insn → IsAction target at count (step_at f temps insn) a → IsFit count (size_of_slot f.vars) a
+  fit_one : {target : CodeTarget} (temps : List ℕ) (insn : Insn) (rest : List Insn) (a : Action) → IsPlanned f at temps insn rest → FitsIn count insn → IsAction target (seats_of f at) count (step_at f temps insn) a → IsFit count (size_of_slot f.vars) a
   fit_one temps insn rest a d fits is =
       let m = movable_one temps insn rest a d is in
       record {
@@ -516,20 +524,20 @@ module _ (f : FunctionValue) (h : is_function f ≡ true) (at : List ℕ) (count
         known = ins_of (action_code count (size_of_slot f.vars) a) (fine_action count (size_of_slot f.vars) at_pointer unaligned (λ k. omega arith) a m);
       }
 
-  fit_from : (target : CodeTarget) (temps : List ℕ) (insns : List Insn) (actions : List Action) → ArePlanned f at temps insns → Each (FitsIn count) insns → AreActions target at count (steps_from f temps insns) actions → Each (IsFit count (size_of_slot f.vars)) actions
+  fit_from : (target : CodeTarget) (temps : List ℕ) (insns : List Insn) (actions : List Action) → ArePlanned f at temps insns → Each (FitsIn count) insns → AreActions target (seats_of f at) count (steps_from f temps insns) actions → Each (IsFit count (size_of_slot f.vars)) actions
   fit_from target temps [] [] d fits is = tt
   fit_from target temps [] (a ∷ rest) d fits is = absurd is
   fit_from target temps (insn ∷ insns) [] d fits is = absurd is
   fit_from target temps (insn ∷ insns) (a ∷ rest) d fits is = (fit_one temps insn insns a d.0 fits.0 is.0.0, fit_from target (temps ++ made_by f.vars insn) insns rest d.1 fits.1 is.1)
 
-  weight_within : {target : CodeTarget} (temps : List ℕ) (insn : Insn) (rest : List Insn) (a : Action) → IsPlanned f at temps insn rest → IsAction target at count (step_at f temps insn) a → weight a ≤ insn_cost target (spills f) f.vars insn
+  weight_within : {target : CodeTarget} (temps : List ℕ) (insn : Insn) (rest : List Insn) (a : Action) → IsPlanned f at temps insn rest → IsAction target (seats_of f at) count (step_at f temps insn) a → weight a ≤ insn_cost target (spills f) f.vars insn
   weight_within {target} temps insn rest a d is =
       let sources : from_weights a.sources ≡ from_weights (sources_at f at temps insn) = ap from_weights is.sources in
       let results : to_weights a.to ≡ to_weights (targets_at f at temps insn) = ap to_weights is.to in
       let class : class_for a.op target ≡ class_for insn.op target = ap (λ o. class_for o target) is.op in
       omega (arith, sources, results, class, is.few, (from_few temps insn rest d).cost, (to_few temps insn rest d).cost)
 
-  weights_from : (target : CodeTarget) (temps : List ℕ) (insns : List Insn) (actions : List Action) → ArePlanned f at temps insns → AreActions target at count (steps_from f temps insns) actions → weights actions ≤ sum_by (insn_cost target (spills f) f.vars) insns
+  weights_from : (target : CodeTarget) (temps : List ℕ) (insns : List Insn) (actions : List Action) → ArePlanned f at temps insns → AreActions target (seats_of f at) count (steps_from f temps insns) actions → weights actions ≤ sum_by (insn_cost target (spills f) f.vars) insns
   weights_from target temps [] [] d is = omega arith
   weights_from target temps [] (a ∷ rest) d is = absurd is
   weights_from target temps (insn ∷ insns) [] d is = absurd is
@@ -537,27 +545,27 @@ module _ (f : FunctionValue) (h : is_function f ≡ true) (at : List ℕ) (count
 
   -- ---- what is asked of a step whose code is to be given
 
-  ready_one : (temps : List ℕ) (insn : Insn) (rest : List Insn) → IsPlanned f at temps insn rest → FitsIn count insn → IsReady (layout_of f) at sizes count (step_at f temps insn)
+  ready_one : (temps : List ℕ) (insn : Insn) (rest : List Insn) → IsPlanned f at temps insn rest → FitsIn count insn → IsReady (layout_of f) (seats_of f at) sizes count (step_at f temps insn)
   ready_one temps insn rest d fits = record {
     has_rule = λ e. (is_count.some, is_count.most, sum_fits insn.op count e (subst (λ k. count * k ≤ 16) (one_size (widest insn.op) insn.prefix (d.prefix.one e)) fits));
     sources = (from_few temps insn rest d).loaded;
     to = (to_few temps insn rest d).stored;
   }
 
-  ready_from : (temps : List ℕ) (insns : List Insn) → ArePlanned f at temps insns → Each (FitsIn count) insns → (k : ℕ) (d : Step) → k < length (steps_from f temps insns) → IsReady (layout_of f) at sizes count (get_or (steps_from f temps insns) k d)
+  ready_from : (temps : List ℕ) (insns : List Insn) → ArePlanned f at temps insns → Each (FitsIn count) insns → (k : ℕ) (d : Step) → k < length (steps_from f temps insns) → IsReady (layout_of f) (seats_of f at) sizes count (get_or (steps_from f temps insns) k d)
   ready_from temps [] b fits k d l = absurd (omega (arith, l))
   ready_from temps (insn ∷ insns) b fits zero d l = ready_one temps insn insns b.0 fits.0
   ready_from temps (insn ∷ insns) b fits (suc k) d l = ready_from (temps ++ made_by f.vars insn) insns b.1 fits.1 k d (omega (arith, l))
 
   -- ---- sizes by slots
 
-  same_one : {target : CodeTarget} (temps : List ℕ) (insn : Insn) (rest : List Insn) (a : Action) → IsPlanned f at temps insn rest → IsAction target at count (step_at f temps insn) a → SameFor sizes (size_of_slot f.vars) a
+  same_one : {target : CodeTarget} (temps : List ℕ) (insn : Insn) (rest : List Insn) (a : Action) → IsPlanned f at temps insn rest → IsAction target (seats_of f at) count (step_at f temps insn) a → SameFor sizes (size_of_slot f.vars) a
   same_one temps insn rest a d is = (
     subst (Each (SameFrom sizes (size_of_slot f.vars))) (sym is.sources) (from_few temps insn rest d).same,
     subst (Each (SameTo sizes (size_of_slot f.vars))) (sym is.to) (to_few temps insn rest d).same,
   )
 
-  same_from : (target : CodeTarget) (temps : List ℕ) (insns : List Insn) (actions : List Action) → ArePlanned f at temps insns → AreActions target at count (steps_from f temps insns) actions → Each (SameFor sizes (size_of_slot f.vars)) actions
+  same_from : (target : CodeTarget) (temps : List ℕ) (insns : List Insn) (actions : List Action) → ArePlanned f at temps insns → AreActions target (seats_of f at) count (steps_from f temps insns) actions → Each (SameFor sizes (size_of_slot f.vars)) actions
   same_from target temps [] [] d is = tt
   same_from target temps [] (a ∷ rest) d is = absurd is
   same_from target temps (insn ∷ insns) [] d is = absurd is
@@ -566,22 +574,22 @@ module _ (f : FunctionValue) (h : is_function f ≡ true) (at : List ℕ) (count
 -- ---- of a function's steps
 
 module _ (f : FunctionValue) (h : is_function f ≡ true) (at : List ℕ) (stand : AllPlaced f at) (count : ℕ) (is_count : IsCount f count) where
-  pub all_movable : (target : CodeTarget) (actions : List Action) → AreActions target at count (steps_of f) actions → Each (IsMovable count (size_of_slot f.vars)) actions
+  pub all_movable : (target : CodeTarget) (actions : List Action) → AreActions target (seats_of f at) count (steps_of f) actions → Each (IsMovable count (size_of_slot f.vars)) actions
   unfolding steps_of
   all_movable target actions is = movable_from f h at count is_count target [] f.insns actions (are_planned f h at stand) is
 
-  pub all_fit : (target : CodeTarget) (actions : List Action) → AreActions target at count (steps_of f) actions → Each (IsFit count (size_of_slot f.vars)) actions
+  pub all_fit : (target : CodeTarget) (actions : List Action) → AreActions target (seats_of f at) count (steps_of f) actions → Each (IsFit count (size_of_slot f.vars)) actions
   unfolding steps_of
   all_fit target actions is = fit_from f h at count is_count target [] f.insns actions (are_planned f h at stand) is_count.operands is
 
-  pub weights_within : (target : CodeTarget) (actions : List Action) → AreActions target at count (steps_of f) actions → weights actions ≤ cost_for f target
+  pub weights_within : (target : CodeTarget) (actions : List Action) → AreActions target (seats_of f at) count (steps_of f) actions → weights actions ≤ cost_for f target
   unfolding steps_of
   weights_within target actions is = weights_from f h at count is_count target [] f.insns actions (are_planned f h at stand) is
 
-  pub all_ready : (k : ℕ) (d : Step) → k < length (steps_of f) → IsReady (layout_of f) at (slice_index (sizes_of f)) count (get_or (steps_of f) k d)
+  pub all_ready : (k : ℕ) (d : Step) → k < length (steps_of f) → IsReady (layout_of f) (seats_of f at) (slice_index (sizes_of f)) count (get_or (steps_of f) k d)
   unfolding steps_of
   all_ready k d l = ready_from f h at count is_count [] f.insns (are_planned f h at stand) is_count.operands k d l
 
-  pub all_same : (target : CodeTarget) (actions : List Action) → AreActions target at count (steps_of f) actions → Each (SameFor (slice_index (sizes_of f)) (size_of_slot f.vars)) actions
+  pub all_same : (target : CodeTarget) (actions : List Action) → AreActions target (seats_of f at) count (steps_of f) actions → Each (SameFor (slice_index (sizes_of f)) (size_of_slot f.vars)) actions
   unfolding steps_of
   all_same target actions is = same_from f h at count is_count target [] f.insns actions (are_planned f h at stand) is

@@ -17,7 +17,7 @@ use Rattle.x86_ins.specs.Way.{Each}
 use Rattle.x86_flow.specs.Moves.{IsWidth, away, store_either_code}
 use Rattle.x86_flow.proofs.Spelled.{IsFine, fine_alu_imm, fits_up, each_both, fine_vec, fine_from_gpr, fine_to_gpr, fine_load_far, fine_store_far, fine_aligned_store, fine_vec_load, fine_vec_store}
 use Rattle.orc_frame.specs.Layout.{pattern_slot, sum_slot, spill_slot}
-use Rattle.orc_region.specs.Code.{Action, IsRule, Source, FromArray, FromPattern, FromPlace, FromSlot, Target, ToArray, ToSum, ToResident, ToPlace, ToSlot, Plan, pointer, place_register, made_in, sum_home, first_register, second_register, third_register, rule_register, rule_code, AreBlocks, IsBlocksTurn, far_by, source_far_code, brought, sources_far_code, sum_code, result_far_code, results_far_code, own_names, action_names, action_far_code, named_code, actions_far_code, advance_code}
+use Rattle.orc_region.specs.Code.{Action, IsRule, Source, FromArray, FromPattern, FromResident, FromPlace, FromSlot, Target, ToArray, ToSum, ToResident, ToPlace, ToSlot, Plan, pointer, place_register, resident_register, made_in, sum_home, first_register, second_register, third_register, rule_register, rule_code, AreBlocks, IsBlocksTurn, far_by, source_far_code, brought, sources_far_code, sum_code, result_far_code, results_far_code, own_names, action_names, action_far_code, named_code, actions_far_code, advance_code}
 use Rattle.orc_frame.proofs.Counted.{fine_vec_imm, fine_shuffle}
 use Rattle.orc_region.proofs.Block.Keeping.{ins_of}
 use Rattle.orc_region.proofs.Block.Names.{IsSmall, own_permutes, source_permutes}
@@ -78,6 +78,7 @@ module _ (count : ℕ) (size far : ℕ → ℕ) (aligned : ℕ → Bool) (near :
   fine_source : (x : ℕ) (s : Source) → x < 16 → IsFromSlot count size s → Each IsFine (source_far_code count size far x s)
   fine_source x (FromArray k) l h = fine_load_far (count * size k) x (pointer k) (far k) h.0 l (pointer_small k h.1) (near k)
   fine_source x (FromPattern j) l h = (fine_vec_load Movdqu x (away 4 (pattern_slot j)) l (omega arith) (fits_up (pattern_slot j) (omega (arith, h))), tt)
+  fine_source x (FromResident j g) l h = fine_rule (Vec Movdqa x (resident_register g) ∷ []) refl ((l, omega arith), tt)
   fine_source x (FromPlace p) l h = fine_rule (Vec Movdqa x (place_register p) ∷ []) refl ((l, omega (arith, h)), tt)
   fine_source x (FromSlot k) l h = (fine_vec_load Movdqu x (away 4 (spill_slot k)) l (omega arith) (fits_up (spill_slot k) (omega (arith, h))), tt)
 
@@ -155,6 +156,7 @@ module _ (count : ℕ) (size far : ℕ → ℕ) (aligned : ℕ → Bool) (near :
   small_sources [] h = tt
   small_sources (FromArray k ∷ ss) h = (tt, small_sources ss h.1)
   small_sources (FromPattern j ∷ ss) h = (tt, small_sources ss h.1)
+  small_sources (FromResident j g ∷ ss) h = (tt, small_sources ss h.1)
   small_sources (FromPlace p ∷ ss) h = (h.0, small_sources ss h.1)
   small_sources (FromSlot k ∷ ss) h = (tt, small_sources ss h.1)
 
@@ -179,6 +181,7 @@ from_few : (ss : List Source) → from_weights ss ≤ 2 * length ss
 from_few [] = omega arith
 from_few (FromArray k ∷ ss) = omega (arith, from_few ss)
 from_few (FromPattern j ∷ ss) = omega (arith, from_few ss)
+from_few (FromResident j g ∷ ss) = omega (arith, from_few ss)
 from_few (FromPlace p ∷ ss) = omega (arith, from_few ss)
 from_few (FromSlot k ∷ ss) = omega (arith, from_few ss)
 

@@ -10,13 +10,14 @@ use Rattle.x86_flow.specs.Moves.{IsWidth, load_far_code, store_either_code}
 use Rattle.x86_flow.proofs.Moves.{each_width}
 use Rattle.orc_program.specs.Need.{registers}
 use Rattle.orc_frame.specs.Layout.{spill_slots}
-use Rattle.orc_region.specs.Code.{Action, IsRule, Source, FromArray, FromPattern, FromPlace, FromSlot, Target, ToArray, ToSum, ToResident, ToPlace, ToSlot, AreBlocks, IsBlocksTurn, pointer, far_by, first_register, second_register, rule_register, rule_code, source_far_code, brought, sources_far_code, sum_code, result_far_code, results_far_code, own_names, action_names, action_far_code, named_code, actions_far_code, advance_code}
+use Rattle.orc_region.specs.Code.{Action, IsRule, Source, FromArray, FromPattern, FromResident, FromPlace, FromSlot, Target, ToArray, ToSum, ToResident, ToPlace, ToSlot, AreBlocks, IsBlocksTurn, pointer, far_by, first_register, second_register, rule_register, rule_code, source_far_code, brought, sources_far_code, sum_code, result_far_code, results_far_code, own_names, action_names, action_far_code, named_code, actions_far_code, advance_code}
 use Rattle.orc_region.proofs.Sizes.Cost.{from_weight, from_weights, to_weight, to_weights, weight, weights}
 
 -- a slot of an array whose elements can be moved so many at once, one of the frame, or a place's register
 abbrev pub IsFromSlot : ℕ → (ℕ → ℕ) → Source → Type 0
 IsFromSlot count size (FromArray k) = IsWidth (count * size k) × (k < 12)
 IsFromSlot count size (FromPattern j) = j < 48
+IsFromSlot count size (FromResident j g) = g < registers
 IsFromSlot count size (FromPlace p) = p < registers
 IsFromSlot count size (FromSlot k) = k < spill_slots
 
@@ -50,6 +51,7 @@ module _ (count : ℕ) (size far : ℕ → ℕ) (aligned : ℕ → Bool) where
   source_length : (x : ℕ) (s : Source) → IsFromSlot count size s → length (source_far_code count size far x s) ≤ from_weight s
   source_length x (FromArray k) h = load_count (count * size k) x (pointer k) (far k) h.0
   source_length x (FromPattern j) h = omega arith
+  source_length x (FromResident j g) h = omega arith
   source_length x (FromPlace p) h = omega arith
   source_length x (FromSlot k) h = omega arith
 

@@ -7,7 +7,7 @@ abbrev pub regions_of : ℕ → ℕ → ℕ → ℕ
 regions_of besides turned turn = besides + turned * (2 + turn)
 
 -- what is left for a row's elements besides their turns: 17 and 3 for each array
-pub regions_steps : (turned cost patterns sums arrays lists besides turn rows : ℕ) → lists ≤ 23 + 8 * patterns + 16 * sums → turn ≤ cost + arrays + 4 → besides ≤ 17 + 3 * arrays → arrays ≤ 12
+pub regions_steps : (turned cost patterns sums arrays lists besides turn rows : ℕ) → lists ≤ 32 + 8 * patterns + 16 * sums → turn ≤ cost + arrays + 4 → besides ≤ 17 + 3 * arrays → arrays ≤ 12
     → lists + (2 * arrays + 3) + (1 + rows * (2 + (regions_of besides turned turn + 5 * arrays + 5))) + 1 ≤ steps_with turned cost patterns sums arrays rows
 regions_steps turned cost patterns sums arrays lists besides turn rows short few_turn few_besides few =
     let within : turned * (2 + turn) ≤ turned * (cost + arrays + 6) = mul-le-mul_left turned (omega (arith, few_turn)) in

@@ -13,10 +13,10 @@ use Rattle.orc_plan.specs.Lowered.{steps_of}
 use Rattle.orc_program.specs.declared.program.VarKind.TheVariants as kind
 use Rattle.orc_program.specs.Program.{FunctionValue, count_of}
 use Rattle.orc_program.specs.Slots.{size_of_slot}
-use Rattle.orc_frame.specs.Layout.{sum_slot}
+use Rattle.orc_frame.specs.Layout.{pattern_slot, sum_slot}
 use Rattle.sse_laws.specs.Targets.{IsCodeFor}
 use Rattle.sse_laws.proofs.Targeted.{behind_for, either_for, renamed_for}
-use Rattle.orc_region.specs.Code.{Action, Source, FromArray, FromPattern, FromPlace, FromSlot, Target, ToArray, ToSum, ToResident, ToPlace, ToSlot, AreActions, AreBlocks, IsBlocksTurn, IsBlock, IsTurnOf, pointer, far_by, aligned_first, first_register, second_register, rule_register, rule_code, source_far_code, brought, sources_far_code, sum_code, result_far_code, results_far_code, own_names, action_names, action_far_code, named_code, actions_far_code, advance_code, last_place, is_resident, sum_register, sum_load_code, sum_loads_code, sum_store_code, sum_stores_code}
+use Rattle.orc_region.specs.Code.{Action, Source, FromArray, FromPattern, FromResident, FromPlace, FromSlot, Target, ToArray, ToSum, ToResident, ToPlace, ToSlot, AreActions, AreBlocks, IsBlocksTurn, IsBlock, IsTurnOf, pointer, far_by, aligned_first, first_register, second_register, rule_register, rule_code, source_far_code, brought, sources_far_code, sum_code, result_far_code, results_far_code, own_names, action_names, action_far_code, named_code, actions_far_code, advance_code, Seats, seats_of, last_place, is_resident, resident_register, resident_load_code, loads_code, resident_loads_code, sum_store_code, sum_stores_code}
 
 module _ (t : CodeTarget) where
   -- ---- one action
@@ -45,6 +45,7 @@ module _ (t : CodeTarget) where
     source_for : (x : ℕ) (s : Source) → IsCodeFor t (source_far_code count size far x s)
     source_for x (FromArray k) = load_for (count * size k) x (pointer k) (far k)
     source_for x (FromPattern j) = refl
+    source_for x (FromResident j g) = refl
     source_for x (FromPlace p) = refl
     source_for x (FromSlot k) = refl
 
@@ -99,19 +100,19 @@ module _ (t : CodeTarget) where
         let own = action_far_code count size far aligned a in
         behind_for t (map (renamed (renaming mine)) own) (named_code mine count size far aligned rest) (renamed_for t (renaming mine) own (action_for a h.0)) (named_for mine rest h.1)
 
-  rules_for : (at : List ℕ) (count : ℕ) (steps : List Step) (actions : List Action) → AreActions t at count steps actions → Each (λ (a : Action). IsCodeFor t a.rule) actions
-  rules_for at count [] [] are = tt
-  rules_for at count (s ∷ steps) (a ∷ rest) are = (are.0.0.for_target, rules_for at count steps rest are.1)
-  rules_for at count [] (a ∷ rest) are = absurd are
-  rules_for at count (s ∷ steps) [] are = absurd are
+  rules_for : (seats : Seats) (count : ℕ) (steps : List Step) (actions : List Action) → AreActions t seats count steps actions → Each (λ (a : Action). IsCodeFor t a.rule) actions
+  rules_for seats count [] [] are = tt
+  rules_for seats count (s ∷ steps) (a ∷ rest) are = (are.0.0.for_target, rules_for seats count steps rest are.1)
+  rules_for seats count [] (a ∷ rest) are = absurd are
+  rules_for seats count (s ∷ steps) [] are = absurd are
 
-  module _ (at : List ℕ) (count : ℕ) (steps : List Step) (size : ℕ → ℕ) (aligned : ℕ → Bool) where
-    actions_for : (far : ℕ → ℕ) (actions : List Action) → AreActions t at count steps actions → IsCodeFor t (actions_far_code count size far aligned actions)
-    actions_for far actions are = named_for count size far aligned own_names actions (rules_for at count steps actions are)
+  module _ (seats : Seats) (count : ℕ) (steps : List Step) (size : ℕ → ℕ) (aligned : ℕ → Bool) where
+    actions_for : (far : ℕ → ℕ) (actions : List Action) → AreActions t seats count steps actions → IsCodeFor t (actions_far_code count size far aligned actions)
+    actions_for far actions are = named_for count size far aligned own_names actions (rules_for seats count steps actions are)
 
     -- ---- turns
 
-    blocks_for : (b : ℕ) (list : List Ins) → AreBlocks (AreActions t at count steps) count size aligned b list → IsCodeFor t list
+    blocks_for : (b : ℕ) (list : List Ins) → AreBlocks (AreActions t seats count steps) count size aligned b list → IsCodeFor t list
     blocks_for zero list x = subst (IsCodeFor t) (sym x) refl
     blocks_for (suc b) list x =
         subst (IsCodeFor t) (sym x.4) (behind_for t x.0 (actions_far_code count size (far_by (b * count) size) aligned x.1) (blocks_for b x.0 x.2) (actions_for (far_by (b * count) size) x.1 x.3))
@@ -120,7 +121,7 @@ module _ (t : CodeTarget) where
     advance_for by first zero = refl
     advance_for by first (suc n) = behind_for t (advance_code size by first n) (AluImm Add (pointer (first + n)) (pos (by * size (first + n))) ∷ []) (advance_for by first n) refl
 
-    turn_for : (dests sources b : ℕ) (list : List Ins) → IsBlocksTurn (AreActions t at count steps) count size aligned dests sources b list → IsCodeFor t list
+    turn_for : (dests sources b : ℕ) (list : List Ins) → IsBlocksTurn (AreActions t seats count steps) count size aligned dests sources b list → IsCodeFor t list
     turn_for dests sources b list x =
         let by = b * count in
         let first = advance_code size by 0 dests in
@@ -134,18 +135,24 @@ module _ (t : CodeTarget) where
 
 module _ (f : FunctionValue) (t : CodeTarget) (at : List ℕ) where
   pub block_is_for : (count : ℕ) (aligned : Bool) (list : List Ins) → IsBlock f t at count aligned list → IsCodeFor t list
-  block_is_for count aligned list x = subst (IsCodeFor t) (sym x.2) (actions_for t at count (steps_of f) (size_of_slot f.vars) (aligned_first aligned) (far_by 0 (size_of_slot f.vars)) x.0 x.1)
+  block_is_for count aligned list x = subst (IsCodeFor t) (sym x.2) (actions_for t (seats_of f at) count (steps_of f) (size_of_slot f.vars) (aligned_first aligned) (far_by 0 (size_of_slot f.vars)) x.0 x.1)
 
   pub turn_is_for : (count : ℕ) (aligned : Bool) (b : ℕ) (list : List Ins) → IsTurnOf f t at count aligned b list → IsCodeFor t list
-  turn_is_for count aligned b list x = turn_for t at count (steps_of f) (size_of_slot f.vars) (aligned_first aligned) (count_of kind.Dest f.vars) (count_of kind.Source f.vars) b list x
+  turn_is_for count aligned b list x = turn_for t (seats_of f at) count (steps_of f) (size_of_slot f.vars) (aligned_first aligned) (count_of kind.Dest f.vars) (count_of kind.Source f.vars) b list x
 
--- ---- running sums to and from registers
+-- ---- residents to their registers, and running sums back
 
 module _ (t : CodeTarget) (at : List ℕ) where
-  pub sum_loads_for : (n : ℕ) → IsCodeFor t (sum_loads_code at n)
-  sum_loads_for zero = refl
-  sum_loads_for (suc n) = behind_for t (sum_loads_code at n) (sum_load_code at n) (sum_loads_for n) (either_for t (is_resident (last_place at) n) (VecLoad Movdqu (sum_register n) (away 4 (sum_slot n)) ∷ []) [] refl refl)
+  loads_for : (number slot : ℕ → ℕ) (n : ℕ) → IsCodeFor t (loads_code at number slot n)
+  loads_for number slot zero = refl
+  loads_for number slot (suc n) =
+      behind_for t (loads_code at number slot n) (resident_load_code at (number n) (away 4 (slot n))) (loads_for number slot n)
+      (either_for t (is_resident (last_place at) (number n)) (VecLoad Movdqu (resident_register (number n)) (away 4 (slot n)) ∷ []) [] refl refl)
+
+  pub resident_loads_for : (sums patterns : ℕ) → IsCodeFor t (resident_loads_code at sums patterns)
+  resident_loads_for sums patterns =
+      behind_for t (loads_code at (λ g. g) sum_slot sums) (loads_code at (λ j. sums + j) pattern_slot patterns) (loads_for (λ g. g) sum_slot sums) (loads_for (λ j. sums + j) pattern_slot patterns)
 
   pub sum_stores_for : (n : ℕ) → IsCodeFor t (sum_stores_code at n)
   sum_stores_for zero = refl
-  sum_stores_for (suc n) = behind_for t (sum_stores_code at n) (sum_store_code at n) (sum_stores_for n) (either_for t (is_resident (last_place at) n) (VecStore Movdqu (sum_register n) (away 4 (sum_slot n)) ∷ []) [] refl refl)
+  sum_stores_for (suc n) = behind_for t (sum_stores_code at n) (sum_store_code at n) (sum_stores_for n) (either_for t (is_resident (last_place at) n) (VecStore Movdqu (resident_register n) (away 4 (sum_slot n)) ∷ []) [] refl refl)

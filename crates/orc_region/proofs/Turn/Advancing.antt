@@ -17,7 +17,7 @@ use Rattle.x86_flow.proofs.Moves.{line_append}
 use Rattle.x86_flow.proofs.Touching.{touches_none}
 use Rattle.x86_flow.proofs.Plans.{line_map}
 use Rattle.orc_frame.specs.Parts.{InChanged}
-use Rattle.orc_region.specs.Code.{Plan, Action, AreBlocks, IsBlocksTurn, pointer, sum_register, far_by, own_names, action_far_code, actions_far_code, advance_code}
+use Rattle.orc_region.specs.Code.{Plan, Action, AreBlocks, IsBlocksTurn, pointer, resident_register, far_by, own_names, action_far_code, actions_far_code, advance_code}
 use Rattle.orc_region.proofs.Block.Registers.{not_0, not_1, not_4, not_7, pointer_one}
 use Rattle.sse_acc.specs.Sums.{sum_below}
 use Rattle.orc_region.proofs.Block.Cells.{Numbers, OfDests, Local, no_values, Lanes, Others, AtElements, AllKnown, Decided, Low, local, adds, elements_or_not, same_end}
@@ -197,7 +197,7 @@ module _ (n : ℕ) (base : ℕ → ℕ) (P : ℕ → Type 0) (numbers : Numbers)
                 stack = g 4 (λ x. omega (arith, x)) ∙ h.calm.stack;
                 quiet = λ a m s. o a (λ x. m (dest a x)) s ∙ h.calm.quiet a m s;
               } in
-              let b = named_line n base p.size P numbers rsp set.ground Near far aligned count some own_names j p.actions c c.memory no_values sig totals own_permutes (λ g l. own_name (sum_register g) (omega arith)) set.known set.taken fit ins_all w at h.calm.stack hc h.framed (λ p l q lq r lr lb. absurd (omega (arith, lr))) h.bounded (λ a m s. refl) (λ u ins g o. (calm u g o, g, o)) in
+              let b = named_line n base p.size P numbers rsp set.ground Near far aligned count some own_names j p.actions c c.memory no_values sig totals own_permutes (λ g l. own_name (resident_register g) (omega arith)) set.known set.taken fit ins_all w at h.calm.stack hc h.framed (λ p l q lq r lr lb. absurd (omega (arith, lr))) h.bounded (λ a m s. refl) (λ u ins g o. (calm u g o, g, o)) in
               let frame = set.ground.frame in
               let whole : (k : ℕ) → P k → aligned k ≡ true → count * p.size k ≡ 16 = λ k hk t. (aligns k hk t).0 in
               let goes = actions_go n base p.size P numbers frame.few_patterns frame.few_sums far aligned count whole no_values p.actions set.known fit in
@@ -286,7 +286,7 @@ module _ (n : ℕ) (base : ℕ → ℕ) (P : ℕ → Type 0) (numbers : Numbers)
               calm = record { stack = calm.stack; quiet = calm.quiet };
               agree = λ t nf. ap (λ f. f t) memory ∙ g.agree t nf;
               mapped = g.mapped;
-              framed = framed_same numbers rsp set.ground.frame b d new (λ t l u. ap (λ f. f t) memory) (λ k l. ap (λ f. f (sum_register k)) (y.2.xmm ∙ x.2.xmm)) g.framed;
+              framed = framed_same numbers rsp set.ground.frame b d new (λ t l u. ap (λ f. f t) memory) (λ k l. ap (λ f. f (resident_register k)) (y.2.xmm ∙ x.2.xmm)) g.framed;
               bounded = line_bounded Q (code ++ (advance_code p.size by 0 p.dests ++ (advance_code p.size by 4 p.sources ++ AluImm Sub 1 (pos by) ∷ []))) c d known line bounded;
             },
             fewer_is,

@@ -14,7 +14,7 @@ use Rattle.x86_flow.specs.Touching.{touch_weight}
 use Rattle.x86_flow.proofs.Plans.{weigh}
 use Rattle.x86_flow.proofs.Spelled.{IsFine, all_spelled}
 use Rattle.orc_frame.specs.Function.{subject_of}
-use Rattle.orc_region.specs.Code.{Action, AreActions, IsBlock, IsBlockBy, span_of, far_by, aligned_first, action_far_code}
+use Rattle.orc_region.specs.Code.{Action, AreActions, seats_of, IsBlock, IsBlockBy, span_of, far_by, aligned_first, action_far_code}
 use Rattle.orc_region.proofs.Sizes.Counts.{actions_count}
 use Rattle.orc_region.proofs.Sizes.Bytes.{fine_actions, ins_actions}
 use Rattle.orc_region.proofs.Checked.Several.{IsCount}
@@ -32,14 +32,14 @@ module _ (f : FunctionValue) (h : is_function f ≡ true) (at : List ℕ) (good 
   near : (k : ℕ) → far_by 0 size k < 2 ^ 31
   near k = omega arith
 
-  pub block_is : (target : CodeTarget) (list : List Ins) → IsBlockBy at (sizes_of f) (steps_of f) (span_of target count aligned) list → IsBlock f target at count aligned list
+  pub block_is : (target : CodeTarget) (list : List Ins) → IsBlockBy (seats_of f at) (sizes_of f) (steps_of f) (span_of target count aligned) list → IsBlock f target at count aligned list
   block_is target list x =
       let steps : ℕ → ℕ = slice_index (sizes_of f) in
       let same = same_actions steps size count (far_by 0 steps) (far_by 0 size) (aligned_first aligned) (λ k e. ap (λ n. 0 * n) e) x.0 (all_same f h at (stand_is f h at good) count is_count target x.0 x.1) in
       (x.0, x.1, x.2 ∙ same)
 
   -- the instructions of its actions
-  pub ins_of_block : (target : CodeTarget) (actions : List Action) → AreActions target at count (steps_of f) actions → Each (λ a. Each IsIns (action_far_code count size (far_by 0 size) (aligned_first aligned) a)) actions
+  pub ins_of_block : (target : CodeTarget) (actions : List Action) → AreActions target (seats_of f at) count (steps_of f) actions → Each (λ a. Each IsIns (action_far_code count size (far_by 0 size) (aligned_first aligned) a)) actions
   ins_of_block target actions is = ins_actions count size (far_by 0 size) (aligned_first aligned) near actions (small_plan f h at good count is_count target actions is).actions
 
   module _ (target : CodeTarget) (list : List Ins) (x : IsBlock f target at count aligned list) where

@@ -19,7 +19,7 @@ use Rattle.x86_ins.specs.Way.{Each}
 use Rattle.x86_flow.specs.Flow.{size}
 use Rattle.x86_flow.proofs.Spelled.{IsFine, all_spelled, size_within}
 use Rattle.orc_frame.specs.Layout.{layout_of}
-use Rattle.orc_region.specs.Code.{Action, AreActions, AreBlocks, IsBlocksTurn, blocks_of, IsReady, IsTurnBy, IsTurnOf, span_of, plan_with, far_by, aligned_first, advance_code, action_far_code}
+use Rattle.orc_region.specs.Code.{Action, AreActions, seats_of, AreBlocks, IsBlocksTurn, blocks_of, IsReady, IsTurnBy, IsTurnOf, span_of, plan_with, far_by, aligned_first, advance_code, action_far_code}
 use Rattle.orc_region.proofs.Sizes.Cost.{weights}
 use Rattle.orc_region.proofs.Sizes.Counts.{IsMovable, turn_count}
 use Rattle.orc_region.proofs.Checked.Acts.{AllPlaced}
@@ -83,11 +83,11 @@ module _ (f : FunctionValue) (h : is_function f ≡ true) (at : List ℕ) (good 
 
   module _ (count : ℕ) (is_count : IsCount f count) where
     -- its steps' code can be given
-    pub ready_is : All (IsReady (layout_of f) at (slice_index (sizes_of f)) count) (steps_of f)
+    pub ready_is : All (IsReady (layout_of f) (seats_of f at) (slice_index (sizes_of f)) count) (steps_of f)
     ready_is = all_ready f h at stand_is count is_count
 
     abbrev Acts : CodeTarget → List Action → Type 0
-    Acts target = AreActions target at count (steps_of f)
+    Acts target = AreActions target (seats_of f at) count (steps_of f)
 
     -- ---- the lists are what the plan says
 
@@ -97,14 +97,14 @@ module _ (f : FunctionValue) (h : is_function f ≡ true) (at : List ℕ) (good 
         let block = same_actions steps slots count (far_by (b * count) steps) (far_by (b * count) slots) (aligned_first aligned) (λ k e. ap (λ n. b * count * n) e) x.1 (all_same f h at stand_is count is_count target x.1 x.3) in
         (x.0, x.1, same_blocks target aligned b x.0 x.2, x.3, x.4 ∙ ap (λ (l : List Ins). x.0 ++ l) block)
 
-    pub turn_is : (target : CodeTarget) (aligned : Bool) (b : ℕ) (list : List Ins) → IsTurnBy at (sizes_of f) (steps_of f) (count_of kind.Dest f.vars) (count_of kind.Source f.vars) (span_of target count aligned) b list → IsTurnOf f target at count aligned b list
+    pub turn_is : (target : CodeTarget) (aligned : Bool) (b : ℕ) (list : List Ins) → IsTurnBy (seats_of f at) (sizes_of f) (steps_of f) (count_of kind.Dest f.vars) (count_of kind.Source f.vars) (span_of target count aligned) b list → IsTurnOf f target at count aligned b list
     turn_is target aligned b list x = (x.0, same_blocks target aligned b x.0 x.1, x.2 ∙ ap (λ (l : List Ins). x.0 ++ l) (same_moves (b * count)))
 
     -- ---- the plan by actions of the steps
 
-    module _ (target : CodeTarget) (actions : List Action) (is : AreActions target at count (steps_of f) actions) where
+    module _ (target : CodeTarget) (actions : List Action) (is : AreActions target (seats_of f at) count (steps_of f) actions) where
       pub small_plan : Small count (plan_with f actions)
-      small_plan = small_with f h count is_count target at actions (all_movable f h at stand_is count is_count target actions is) is
+      small_plan = small_with f h count is_count target (seats_of f at) actions (all_movable f h at stand_is count is_count target actions is) is
 
       pub weights_few : weights actions ≤ cost_for f target
       weights_few = weights_within f h at stand_is count is_count target actions is

@@ -18,7 +18,7 @@ use Rattle.orc_frame.specs.Function.{array_operands, subject_of}
 use Rattle.x86_ins.specs.declared.ins.Ins.{Ins}
 use Rattle.x86_flow.specs.Touching.{touch_weight}
 use Rattle.x86_flow.proofs.Plans.{weigh}
-use Rattle.orc_region.specs.Code.{Action, Source, FromArray, FromPattern, FromPlace, FromSlot, Target, ToArray, ToSum, ToResident, ToPlace, ToSlot, source_of, target_of, IsAction, AreActions, patterns_in, aligned_first, IsTurnOf}
+use Rattle.orc_region.specs.Code.{Action, Source, FromArray, FromPattern, FromResident, FromPlace, FromSlot, Target, ToArray, ToSum, ToResident, ToPlace, ToSlot, seats_of, source_of, target_of, IsAction, AreActions, patterns_in, aligned_first, IsTurnOf}
 use Rattle.orc_region.proofs.Checked.Direct.{IsSourced, IsTargeted}
 use Rattle.orc_region.proofs.Checked.Acts.{AllPlaced, AreSourced, AreTargeted, IsPlanned, ArePlanned, are_planned}
 use Rattle.orc_region.proofs.Checked.Several.{IsCount}
@@ -44,6 +44,7 @@ module _ (f : FunctionValue) (at : List ℕ) where
   from_one : (temps : List ℕ) (steps : List Step) (op : Op) (prefix position : ℕ) (o : Operand) (s : Source) → IsSourced f at temps steps op prefix position o s → from_arrays (s ∷ []) ≤ one o
   from_one temps steps op prefix position o (FromArray k) d = (let e : one o ≡ 1 = ap one d.1 ∙ array_one (var_at f.vars d.0).kind d.2.array in omega (arith, e))
   from_one temps steps op prefix position o (FromPattern j) d = omega arith
+  from_one temps steps op prefix position o (FromResident j g) d = omega arith
   from_one temps steps op prefix position o (FromPlace a) d = omega arith
   from_one temps steps op prefix position o (FromSlot k) d = omega arith
 
@@ -78,13 +79,13 @@ module _ (f : FunctionValue) (at : List ℕ) where
   to_all op prefix (x ∷ y ∷ []) (t ∷ u ∷ v ∷ more) d = absurd d
   to_all op prefix (x ∷ y ∷ z ∷ rest) ts d = absurd d
 
-  one_action : {target : CodeTarget} (count : ℕ) (temps : List ℕ) (insn : Insn) (rest : List Insn) (a : Action) → IsPlanned f at temps insn rest → IsAction target at count (step_of f.vars (patterns_in f) temps insn) a → from_arrays a.sources + to_arrays a.to ≤ array_operands f.vars insn
+  one_action : {target : CodeTarget} (count : ℕ) (temps : List ℕ) (insn : Insn) (rest : List Insn) (a : Action) → IsPlanned f at temps insn rest → IsAction target (seats_of f at) count (step_of f.vars (patterns_in f) temps insn) a → from_arrays a.sources + to_arrays a.to ≤ array_operands f.vars insn
   one_action count temps insn rest a d is =
-      let sources = from_all temps (steps_after f.vars (patterns_in f) temps (insn ∷ rest)) insn.op insn.prefix insn.sources.items (map (source_of at) (source_items f.vars (patterns_in f) temps insn.op 0 insn.sources.items)) d.sources in
+      let sources = from_all temps (steps_after f.vars (patterns_in f) temps (insn ∷ rest)) insn.op insn.prefix insn.sources.items (map (source_of (seats_of f at)) (source_items f.vars (patterns_in f) temps insn.op 0 insn.sources.items)) d.sources in
       let results = to_all insn.op insn.prefix insn.results.items (map (target_of at) (result_items f.vars (length temps) insn.results.items)) d.to in
       omega (arith, ap from_arrays is.sources, ap to_arrays is.to, sources, results)
 
-  arrays_from : (target : CodeTarget) (count : ℕ) (temps : List ℕ) (insns : List Insn) (actions : List Action) → ArePlanned f at temps insns → AreActions target at count (steps_after f.vars (patterns_in f) temps insns) actions → arrays_of actions ≤ sum_by (array_operands f.vars) insns
+  arrays_from : (target : CodeTarget) (count : ℕ) (temps : List ℕ) (insns : List Insn) (actions : List Action) → ArePlanned f at temps insns → AreActions target (seats_of f at) count (steps_after f.vars (patterns_in f) temps insns) actions → arrays_of actions ≤ sum_by (array_operands f.vars) insns
   arrays_from target count temps [] [] d is = omega arith
   arrays_from target count temps [] (a ∷ rest) d is = absurd is
   arrays_from target count temps (insn ∷ insns) [] d is = absurd is
@@ -92,7 +93,7 @@ module _ (f : FunctionValue) (at : List ℕ) where
       omega (arith, one_action count temps insn insns a d.0 is.0.0, arrays_from target count (temps ++ made_by f.vars insn) insns rest d.1 is.1, sum_by-cons (array_operands f.vars) insn insns)
 
 -- the actions of a function's steps
-pub arrays_few : (target : CodeTarget) (f : FunctionValue) → is_function f ≡ true → (at : List ℕ) → AllPlaced f at → (count : ℕ) (actions : List Action) → AreActions target at count (steps_of f) actions → arrays_of actions ≤ (subject_of f).operands
+pub arrays_few : (target : CodeTarget) (f : FunctionValue) → is_function f ≡ true → (at : List ℕ) → AllPlaced f at → (count : ℕ) (actions : List Action) → AreActions target (seats_of f at) count (steps_of f) actions → arrays_of actions ≤ (subject_of f).operands
 unfolding steps_of
 arrays_few target f h at stand count actions is = arrays_from f at target count [] f.insns actions (are_planned f h at stand) is
 
@@ -101,4 +102,4 @@ arrays_few target f h at stand count actions is = arrays_from f at target count 
 -- a turn's instructions that go by some registers, of which RSP is none, are in each block at most as many as the function's operands that are arrays
 module _ (by : ℕ → Bool) (by_stack : by 4 ≡ false) (f : FunctionValue) (h : is_function f ≡ true) (at : List ℕ) (stand : AllPlaced f at) (count : ℕ) (is_count : IsCount f count) where
   pub turn_light : (target : CodeTarget) (aligned : Bool) (b : ℕ) (list : List Ins) → IsTurnOf f target at count aligned b list → weigh (touch_weight by) list ≤ b * (subject_of f).operands
-  turn_light target aligned b list = turn_few by by_stack count (size_of_slot f.vars) (aligned_first aligned) (AreActions target at count (steps_of f)) (all_fit f h at stand count is_count target) (subject_of f).operands (arrays_few target f h at stand count) (count_of kind.Dest f.vars) (count_of kind.Source f.vars) b list
+  turn_light target aligned b list = turn_few by by_stack count (size_of_slot f.vars) (aligned_first aligned) (AreActions target (seats_of f at) count (steps_of f)) (all_fit f h at stand count is_count target) (subject_of f).operands (arrays_few target f h at stand count) (count_of kind.Dest f.vars) (count_of kind.Source f.vars) b list

@@ -11,7 +11,7 @@ use Rattle.x86_flow.specs.Flow.{Flow, Plain}
 use Rattle.x86_flow.specs.Touching.{touch_weight}
 use Rattle.x86_flow.specs.Does.{Does}
 use Rattle.x86_flow.proofs.Plans.{weigh}
-use Rattle.orc_region.specs.Code.{Plan, IsBlocksTurn, pointer, sum_register, aligned_first, turns_flow, from_first, from_boundary}
+use Rattle.orc_region.specs.Code.{Plan, IsBlocksTurn, pointer, resident_register, aligned_first, turns_flow, from_first, from_boundary}
 use Rattle.orc_region.specs.Regions.{wide_loop, wide_loops}
 use Rattle.orc_region.proofs.Block.Registers.{not_0, not_1}
 use Rattle.orc_region.proofs.Block.Cells.{Numbers}
@@ -93,7 +93,7 @@ module _ (n : ℕ) (base : ℕ → ℕ) (P : ℕ → Type 0) (numbers : Numbers)
             calm = record { stack = b.gpr 4 (λ e. omega (arith, e)) (λ e. omega (arith, e)) ∙ x.calm.stack; quiet = λ a k s. refl };
             agree = λ a nf. b.memory a (λ w. nf (free_frame a w)) ∙ x.agree a nf;
             mapped = x.mapped;
-            framed = framed_below numbers rsp frame c d h.totals (λ a l u. b.memory a (λ w. omega (arith, w.0, u))) (λ a i. b.mapped a) (λ k l. ap (λ f. f (sum_register k)) b.xmm) x.framed;
+            framed = framed_below numbers rsp frame c d h.totals (λ a l u. b.memory a (λ w. omega (arith, w.0, u))) (λ a i. b.mapped a) (λ k l. ap (λ f. f (resident_register k)) b.xmm) x.framed;
             bounded = bounded;
           };
           emulated = h.emulated;

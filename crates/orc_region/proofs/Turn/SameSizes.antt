@@ -6,12 +6,13 @@ use Rattle.x86_ins.specs.declared.ins.Ins.TheVariants.{AluImm}
 use Rattle.x86_ins.specs.Renaming.{renamed, renaming}
 use Rattle.x86_ins.specs.Way.{Each}
 use Rattle.x86_flow.specs.Moves.{load_far_code, store_either_code}
-use Rattle.orc_region.specs.Code.{Action, Source, FromArray, FromPattern, FromPlace, FromSlot, Target, ToArray, ToSum, ToResident, ToPlace, ToSlot, pointer, first_register, second_register, rule_code, source_far_code, brought, sources_far_code, sum_code, result_far_code, results_far_code, own_names, action_names, named_code, actions_far_code, advance_code}
+use Rattle.orc_region.specs.Code.{Action, Source, FromArray, FromPattern, FromResident, FromPlace, FromSlot, Target, ToArray, ToSum, ToResident, ToPlace, ToSlot, pointer, first_register, second_register, rule_code, source_far_code, brought, sources_far_code, sum_code, result_far_code, results_far_code, own_names, action_names, named_code, actions_far_code, advance_code}
 
 module _ (size other : ℕ → ℕ) where
   abbrev pub SameFrom : Source → Type 0
   SameFrom (FromArray k) = size k ≡ other k
   SameFrom (FromPattern j) = Unit {0}
+  SameFrom (FromResident j g) = Unit {0}
   SameFrom (FromPlace p) = Unit {0}
   SameFrom (FromSlot k) = Unit {0}
 
@@ -29,6 +30,7 @@ module _ (size other : ℕ → ℕ) where
     same_source : (x : ℕ) (s : Source) → SameFrom s → source_far_code count size far x s ≡ source_far_code count other away x s
     same_source x (FromArray k) h = ap₂ (λ n d. load_far_code (count * n) x (pointer k) d) h (same k h)
     same_source x (FromPattern j) h = refl
+    same_source x (FromResident j g) h = refl
     same_source x (FromPlace p) h = refl
     same_source x (FromSlot k) h = refl
 

@@ -9,7 +9,7 @@ use Rattle.x86_flow.specs.Moves.{IsWidth, store_either_code}
 use Rattle.x86_flow.specs.Touching.{weight_by, touch_weight}
 use Rattle.x86_flow.proofs.Plans.{weigh, weigh_append}
 use Rattle.x86_flow.proofs.Moves.{load_weight, store_weight, aligned_store_weight}
-use Rattle.orc_region.specs.Code.{Action, IsRule, Source, FromArray, FromPattern, FromPlace, FromSlot, Target, ToArray, ToSum, ToResident, ToPlace, ToSlot, AreBlocks, IsBlocksTurn, pointer, far_by, first_register, second_register, rule_code, source_far_code, brought, sources_far_code, sum_code, result_far_code, results_far_code, own_names, action_names, action_far_code, named_code, actions_far_code, advance_code}
+use Rattle.orc_region.specs.Code.{Action, IsRule, Source, FromArray, FromPattern, FromResident, FromPlace, FromSlot, Target, ToArray, ToSum, ToResident, ToPlace, ToSlot, AreBlocks, IsBlocksTurn, pointer, far_by, first_register, second_register, rule_code, source_far_code, brought, sources_far_code, sum_code, result_far_code, results_far_code, own_names, action_names, action_far_code, named_code, actions_far_code, advance_code}
 use Rattle.orc_region.proofs.Block.Touched.{GoesNowhere, rule_nowhere, base_renamed}
 use Rattle.orc_region.proofs.Block.Actions.{IsMovedFrom, IsMovedTo, IsFit}
 
@@ -19,6 +19,7 @@ abbrev pub from_arrays : List Source → ℕ
 from_arrays [] = 0
 from_arrays (FromArray k ∷ rest) = 1 + from_arrays rest
 from_arrays (FromPattern j ∷ rest) = from_arrays rest
+from_arrays (FromResident j g ∷ rest) = from_arrays rest
 from_arrays (FromPlace p ∷ rest) = from_arrays rest
 from_arrays (FromSlot k ∷ rest) = from_arrays rest
 
@@ -37,6 +38,7 @@ arrays_of (a ∷ rest) = from_arrays a.sources + to_arrays a.to + arrays_of rest
 pub from_front : (s : Source) (more : List Source) → from_arrays (s ∷ more) ≡ from_arrays (s ∷ []) + from_arrays more
 from_front (FromArray k) more = omega arith
 from_front (FromPattern j) more = omega arith
+from_front (FromResident j g) more = omega arith
 from_front (FromPlace p) more = omega arith
 from_front (FromSlot k) more = omega arith
 
@@ -72,6 +74,7 @@ module _ (by : ℕ → Bool) (by_stack : by 4 ≡ false) where
     from_few : (x : ℕ) (s : Source) → IsMovedFrom count size s → weigh v (source_far_code count size far x s) ≤ from_arrays (s ∷ [])
     from_few x (FromArray k) h = load_weight by (count * size k) x (pointer k) (far k) h
     from_few x (FromPattern j) h = omega (arith, none_4)
+    from_few x (FromResident j g) h = omega (arith, none_4)
     from_few x (FromPlace p) h = omega arith
     from_few x (FromSlot k) h = omega (arith, none_4)
 

@@ -27,7 +27,7 @@ whole_code-requires-clause-few c =
 
 pub whole_code-requires-clause-first_spelled : goal.whole_code-requires-clause-first_spelled
 whole_code-requires-clause-first_spelled c = front_spelled c.args.f.now c.counts_of-counts.ensures.kept c.layout-layout.result c.layout-layout.ensures.value c.args.placed.now.places c.in_ok-first.first c.as_slice.result.now c.in_ok-first.ensures.allowed
-    (c.as_slice.ensures ∙ c.in_ok-append.ensures ∙ ap (λ (l : List Ins). c.in_ok-first.first ++ l) c.in_ok-sum_loads.ensures)
+    (c.as_slice.ensures ∙ c.in_ok-append.ensures ∙ ap (λ (l : List Ins). c.in_ok-first.first ++ l) c.in_ok-resident_loads.ensures)
 
 pub whole_code-requires-clause-last_spelled : goal.whole_code-requires-clause-last_spelled
 whole_code-requires-clause-last_spelled c = behind_spelled c.args.f.now c.counts_of-counts.ensures.kept c.layout-layout.result c.layout-layout.ensures.value c.args.placed.now.places c.in_ok-epilogue.field-0 c.as_slice-2.result.now c.in_ok-epilogue.ensures.allowed
@@ -56,7 +56,7 @@ runs c code e = whole_runs c.args.target c.args.f.now c.counts_of-counts.ensures
       last_short = c.in_ok-epilogue.ensures.short;
     })
     c.args.placed.now.places _ (elements_are c) c.as_slice.result.now c.as_slice-2.result.now
-    (c.as_slice.ensures ∙ c.in_ok-append.ensures ∙ ap (λ (l : List Ins). c.in_ok-first.first ++ l) c.in_ok-sum_loads.ensures) (c.as_slice-2.ensures ∙ c.in_ok-append-2.ensures ∙ ap (λ (l : List Ins). l ++ c.in_ok-epilogue.field-0) c.in_ok-last.ensures)
+    (c.as_slice.ensures ∙ c.in_ok-append.ensures ∙ ap (λ (l : List Ins). c.in_ok-first.first ++ l) c.in_ok-resident_loads.ensures) (c.as_slice-2.ensures ∙ c.in_ok-append-2.ensures ∙ ap (λ (l : List Ins). l ++ c.in_ok-epilogue.field-0) c.in_ok-last.ensures)
     code c.layout-layout.result.two_d c.counts_of-counts.result.dests c.counts_of-counts.result.sources (ap (λ (x : Layout). x.two_d) c.layout-layout.ensures.value ∙ two_d_is c.args.f.now) c.counts_of-counts.ensures.dests c.counts_of-counts.ensures.sources e
 
 pub returns-clause-inside : goal.returns-clause-inside
@@ -70,7 +70,7 @@ only : (c : After-whole_code) (code : List ℕ)
     → HasOnly c.args.target code
 only c code e = has_only c.args.target c.args.f.now c.counts_of-counts.ensures.kept c.layout-layout.result c.layout-layout.ensures.value c.args.placed.now.places c.in_ok-first.first c.in_ok-epilogue.field-0
     c.in_ok-first.ensures.allowed c.in_ok-epilogue.ensures.allowed c.in_ok-first.ensures.sse2 c.in_ok-epilogue.ensures.sse2 c.in_ok-elements.elements (elements_are c) c.in_ok-elements.ensures.target c.as_slice.result.now c.as_slice-2.result.now
-    (c.as_slice.ensures ∙ c.in_ok-append.ensures ∙ ap (λ (l : List Ins). c.in_ok-first.first ++ l) c.in_ok-sum_loads.ensures) (c.as_slice-2.ensures ∙ c.in_ok-append-2.ensures ∙ ap (λ (l : List Ins). l ++ c.in_ok-epilogue.field-0) c.in_ok-last.ensures)
+    (c.as_slice.ensures ∙ c.in_ok-append.ensures ∙ ap (λ (l : List Ins). c.in_ok-first.first ++ l) c.in_ok-resident_loads.ensures) (c.as_slice-2.ensures ∙ c.in_ok-append-2.ensures ∙ ap (λ (l : List Ins). l ++ c.in_ok-epilogue.field-0) c.in_ok-last.ensures)
     c.layout-layout.result.two_d c.counts_of-counts.result.dests c.counts_of-counts.result.sources c.counts_of-counts.ensures.few.0 c.counts_of-counts.ensures.few.1 code e
 
 pub returns-clause-target : goal.returns-clause-target

@@ -17,10 +17,10 @@ invariant_of-result c =
     let x = lowered f p c.args.layout.now are c.requires.places in
     let which = count_by f p c.args.layout.now are c.args.count c.requires.count in
     record {
-      spelled = spelled_of f p.places p.core.sizes p.core.steps x c.args.count which c.args.target c.args.aligned c.args.blocks c.requires.blocks c.in_ok-list.list (turn_of f p.places p.core.sizes p.core.steps x c.args.count which c.args.target c.args.aligned c.args.blocks c.in_ok-list.list c.in_ok-list.ensures);
+      spelled = spelled_of f p.places p.core.sizes p.core.steps x c.args.count which c.args.target c.args.aligned c.args.blocks c.requires.blocks c.in_ok-list.list (turn_of f p.places p.core.sizes p.core.steps x c.args.count which c.args.layout.now are.layout c.args.target c.args.aligned c.args.blocks c.in_ok-list.list c.in_ok-list.ensures);
     }
 
 pub returns : goal.returns
 returns c f are =
     let p : PlacedValue = record { core = c.args.core.now; places = c.args.places.now } in
-    turn_of f p.places p.core.sizes p.core.steps (lowered f p c.args.layout.now are c.requires.places) c.args.count (count_by f p c.args.layout.now are c.args.count c.requires.count) c.args.target c.args.aligned c.args.blocks c.in_ok-list.list c.in_ok-list.ensures
+    turn_of f p.places p.core.sizes p.core.steps (lowered f p c.args.layout.now are c.requires.places) c.args.count (count_by f p c.args.layout.now are c.args.count c.requires.count) c.args.layout.now are.layout c.args.target c.args.aligned c.args.blocks c.in_ok-list.list c.in_ok-list.ensures
