@@ -10,7 +10,7 @@ use Rattle.x86_ins.specs.declared.ins.Ins.TheVariants.{Ret}
 use Rattle.x86_ins.specs.Spelling.{IsAllowed}
 use Rattle.x86_ins.specs.Way.{Each}
 use Rattle.x86_flow.specs.declared.tree.Flow.{Flow as Tree}
-use Rattle.x86_flow.specs.Flow.{Plain, flat, size, again_jump, spell_all, with_return}
+use Rattle.x86_flow.specs.Flow.{Plain, flat, size, again_jump, loop_code, spell_all, with_return}
 use Rattle.x86_flow.specs.Tree.{flat_of}
 use Rattle.x86_flow.proofs.Spelled.{each_both, all_allowed}
 use Rattle.sse_laws.specs.Targets.{IsCodeFor}
@@ -59,7 +59,7 @@ module _ (t : Target) where
       let rows = flat (rows_flow (Plain elements) two_d dests sources) in
       let row_is : IsCodeFor t row = behind_for t enter (elements ++ step) (entry_for dests sources) (behind_for t elements step k (step_for dests sources)) in
       let loop_is : IsCodeFor t (row ++ again_jump Ne (size row) ∷ []) = behind_for t row (again_jump Ne (size row) ∷ []) row_is refl in
-      let rows_is : IsCodeFor t rows = behind_for t starts _ (rows_for dests sources two_d) loop_is in
+      let rows_is : IsCodeFor t rows = behind_for t starts (loop_code Ne row) (rows_for dests sources two_d) loop_is in
       behind_for t (first ++ (rows ++ last)) (Ret ∷ []) (behind_for t first (rows ++ last) h (behind_for t rows last rows_is m)) refl
 
 -- ---- the code of a function
