@@ -1,4 +1,4 @@
-use Rattle.std.proofs.Common.{◌+◌, length}
+use Rattle.std.proofs.Common.{◌+◌, length, rules}
 use Rattle.orc_frame.specs.Layout.{pattern_slot}
 use Rattle.orc_region.proofs.Built.Actions.{loads_more}
 use Rattle.orc_region.proofs.residents.push_patterns.Goals as goal
