@@ -5,5 +5,6 @@ use Rattle.orc_region.specs.declared.turns.Making.{Making}
 use Rattle.orc_region.specs.Elements.{AreOf}
 
 -- it is of this function, with good places of values
-abbrev pub AreFor : FunctionValue → Making → Type 0
-AreFor f m = AreOf f (record { core = m.core.now; places = m.places.now }) m.layout.now × GoodPlaces m.core.now.steps m.places.now
+pub record AreFor (f : FunctionValue) (m : Making) : Type 0 where
+  pub are : AreOf f (record { core = m.core.now; places = m.places.now }) m.layout.now
+  pub good : GoodPlaces m.core.now.steps m.places.now

@@ -281,7 +281,8 @@ fn whole_turns(
     requires few { blocks ≤ 4 }
     ensures { IfOk result (λ flow. (f : FunctionValue) → AreFor f making.now → AreWholeTurns f making.now.target making.now.places.now aligned blocks turn_of_one.list (flat_of flow)) }
 {
-    let lanes = making.core.lanes as usize;
+    let core = making.core;
+    let lanes = core.lanes as usize;
     if blocks == 1 {
         return repeat(alloc, Cond::Ns, plain(turn_of_one));
     }
@@ -338,8 +339,10 @@ fn from_first(alloc: Global, making: &Making, turns: Flow) -> Result<Flow, Alloc
     requires of { (f : FunctionValue) × AreFor f making.now }
     ensures { IfOk result (λ flow. (f : FunctionValue) → AreFor f making.now → AreFromFirst f making.now.target making.now.places.now (flat_of turns) (flat_of flow)) }
 {
-    let lanes = making.core.lanes as usize;
-    if divides_each(lanes, making.layout.facts.n) {
+    let core = making.core;
+    let lanes = core.lanes as usize;
+    let layout = making.layout;
+    if divides_each(lanes, layout.facts.n) {
         return whole_loops(alloc, lanes, turns);
     }
     let Ends { head: _, tail } = ends(alloc, making, lanes, lanes / 2)?;
@@ -358,13 +361,15 @@ fn from_boundary(
     requires filled { making.now.core.now.lanes * slice_index making.now.core.now.sizes 0 ≡ 16 }
     ensures { IfOk result (λ flow. (f : FunctionValue) → AreFor f making.now → AreFromBoundary f making.now.target making.now.places.now wide.list (flat_of turns) (flat_of flow)) }
 {
-    let lanes = making.core.lanes as usize;
+    let core = making.core;
+    let lanes = core.lanes as usize;
     let wide = repeat(alloc, Cond::Ns, plain(wide))?;
-    if divides_each(lanes, making.layout.facts.n) {
+    let layout = making.layout;
+    if divides_each(lanes, layout.facts.n) {
         return tested_loops(alloc, lanes, wide, turns);
     }
     let ends = ends(alloc, making, lanes, lanes / 2)?;
-    let shift = shift_of(making.core.sizes[0] as usize);
+    let shift = shift_of(core.sizes[0] as usize);
     aligned_loops(alloc, shift, lanes, ends, wide, turns)
 }
 
@@ -373,8 +378,9 @@ fn elements(alloc: Global, making: &Making) -> Result<Flow, AllocError>
     requires of { (f : FunctionValue) × AreFor f making.now }
     ensures { IfOk result (λ flow. (f : FunctionValue) → AreFor f making.now → IsElements f making.now.target making.now.places.now flow) }
 {
-    let lanes = making.core.lanes as usize;
-    let size = making.core.sizes[0] as usize;
+    let core = making.core;
+    let lanes = core.lanes as usize;
+    let size = core.sizes[0] as usize;
     let wide = turn(alloc, making, lanes, false, 1)?;
     let blocks = blocks_of(wide.list.len());
     if lanes * size != REGISTER {

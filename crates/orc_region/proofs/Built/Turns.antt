@@ -74,6 +74,13 @@ half_of_lanes f h n n_is = share_half f h n n_is n (share_all n) (λ e. go (lane
 pub lanes_few : (f : FunctionValue) → is_function f ≡ true → (n : ℕ) → n ≡ lanes f → n ≤ 64
 lanes_few f h n e = (let few = (lanes_count f h).most in omega (arith, e, few))
 
+-- by a view of the lanes
+pub share_own : (n own : ℕ) → own ≡ n → IsShare n own
+share_own n own e = subst (IsShare n) (sym e) (share_all n)
+
+pub half_in_lanes : (f : FunctionValue) → is_function f ≡ true → (n : ℕ) → n ≡ lanes f → (own : ℕ) → own ≡ n → IsShare n (own / 2)
+half_in_lanes f h n n_is own own_is = subst (λ k. IsShare n (k / 2)) (sym own_is) (half_of_lanes f h n n_is)
+
 -- ---- turns
 
 -- by the views of what is handed over

@@ -768,7 +768,8 @@ module _ (Q : Core → Ins → Type 0) (rsp : ℕ) (stack_low : rsp + (frame_siz
 
           first : (u : Core) × Line Q (enter_head_code lanes) c u × Entered lanes c u → Head
           first (u, enters, x) =
-              let counter : u.gpr 1 ≡ less_to g lanes 0 = x.counter ∙ ap (λ z. (z + (2 ^ 64 - lanes)) % 2 ^ 64) gap_is in
+              let none : lanes ≡ 0 + lanes = omega arith in
+              let counter : u.gpr 1 ≡ less_to g lanes 0 = x.counter ∙ ap (λ z. (z + (2 ^ 64 - lanes)) % 2 ^ 64) gap_is ∙ ap (λ k. (g + (2 ^ 64 - k)) % 2 ^ 64) none in
               let y = parts_line g within parts lanes near_lanes pieces g near u u (record { i = 0; all = omega arith; at = x.at; counter = counter; tested = x.tested; word = λ t w. refl }) in
               let ended = y.3 in
               let holds : word y.1.memory (rsp + left_slot) ≡ Some (less lanes g) = word_same y.1.memory u.memory (rsp + left_slot) (omega (arith, stack_low)) (λ t l r. ended.word t (l, r)) ∙ x.holds ∙ ap Some count in
