@@ -495,7 +495,7 @@ fills f = is_filled (count_of kind.Dest f.vars) (lanes f) (size_of_slot f.vars 0
 -- a turn of so many elements is such a part: its elements are a share of L, and where they are several it has at most 100 instructions
 pub record IsPart (f : FunctionValue) (target : CodeTarget) (at : List ℕ) (count : ℕ) (turn : List Ins) : Type 0 where
   pub share : IsShare (lanes f) count
-  pub turn : IsTurnOf f target at count false 1 turn
+  pub is : IsTurnOf f target at count false 1 turn
   pub short : 1 < count → length turn ≤ 100
 
 -- turns of at most half as many elements each as the one before, and the first of at most half as many as this, down to one element

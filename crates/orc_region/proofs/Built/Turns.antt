@@ -47,7 +47,7 @@ share_all lanes = (0, omega arith)
 
 -- and so is half of what is a share and more than one
 pub share_half : (f : FunctionValue) → is_function f ≡ true → (n : ℕ) → n ≡ lanes f → (count : ℕ) → IsShare n count → count ≢ 1 → IsShare n (count / 2)
-share_half f h n n_is count share more = (suc share.0, subst (λ c. count / 2 * 2 ^ suc share.0 ≡ c) share.1 (doubling (even is.power)))
+share_half f h n n_is count share more = (1 + share.0, subst (λ c. count / 2 * 2 ^ (1 + share.0) ≡ c) share.1 (doubling (even is.power)))
   where
     is : IsCount f count
     is = share_count f h count (subst (λ k. IsShare k count) n_is share)
@@ -59,7 +59,7 @@ share_half f h n n_is count share more = (suc share.0, subst (λ c. count / 2 * 
     even (inr (inr (inr (inl e)))) = omega (arith, e)
     even (inr (inr (inr (inr e)))) = omega (arith, e)
 
-    doubling : count / 2 * 2 ≡ count → count / 2 * 2 ^ suc share.0 ≡ count * 2 ^ share.0
+    doubling : count / 2 * 2 ≡ count → count / 2 * 2 ^ (1 + share.0) ≡ count * 2 ^ share.0
     doubling e = ap (λ p. count / 2 * p) (pow-add 2 1 share.0) ∙ sym (mul_assoc (count / 2) 2 (2 ^ share.0)) ∙ ap (λ c. c * 2 ^ share.0) e
 
 pub half_of_lanes : (f : FunctionValue) → is_function f ≡ true → (n : ℕ) → n ≡ lanes f → IsShare n (n / 2)
@@ -211,7 +211,7 @@ module _ (target : CodeTarget) (f : FunctionValue) (at : List ℕ) where
   -- one more, before these
   pub larger_part : (count from : ℕ) → IsShare (lanes f) count → 2 * count ≤ from → (turn : List Ins) → IsTurnOf f target at count false 1 turn → (1 < count → length turn ≤ 100) → (smaller list : List Ins) → AreByParts f target at count smaller
       → list ≡ flat (part_flow from count (Plain turn)) ++ smaller → AreByParts f target at from list
-  larger_part count from share half turn is short smaller list x e = ((count, turn) ∷ x.0, (x.1, half, record { share = share; turn = is; short = short }), e ∙ ap (λ (l : List Ins). flat (part_flow from count (Plain turn)) ++ l) x.2)
+  larger_part count from share half turn is short smaller list x e = ((count, turn) ∷ x.0, (x.1, half, record { share = share; is = is; short = short }), e ∙ ap (λ (l : List Ins). flat (part_flow from count (Plain turn)) ++ l) x.2)
 
   -- from the lanes on
   pub parts_of_turn : (n : ℕ) → n ≡ lanes f → (list : List Ins) → AreByParts f target at n list → AreByParts f target at (lanes f) list
@@ -401,8 +401,8 @@ fits_elements {target} f h at parts wide aligned large t = go (fills f) (begins_
     fits_piece count turn half x =
         let is_count = share_count f h count x.share in
         let near = blocks_near count 1 is_count.most (omega arith) in
-        let fine = turn_fine f h at t.good count is_count target false 1 near turn x.turn in
-        record { some = is_count.some; one = fits_turn count is_count false 1 118943 (omega arith) (omega arith) turn x.turn; several = λ l. fits_list turn 100 (x.short l) fine }
+        let fine = turn_fine f h at t.good count is_count target false 1 near turn x.is in
+        record { some = is_count.some; one = fits_turn count is_count false 1 118943 (omega arith) (omega arith) turn x.is; several = λ l. fits_list turn 100 (x.short l) fine }
 
     fits_pieces : has_whole_turns f ≡ false → AreParts FitsPart (lanes f) parts
     fits_pieces e = parts_map (IsPart f target at) FitsPart (lanes f) fits_piece parts (lanes f) (le_refl (lanes f)) (t.fewer e)

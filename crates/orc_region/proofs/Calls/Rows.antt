@@ -257,7 +257,7 @@ module _ {target : CodeTarget} (f : FunctionValue) (is : is_function f ≡ true)
       PartTurned = TurnedPart args.n Base Slots (numbers f is known code s args back good at) low plan Emulates (InFrame low) first (s.core.gpr 7) c.memory Q (stack_room f known code s args back good) in_frame Free calmly by_pointer refl each some (lanes f) (lanes_count f is).some (lanes_count f is).most b (few_blocks (length wide))
 
       part_is : (count : ℕ) (turn : List Ins) → 2 * count ≤ lanes f → IsPart f target at count turn → PartTurned count turn
-      part_is count turn half y = (let is_count = share_count f is count y.share in record { some_elements = is_count.some; is = turned count is_count false 1 (omega arith) (omega arith) turn y.turn })
+      part_is count turn half y = (let is_count = share_count f is count y.share in record { some_elements = is_count.some; is = turned count is_count false 1 (omega arith) (omega arith) turn y.is })
 
       parts_are : has_whole_turns f ≡ false → AreParts PartTurned (lanes f) parts
       parts_are some_left = parts_map (IsPart f target at) PartTurned (lanes f) part_is parts (lanes f) (le_refl (lanes f)) (x.fewer some_left)

@@ -226,7 +226,7 @@ halved lanes count (suc (suc (suc (suc zero)))) (inl p) e = absurd (omega (arith
 halved lanes count (suc (suc (suc (suc zero)))) (inr (inl p)) e = absurd (omega (arith, e, p))
 halved lanes count (suc (suc (suc (suc zero)))) (inr (inr (inl p))) e = absurd (omega (arith, e, p))
 halved lanes count (suc (suc (suc (suc zero)))) (inr (inr (inr p))) e = (inl (omega (arith, e, p)), omega (arith, e))
-halved lanes count (suc (suc (suc (suc (suc j))))) power e = absurd (too_far lanes count (5 + j) (most_of lanes (inr power)) (some_of lanes (inr power)) (omega arith) e)
+halved lanes count (suc (suc (suc (suc (suc j))))) power e = absurd (too_far lanes count (suc (suc (suc (suc (suc j))))) (most_of lanes (inr power)) (some_of lanes (inr power)) (omega arith) e)
 
 -- so many elements as a share of the lanes are a count
 pub share_count : (f : FunctionValue) → is_function f ≡ true → (count : ℕ) → IsShare (lanes f) count → IsCount f count
