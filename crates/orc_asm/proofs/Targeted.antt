@@ -75,7 +75,7 @@ module _ (target : Target) (f : FunctionValue) (h : is_function f ≡ true) (l :
   few_patterns = (facts l (f, h, layout)).few_patterns
 
   fits_tree : (tree : Tree) → IsElements f target at tree → Fits 960000 (flat_of tree)
-  fits_tree tree (single, wide, aligned, large, turns, e) = subst (Fits 960000) (sym e) (fits_elements f h at single wide aligned large turns)
+  fits_tree tree (parts, wide, aligned, large, turns, e) = subst (Fits 960000) (sym e) (fits_elements f h at parts wide aligned large turns)
 
   -- by the lists around the rows and the tree that does a row's elements
   pub has_only : (first last : List Ins) → Each IsAllowed first → Each IsAllowed last → IsCodeFor Sse2 first → IsCodeFor Sse2 last → (tree : Tree) → IsElements f target at tree → IsCodeFor target (flat_of tree)

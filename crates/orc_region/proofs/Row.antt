@@ -1,4 +1,5 @@
 -- What the loops over the elements of a row do.
 pub mod Regions
 pub mod Gaps
+pub mod Parts
 pub mod Counters

@@ -1,5 +1,5 @@
 -- The code of a function: the compiler's plan.
-use Rattle.std.specs.Prelude.{◌≡◌, ℕ, zero, suc, ◌+◌, ◌-◌, ◌*◌, ◌/◌, ◌<◌, ◌≤◌, ◌==◌, ◌&&◌, ◌||◌, not, nat_lt, Bool, true, false, if◌then◌else◌, pos, List, [], ◌∷◌, ◌++◌, length, map, slice_index, max}
+use Rattle.std.specs.Prelude.{◌≡◌, ℕ, zero, suc, ◌+◌, ◌-◌, ◌*◌, ◌/◌, ◌^◌, ◌<◌, ◌≤◌, ◌==◌, ◌&&◌, ◌||◌, not, nat_lt, Bool, true, false, if◌then◌else◌, pos, List, [], ◌∷◌, ◌++◌, length, map, slice_index, max}
 use Rattle.std.specs.List.{range_with_len}
 use Rattle.x86_ins.specs.declared.ins.Addr.{Addr}
 use Rattle.x86_ins.specs.declared.ins.AluOp.TheVariants.{Add, Sub}
@@ -27,7 +27,7 @@ use Rattle.orc_plan.specs.Places.{GoodPlaces}
 use Rattle.orc_plan.specs.Lowered.{steps_of}
 use Rattle.orc_region.specs.declared.residents.Seats.{Seats as Standing}
 use Rattle.orc_region.specs.declared.span.Span.{Span}
-use Rattle.orc_region.specs.Regions.{aligned_row, plain_row, whole_row, tested_row, wide_loop, wide_loops}
+use Rattle.orc_region.specs.Regions.{TurnParts, parts_flow, aligned_row, plain_row, whole_row, tested_row, wide_loop, wide_loops}
 use Rattle.x86_flow.specs.declared.tree.Flow.{Flow as Tree}
 use Rattle.x86_flow.specs.Flow.{Flow, Plain, flat}
 use Rattle.x86_flow.specs.Moves.{IsWidth, away, load_far_code, store_either_code}
@@ -483,6 +483,10 @@ abbrev pub used_from : (ℕ → ℕ) → ℕ → ℕ → ℕ
 used_from size first zero = 0
 used_from size first (suc n) = used_from size first n + (if size (first + n) == 0 then 0 else 1)
 
+-- so many elements halved some times, or not at all
+abbrev pub IsShare : ℕ → ℕ → Type 0
+IsShare lanes count = (j : ℕ) × (count * 2 ^ j ≡ lanes)
+
 -- the size of an element as a power of two
 abbrev pub shift_of : ℕ → ℕ
 shift_of size = if size == 8 then 3 else (if size == 4 then 2 else (if size == 2 then 1 else 0))
@@ -503,55 +507,70 @@ turns_flow lanes b large turn = if nat_lt 1 b then wide_loops lanes (b * lanes) 
 abbrev pub AreWholeTurns : FunctionValue → CodeTarget → List ℕ → Bool → ℕ → List Ins → List Ins → Type 0
 AreWholeTurns f target at aligned b turn list = (large : List Ins) × (1 < b → IsTurnOf f target at (lanes f) aligned b large) × (list ≡ flat (turns_flow (lanes f) b large turn))
 
--- turns from the first element on, and single elements where the turns may leave some
-abbrev pub from_first : Bool → ℕ → List Ins → Flow → Flow
-from_first true lanes single turns = whole_row lanes turns
-from_first false lanes single turns = plain_row lanes (Plain single) turns
+-- turns from the first element on, and parts of one where the turns may leave some elements
+abbrev pub from_first : Bool → ℕ → TurnParts → Flow → Flow
+from_first true lanes parts turns = whole_row lanes turns
+from_first false lanes parts turns = plain_row lanes parts turns
 
--- turns with aligned stores from where the first dest is at a multiple of 16, if it is somewhere: behind single elements, or, where a row is whole turns, from the first element on
-abbrev pub from_boundary : Bool → ℕ → ℕ → List Ins → List Ins → Flow → Flow
-from_boundary true shift lanes single wide turns = tested_row lanes (wide_loop (Plain wide)) turns
-from_boundary false shift lanes single wide turns = aligned_row shift lanes (Plain single) (wide_loop (Plain wide)) turns
+-- turns with aligned stores from where the first dest is at a multiple of 16, if it is somewhere: behind parts of one, or, where a row is whole turns, from the first element on
+abbrev pub from_boundary : Bool → ℕ → ℕ → TurnParts → List Ins → Flow → Flow
+from_boundary true shift lanes parts wide turns = tested_row lanes (wide_loop (Plain wide)) turns
+from_boundary false shift lanes parts wide turns = aligned_row shift lanes parts (wide_loop (Plain wide)) turns
 
--- the loops over a row's elements, by turns of one element, of `lanes`, of `lanes` with aligned stores, and large ones of so many blocks; and by what is known: that the first dest fills a register, that it begins at a multiple of 16, and that the elements are whole turns
-abbrev pub elements_flow : Bool → Bool → Bool → ℕ → ℕ → ℕ → List Ins → List Ins → List Ins → List Ins → Flow
-elements_flow true true whole shift lanes b single wide aligned large = from_first whole lanes single (turns_flow lanes b large aligned)
-elements_flow true false whole shift lanes b single wide aligned large = from_boundary whole shift lanes single wide (turns_flow lanes b large aligned)
-elements_flow false begins whole shift lanes b single wide aligned large = from_first whole lanes single (turns_flow lanes b large wide)
+-- the loops over a row's elements, by turns of fewer elements than `lanes`, of `lanes`, of `lanes` with aligned stores, and large ones of so many blocks; and by what is known: that the first dest fills a register, that it begins at a multiple of 16, and that the elements are whole turns
+abbrev pub elements_flow : Bool → Bool → Bool → ℕ → ℕ → ℕ → TurnParts → List Ins → List Ins → List Ins → Flow
+elements_flow true true whole shift lanes b parts wide aligned large = from_first whole lanes parts (turns_flow lanes b large aligned)
+elements_flow true false whole shift lanes b parts wide aligned large = from_boundary whole shift lanes parts wide (turns_flow lanes b large aligned)
+elements_flow false begins whole shift lanes b parts wide aligned large = from_first whole lanes parts (turns_flow lanes b large wide)
 
 -- a register of the first dest is filled by as many elements as a block does
 abbrev pub fills : FunctionValue → Bool
 fills f = is_filled (count_of kind.Dest f.vars) (lanes f) (size_of_slot f.vars 0)
 
--- the turn of one element, where a row may have single elements
-abbrev pub IsSingle : FunctionValue → CodeTarget → List ℕ → List Ins → Type 0
-IsSingle f target at single = has_whole_turns f ≡ false → IsTurnOf f target at 1 false 1 single
+-- a turn of so many elements is such a part: its elements are a share of L, and where they are several it has at most 100 instructions
+pub record IsPart (f : FunctionValue) (target : CodeTarget) (at : List ℕ) (count : ℕ) (turn : List Ins) : Type 0 where
+  pub share : IsShare (lanes f) count
+  pub is : IsTurnOf f target at count false 1 turn
+  pub short : 1 < count → length turn ≤ 100
+
+-- turns of at most half as many elements each as the one before, and the first of at most half as many as this, down to one element
+abbrev pub AreParts : (ℕ → List Ins → Type 0) → ℕ → TurnParts → Type 0
+AreParts Is from [] = from ≡ 1
+AreParts Is from (part ∷ parts) = AreParts Is part.0 parts × (2 * part.0 ≤ from) × Is part.0 part.1
+
+-- the parts of a turn, where a row may have elements besides whole turns
+abbrev pub ArePartsOf : FunctionValue → CodeTarget → List ℕ → TurnParts → Type 0
+ArePartsOf f target at parts = has_whole_turns f ≡ false → AreParts (IsPart f target at) (lanes f) parts
+
+-- these instructions do fewer elements than so many by parts of a turn
+abbrev pub AreByParts : FunctionValue → CodeTarget → List ℕ → ℕ → List Ins → Type 0
+AreByParts f target at from list = (parts : TurnParts) × AreParts (IsPart f target at) from parts × (list ≡ flat (parts_flow from parts))
 
 -- the turns of a function's code by good places of its values
-pub record Turns (f : FunctionValue) (target : CodeTarget) (at : List ℕ) (single wide aligned large : List Ins) : Type 0 where
+pub record Turns (f : FunctionValue) (target : CodeTarget) (at : List ℕ) (parts : TurnParts) (wide aligned large : List Ins) : Type 0 where
   pub good : GoodPlaces (steps_of f) at
-  pub one : IsSingle f target at single
+  pub fewer : ArePartsOf f target at parts
   pub more : IsTurnOf f target at (lanes f) false 1 wide
   pub stored : fills f ≡ true → IsTurnOf f target at (lanes f) true 1 aligned
   -- where they have several blocks
   pub many : 1 < blocks_of (length wide) → IsTurnOf f target at (lanes f) (fills f) (blocks_of (length wide)) large
 
-abbrev pub elements_of : FunctionValue → List Ins → List Ins → List Ins → List Ins → Flow
-elements_of f single wide aligned large = elements_flow (fills f) (begins_aligned f) (has_whole_turns f) (shift_of (size_of_slot f.vars 0)) (lanes f) (blocks_of (length wide)) single wide aligned large
+abbrev pub elements_of : FunctionValue → TurnParts → List Ins → List Ins → List Ins → Flow
+elements_of f parts wide aligned large = elements_flow (fills f) (begins_aligned f) (has_whole_turns f) (shift_of (size_of_slot f.vars 0)) (lanes f) (blocks_of (length wide)) parts wide aligned large
 
 -- in a function's code these turns are from the first element on
 abbrev pub AreFromFirst : FunctionValue → CodeTarget → List ℕ → List Ins → List Ins → Type 0
-AreFromFirst f target at turns list = (single : List Ins) × IsSingle f target at single × (list ≡ flat (from_first (has_whole_turns f) (lanes f) single (Plain turns)))
+AreFromFirst f target at turns list = (parts : TurnParts) × ArePartsOf f target at parts × (list ≡ flat (from_first (has_whole_turns f) (lanes f) parts (Plain turns)))
 
 -- or from where the first dest is at a multiple of 16, and where it is nowhere by the turn `wide`
 abbrev pub AreFromBoundary : FunctionValue → CodeTarget → List ℕ → List Ins → List Ins → List Ins → Type 0
-AreFromBoundary f target at wide turns list = (single : List Ins) × IsSingle f target at single
-    × (list ≡ flat (from_boundary (has_whole_turns f) (shift_of (size_of_slot f.vars 0)) (lanes f) single wide (Plain turns)))
+AreFromBoundary f target at wide turns list = (parts : TurnParts) × ArePartsOf f target at parts
+    × (list ≡ flat (from_boundary (has_whole_turns f) (shift_of (size_of_slot f.vars 0)) (lanes f) parts wide (Plain turns)))
 
 -- the tree does the elements of a row, by these places of values
 abbrev pub IsElements : FunctionValue → CodeTarget → List ℕ → Tree → Type 0
 IsElements f target at tree =
-    (single : List Ins) × (wide : List Ins) × (aligned : List Ins) × (large : List Ins) × Turns f target at single wide aligned large × (flat_of tree ≡ flat (elements_of f single wide aligned large))
+    (parts : TurnParts) × (wide : List Ins) × (aligned : List Ins) × (large : List Ins) × Turns f target at parts wide aligned large × (flat_of tree ≡ flat (elements_of f parts wide aligned large))
 
 -- ---- steps whose code can be given for so many elements
 

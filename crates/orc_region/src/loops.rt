@@ -1,13 +1,12 @@
-//! The loops over a row's elements: single ones until the first dest's cell is at a multiple of 16, several at once, and single ones.
+//! The loops over a row's elements: fewer than a turn does until the first dest's cell is at a multiple of 16, whole turns, and those that are left.
 
 ghost use Rattle.std.specs.Prelude.{◌≡◌, ◌≤◌, ◌++◌, ◌∷◌, [], All, IfOk, IsTrue, pos};
 ghost use Rattle.x86_ins.specs.Spelling.{has_spelling};
 ghost use Rattle.x86_ins.specs.declared.ins.AluOp.TheVariants.{Add};
 ghost use Rattle.x86_ins.specs.declared.ins.Ins.TheVariants.{Alu, AluImm};
-ghost use Rattle.x86_ins.specs.declared.ins.Cond.TheVariants.{Ne};
-ghost use Rattle.x86_flow.specs.Flow.{Plain, flat, loop_code};
+ghost use Rattle.x86_flow.specs.Flow.{Plain, flat};
 ghost use Rattle.x86_flow.specs.Tree.{flat_of};
-ghost use Rattle.orc_region.specs.Regions.{gap_code, gap_flow, low_bits_code, behind_code, enter_head_code, leave_head_code, tail_flow, wide_loops, aligned_row, whole_row, plain_row, tested_row};
+ghost use Rattle.orc_region.specs.Regions.{TurnParts, gap_code, gap_flow, low_bits_code, behind_code, enter_head_code, leave_head_code, part_flow, parts_flow, wide_loops, aligned_row, whole_row, plain_row, tested_row};
 
 use crate::lists::{COUNTER, pointer};
 use orc_frame::{LEFT_AT, slot};
@@ -18,6 +17,15 @@ use x86_ins::{AluOp, Cond, Ins, InsList, ShiftOp};
 
 /// More elements than a row has.
 const NEVER: u64 = 1 << 31;
+
+/// What does fewer elements than a turn: the same turns before a boundary and behind the last whole turn.
+#[derive(Drop)]
+pub struct Ends {
+    /// The elements before a boundary.
+    pub head: Flow,
+    /// The elements behind the last whole turn.
+    pub tail: Flow,
+}
 
 /// Leaves in RAX how many elements of `1 << shift` bytes are before the first dest's next multiple of 16.
 #[tactic(auto, using(crate::proofs::Built::Loops::gap_zero, crate::proofs::Built::Loops::gap_more))]
@@ -126,9 +134,10 @@ fn behind_list(alloc: Global, lanes: usize) -> Result<InsList, AllocError>
     Ok(list)
 }
 
-/// Keeps the body's count, and counts the elements of the head.
-fn enter_head_list(alloc: Global) -> Result<InsList, AllocError>
-    ensures { IfOk result (λ list. list ≡ enter_head_code) }
+/// Keeps the body's count, and makes the counter so many elements less than there are in the head.
+fn enter_head_list(alloc: Global, lanes: usize) -> Result<InsList, AllocError>
+    requires { lanes ≤ 64 }
+    ensures { IfOk result (λ list. list ≡ enter_head_code lanes) }
 {
     let mut list = InsList::new(alloc);
     list.push(Ins::Store {
@@ -139,9 +148,10 @@ fn enter_head_list(alloc: Global) -> Result<InsList, AllocError>
         dst: COUNTER,
         src: SCRATCH,
     })?;
-    list.push(Ins::Test {
-        a: COUNTER,
-        b: COUNTER,
+    list.push(Ins::AluImm {
+        op: AluOp::Sub,
+        dst: COUNTER,
+        value: lanes as i32,
     })?;
     Ok(list)
 }
@@ -177,16 +187,16 @@ fn counted(alloc: Global, op: AluOp, by: usize) -> Result<InsList, AllocError>
     )
 }
 
-/// Single elements to the boundary, and then several at once.
+/// The elements to the boundary, and then whole turns.
 #[tactic(auto, using(crate::proofs::Built::Loops::spelled_enter, crate::proofs::Built::Loops::spelled_leave))]
-fn reached(alloc: Global, head: Block, aligned: Flow) -> Result<Flow, AllocError>
-    ensures { IfOk result (λ flow. flat_of flow ≡ enter_head_code ++ (loop_code Ne head.list ++ (leave_head_code ++ flat_of aligned))) }
+fn reached(alloc: Global, lanes: usize, head: Flow, aligned: Flow) -> Result<Flow, AllocError>
+    requires { lanes ≤ 64 }
+    ensures { IfOk result (λ flow. flat_of flow ≡ enter_head_code lanes ++ (flat_of head ++ (leave_head_code ++ flat_of aligned))) }
 {
-    let enter = of(enter_head_list(alloc)?);
+    let enter = of(enter_head_list(alloc, lanes)?);
     let leave = of(leave_head_list(alloc)?);
-    let single = repeat(alloc, Cond::Ne, plain(head))?;
     let body = chain(alloc, leave, aligned)?;
-    let rest = chain(alloc, single, body)?;
+    let rest = chain(alloc, head, body)?;
     chain(alloc, enter, rest)
 }
 
@@ -206,15 +216,58 @@ fn unreached(alloc: Global, wide: Flow) -> Result<Flow, AllocError>
     chain(alloc, back, wide)
 }
 
-/// The single elements that are left.
+/// Turns of `count` elements while as many are left, from where the counter is `from` less than the elements left, and then those that do fewer.
 #[tactic(auto, using(crate::proofs::Built::Loops::spelled_one))]
-fn rest(alloc: Global, lanes: usize, single: Block) -> Result<Flow, AllocError>
-    requires { lanes ≤ 64 }
-    ensures { IfOk result (λ flow. flat_of flow ≡ flat (tail_flow lanes (Plain single.list))) }
+fn part(
+    alloc: Global,
+    from: usize,
+    count: usize,
+    turn: Block,
+    smaller: Flow,
+) -> Result<Flow, AllocError>
+    requires under { count ≤ from }
+    requires most { from ≤ 64 }
+    ensures { IfOk result (λ flow. flat_of flow ≡ flat (part_flow from count (Plain turn.list)) ++ flat_of smaller) }
 {
-    let count = of(counted(alloc, AluOp::Add, lanes)?);
-    let turns = repeat(alloc, Cond::Ne, plain(single))?;
-    chain(alloc, count, turns)
+    let back = of(counted(alloc, AluOp::Add, from - count)?);
+    let turns = repeat(alloc, Cond::Ns, plain(turn))?;
+    let own = chain(alloc, back, turns)?;
+    chain(alloc, own, smaller)
+}
+
+/// No elements at either end.
+pub fn no_ends(alloc: Global) -> Ends
+    ensures same { flat_of result.head ≡ flat_of result.tail }
+    ensures none { flat_of result.tail ≡ [] }
+{
+    Ends {
+        head: of(InsList::new(alloc)),
+        tail: of(InsList::new(alloc)),
+    }
+}
+
+/// Turns of `count` elements while as many are left, from where the counter is `from` less than the elements left, and then those that do fewer: at both ends.
+pub fn larger_ends(
+    alloc: Global,
+    from: usize,
+    count: usize,
+    turn: Block,
+    smaller: Ends,
+) -> Result<Ends, AllocError>
+    requires under { count ≤ from }
+    requires most { from ≤ 64 }
+    requires same { flat_of smaller.head ≡ flat_of smaller.tail }
+    ensures same { IfOk result (λ ends. flat_of ends.head ≡ flat_of ends.tail) }
+    ensures is { IfOk result (λ ends. flat_of ends.tail ≡ flat (part_flow from count (Plain turn.list)) ++ flat_of smaller.tail) }
+{
+    let again = Block {
+        list: InsList::from_slice(alloc, turn.list.as_slice())?,
+    };
+    let Ends { head, tail } = smaller;
+    Ok(Ends {
+        head: part(alloc, from, count, again, head)?,
+        tail: part(alloc, from, count, turn, tail)?,
+    })
 }
 
 /// Turns of `more` elements while as many are left, and then turns of `lanes`, from where the counter is `lanes` less than the elements left.
@@ -239,29 +292,28 @@ pub fn wide_loops(
     chain(alloc, first, last)
 }
 
-/// The loops of a row whose first dest has elements of `1 << shift` bytes, of which `lanes` fill a register: `head` and `tail` do one element, and `wide` and `aligned` do whole turns, without and with aligned stores to the first dest.
+/// The loops of a row whose first dest has elements of `1 << shift` bytes, of which `lanes` fill a register: `ends` does fewer elements, and `wide` and `aligned` do whole turns, without and with aligned stores to the first dest.
 #[tactic(auto, using(crate::proofs::Built::Loops::spelled_behind, crate::proofs::Built::Loops::aligned_whole))]
 pub fn aligned_loops(
     alloc: Global,
     shift: u8,
     lanes: usize,
-    head: Block,
+    ends: Ends,
     wide: Flow,
     aligned: Flow,
-    tail: Block,
 ) -> Result<Flow, AllocError>
     requires shift { shift ≤ 3 }
     requires lanes { lanes ≤ 64 }
-    requires same { tail.list ≡ head.list }
-    ensures { IfOk result (λ flow. flat_of flow ≡ flat (aligned_row shift lanes (Plain head.list) (Plain (flat_of wide)) (Plain (flat_of aligned)))) }
+    requires same { flat_of ends.head ≡ flat_of ends.tail }
+    ensures { IfOk result (λ flow. (parts : TurnParts) → flat_of ends.tail ≡ flat (parts_flow lanes parts) → flat_of flow ≡ flat (aligned_row shift lanes parts (Plain (flat_of wide)) (Plain (flat_of aligned)))) }
 {
+    let Ends { head, tail } = ends;
     let gap = gap(alloc, shift)?;
     let behind = of(behind_list(alloc, lanes)?);
-    let yes = reached(alloc, head, aligned)?;
+    let yes = reached(alloc, lanes, head, aligned)?;
     let no = unreached(alloc, wide)?;
     let either = choice(alloc, Cond::Ns, yes, no)?;
-    let last = rest(alloc, lanes, tail)?;
-    let turns = chain(alloc, either, last)?;
+    let turns = chain(alloc, either, tail)?;
     let counted = chain(alloc, behind, turns)?;
     chain(alloc, gap, counted)
 }
@@ -276,14 +328,14 @@ pub fn whole_loops(alloc: Global, lanes: usize, wide: Flow) -> Result<Flow, Allo
     chain(alloc, less, wide)
 }
 
-/// The loops of a row: whole turns from the first element on, and then single elements.
-pub fn plain_loops(alloc: Global, lanes: usize, wide: Flow, tail: Block) -> Result<Flow, AllocError>
+/// The loops of a row: whole turns from the first element on, and then the elements that are left.
+#[tactic(auto, using(crate::proofs::Built::Loops::plain_whole))]
+pub fn plain_loops(alloc: Global, lanes: usize, wide: Flow, tail: Flow) -> Result<Flow, AllocError>
     requires { lanes ≤ 64 }
-    ensures { IfOk result (λ flow. flat_of flow ≡ flat (plain_row lanes (Plain tail.list) (Plain (flat_of wide)))) }
+    ensures { IfOk result (λ flow. (parts : TurnParts) → flat_of tail ≡ flat (parts_flow lanes parts) → flat_of flow ≡ flat (plain_row lanes parts (Plain (flat_of wide)))) }
 {
     let turns = whole_loops(alloc, lanes, wide)?;
-    let last = rest(alloc, lanes, tail)?;
-    chain(alloc, turns, last)
+    chain(alloc, turns, tail)
 }
 
 /// The loops of a row that is whole turns: `aligned` does them where the first dest's first cell is at a multiple of 16, and else `wide`.

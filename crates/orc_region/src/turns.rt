@@ -1,17 +1,19 @@
 //! What does the elements of a row: blocks and turns of one element and of several, in loops.
 
-ghost use Rattle.std.specs.Prelude.{◌≡◌, ◌<◌, ◌≤◌, ◌+◌, ◌*◌, ◌==◌, ◌⊎◌, All, IfOk, nat_le, slice_index, true};
+ghost use Rattle.std.specs.Prelude.{◌≡◌, ◌<◌, ◌≤◌, ◌+◌, ◌*◌, ◌==◌, All, IfOk, nat_le, slice_index, true};
 ghost use Rattle.orc_program.specs.Program.{FunctionValue};
 ghost use Rattle.orc_program.specs.Need.{divides_each};
-ghost use Rattle.orc_plan.specs.Places.{GoodPlaces};
 ghost use Rattle.orc_frame.specs.Frame.{IsLayout};
 ghost use Rattle.x86_flow.specs.Tree.{flat_of};
 ghost use Rattle.sse_laws.specs.Targets.{IsCodeFor};
-ghost use Rattle.orc_region.specs.Code.{AreActions, IsReady, IsBlockBy, AreBlocks, IsTurnBy, IsBlock, IsTurnOf, AreWholeTurns, AreFromFirst, AreFromBoundary, IsElements, aligned_first, seats_with, blocks_of, shift_of, used_from};
+ghost use Rattle.orc_region.specs.Code.{AreActions, IsReady, IsBlockBy, AreBlocks, IsTurnBy, IsShare, IsBlock, IsTurnOf, AreByParts, AreWholeTurns, AreFromFirst, AreFromBoundary, IsElements, aligned_first, seats_with, blocks_of, shift_of, used_from};
 ghost use Rattle.orc_region.specs.Elements.{AreOf, DoesElements, DoesRow};
+ghost use Rattle.orc_region.specs.Making.{AreFor};
 
 use crate::lists::{COUNTER, push_actions, push_advances};
-use crate::loops::{aligned_loops, plain_loops, tested_loops, whole_loops, wide_loops};
+use crate::loops::{
+    Ends, aligned_loops, larger_ends, no_ends, plain_loops, tested_loops, whole_loops, wide_loops,
+};
 use crate::residents::seats_by;
 use crate::span::{Setting, Span};
 use orc_frame::Layout;
@@ -25,6 +27,18 @@ use x86_ins::{AluOp, Cond, Ins, InsList};
 
 /// The bytes of a vector register.
 const REGISTER: usize = 16;
+
+/// The most instructions of a turn of several elements, but fewer than are done at once.
+const MOST_OF_PART: usize = 100;
+
+/// What the turns of a function's code are made of: its steps, the places of their values, its layout, and the target.
+#[derive(Clone, Copy)]
+struct Making<'a> {
+    core: &'a Core,
+    places: &'a [u8],
+    layout: &'a Layout,
+    target: Target,
+}
 
 /// How many of `most` slots from `first` on are in use: a slot has the bytes of an element, and 0 where it is in no use.
 #[tactic(auto, using(crate::proofs::Built::Slots::used_few))]
@@ -125,55 +139,49 @@ fn turn_list(
     Ok(list)
 }
 
-/// A turn of so many blocks, each of one element or of as many as are done at once, with aligned stores to the first dest or without.
+/// A turn of so many blocks, each of `count` elements, with aligned stores to the first dest or without.
 fn turn(
     alloc: Global,
-    core: &Core,
-    places: &[u8],
-    layout: &Layout,
+    making: &Making,
     count: usize,
     aligned: bool,
     blocks: usize,
-    target: Target,
 ) -> Result<Block, AllocError>
-    requires of { (f : FunctionValue) × AreOf f (record { core = core.now; places = places.now }) layout.now }
-    requires places { GoodPlaces core.now.steps places.now }
-    requires count { (count ≡ 1) ⊎ (count ≡ core.now.lanes) }
+    requires of { (f : FunctionValue) × AreFor f making.now }
+    requires count { IsShare making.now.core.now.lanes count }
     requires blocks { blocks ≤ 4 }
-    ensures { IfOk result (λ block. (f : FunctionValue) → AreOf f (record { core = core.now; places = places.now }) layout.now → IsTurnOf f target places.now count aligned blocks block.list) }
+    ensures { IfOk result (λ block. (f : FunctionValue) → AreFor f making.now → IsTurnOf f making.now.target making.now.places.now count aligned blocks block.list) }
 {
     let span = Span {
         first: 0,
         count,
         aligned,
-        target,
+        target: making.target,
     };
-    let list = turn_list(alloc, core, places, layout, span, blocks)?;
+    let list = turn_list(
+        alloc,
+        making.core,
+        making.places,
+        making.layout,
+        span,
+        blocks,
+    )?;
     Ok(Block { list })
 }
 
-/// A block for one element or for as many as are done at once, with aligned stores to the first dest or without.
-fn block(
-    alloc: Global,
-    core: &Core,
-    places: &[u8],
-    layout: &Layout,
-    count: usize,
-    aligned: bool,
-    target: Target,
-) -> Result<Block, AllocError>
-    requires of { (f : FunctionValue) × AreOf f (record { core = core.now; places = places.now }) layout.now }
-    requires places { GoodPlaces core.now.steps places.now }
-    requires count { (count ≡ 1) ⊎ (count ≡ core.now.lanes) }
-    ensures { IfOk result (λ block. (f : FunctionValue) → AreOf f (record { core = core.now; places = places.now }) layout.now → IsBlock f target places.now count aligned block.list) }
+/// A block for `count` elements, with aligned stores to the first dest or without.
+fn block(alloc: Global, making: &Making, count: usize, aligned: bool) -> Result<Block, AllocError>
+    requires of { (f : FunctionValue) × AreFor f making.now }
+    requires count { IsShare making.now.core.now.lanes count }
+    ensures { IfOk result (λ block. (f : FunctionValue) → AreFor f making.now → IsBlock f making.now.target making.now.places.now count aligned block.list) }
 {
     let span = Span {
         first: 0,
         count,
         aligned,
-        target,
+        target: making.target,
     };
-    let list = block_list(alloc, core, places, layout, span)?;
+    let list = block_list(alloc, making.core, making.places, making.layout, span)?;
     Ok(Block { list })
 }
 
@@ -184,8 +192,8 @@ fn fills(core: &Core, count: u8) -> bool
     count as usize * core.sizes[0] as usize == REGISTER
 }
 
-/// Does `count` elements of a row from the one that the pointers of arrays are at, by the layout of the same function. `count` is 1, or as
-/// many as are done at once. Where `aligned` is true, the cell of the first dest has to be at a multiple of 16, and is stored to by aligned
+/// Does `count` elements of a row from the one that the pointers of arrays are at, by the layout of the same function. `count` is as many as
+/// are done at once, or so many halved until, at last, it is 1. Where `aligned` is true, the cell of the first dest has to be at a multiple of 16, and is stored to by aligned
 /// stores where so many of its elements fill a register. The pointers stay. The instructions are the target's, and at most as many as a turn
 /// costs for it.
 pub fn region(
@@ -197,20 +205,18 @@ pub fn region(
     target: Target,
 ) -> Result<Block, AllocError>
     requires of { (f : FunctionValue) × AreOf f p.now l.now }
-    requires count { (count ≡ 1) ⊎ (count ≡ p.now.core.lanes) }
+    requires count { IsShare p.now.core.lanes count }
     ensures does { IfOk result (λ block. (f : FunctionValue) → AreOf f p.now l.now → DoesElements f target p.now.places count aligned block.list) }
     ensures target { IfOk result (λ block. IsCodeFor target block.list) }
 {
     let aligned = aligned & fills(&p.core, count);
-    block(
-        alloc,
-        &p.core,
-        p.places.as_slice(),
-        l,
-        count as usize,
-        aligned,
+    let making = Making {
+        core: &p.core,
+        places: p.places.as_slice(),
+        layout: l,
         target,
-    )
+    };
+    block(alloc, &making, count as usize, aligned)
 }
 
 /// The size of an element as a power of two.
@@ -228,7 +234,8 @@ fn shift_of(size: usize) -> u8
 
 /// The loops over the elements of a row, by the layout of the same function. The pointers of arrays are at the first element, and the counter
 /// has the number of elements. Where elements of the first dest fill a register, several elements at once are stored to it at multiples of 16.
-/// No loop does the single elements before the first such one, or those behind the last whole turn, where by the facts there are none.
+/// Those before the first such one and those behind the last whole turn are done by turns of fewer and fewer elements, and by no loop where by
+/// the facts there are none.
 /// The instructions are the target's.
 pub fn row_flow(alloc: Global, p: &Placed, l: &Layout, target: Target) -> Result<Flow, AllocError>
     requires of { (f : FunctionValue) × AreOf f p.now l.now }
@@ -236,7 +243,13 @@ pub fn row_flow(alloc: Global, p: &Placed, l: &Layout, target: Target) -> Result
     ensures does { IfOk result (λ flow. (f : FunctionValue) → AreOf f p.now l.now → DoesRow f target p.now.places (flat_of flow)) }
     ensures target { IfOk result (λ flow. IsCodeFor target (flat_of flow)) }
 {
-    elements(alloc, &p.core, p.places.as_slice(), l, target)
+    let making = Making {
+        core: &p.core,
+        places: p.places.as_slice(),
+        layout: l,
+        target,
+    };
+    elements(alloc, &making)
 }
 
 /// How many blocks a large turn has, where a turn of one block has so many instructions.
@@ -257,25 +270,22 @@ fn blocks_of(length: usize) -> usize
 /// Whole turns of a row: large ones of so many blocks, where that is more than one, and then the turn of one block.
 fn whole_turns(
     alloc: Global,
-    core: &Core,
-    places: &[u8],
-    layout: &Layout,
+    making: &Making,
     aligned: bool,
     blocks: usize,
     turn_of_one: Block,
-    target: Target,
 ) -> Result<Flow, AllocError>
-    requires of { (f : FunctionValue) × AreOf f (record { core = core.now; places = places.now }) layout.now }
-    requires places { GoodPlaces core.now.steps places.now }
+    requires of { (f : FunctionValue) × AreFor f making.now }
     requires some { 1 ≤ blocks }
     requires few { blocks ≤ 4 }
-    ensures { IfOk result (λ flow. (f : FunctionValue) → AreOf f (record { core = core.now; places = places.now }) layout.now → AreWholeTurns f target places.now aligned blocks turn_of_one.list (flat_of flow)) }
+    ensures { IfOk result (λ flow. (f : FunctionValue) → AreFor f making.now → AreWholeTurns f making.now.target making.now.places.now aligned blocks turn_of_one.list (flat_of flow)) }
 {
+    let core = making.core;
     let lanes = core.lanes as usize;
     if blocks == 1 {
         return repeat(alloc, Cond::Ns, plain(turn_of_one));
     }
-    let large = turn(alloc, core, places, layout, lanes, aligned, blocks, target)?;
+    let large = turn(alloc, making, lanes, aligned, blocks)?;
     wide_loops(
         alloc,
         lanes,
@@ -283,6 +293,26 @@ fn whole_turns(
         plain(large),
         plain(turn_of_one),
     )
+}
+
+/// Turns of `count` elements and of fewer and fewer, down to one, from where the counter is `from` less than the elements left. Those of several elements that are long are left out.
+fn ends(alloc: Global, making: &Making, from: usize, count: usize) -> Result<Ends, AllocError>
+    requires of { (f : FunctionValue) × AreFor f making.now }
+    requires count { IsShare making.now.core.now.lanes count }
+    requires half { 2 * count ≤ from }
+    requires most { from ≤ 64 }
+    ensures same { IfOk result (λ ends. flat_of ends.head ≡ flat_of ends.tail) }
+    ensures is { IfOk result (λ ends. (f : FunctionValue) → AreFor f making.now → AreByParts f making.now.target making.now.places.now from (flat_of ends.tail)) }
+{
+    let block = turn(alloc, making, count, false, 1)?;
+    if count == 1 {
+        return larger_ends(alloc, from, count, block, no_ends(alloc));
+    }
+    if block.list.len() > MOST_OF_PART {
+        return ends(alloc, making, from, count / 2);
+    }
+    let smaller = ends(alloc, making, count, count / 2)?;
+    larger_ends(alloc, from, count, block, smaller)
 }
 
 /// Whether each count that meets facts is a multiple of a number.
@@ -303,80 +333,63 @@ fn begins_aligned(layout: &Layout) -> bool
     }
 }
 
-/// Whole turns from the first element of a row on, and single elements where those may leave some.
-fn from_first(
-    alloc: Global,
-    core: &Core,
-    places: &[u8],
-    layout: &Layout,
-    turns: Flow,
-    target: Target,
-) -> Result<Flow, AllocError>
-    requires of { (f : FunctionValue) × AreOf f (record { core = core.now; places = places.now }) layout.now }
-    requires places { GoodPlaces core.now.steps places.now }
-    ensures { IfOk result (λ flow. (f : FunctionValue) → AreOf f (record { core = core.now; places = places.now }) layout.now → AreFromFirst f target places.now (flat_of turns) (flat_of flow)) }
+/// Whole turns from the first element of a row on, and parts of one where those may leave some elements.
+fn from_first(alloc: Global, making: &Making, turns: Flow) -> Result<Flow, AllocError>
+    requires of { (f : FunctionValue) × AreFor f making.now }
+    ensures { IfOk result (λ flow. (f : FunctionValue) → AreFor f making.now → AreFromFirst f making.now.target making.now.places.now (flat_of turns) (flat_of flow)) }
 {
+    let core = making.core;
     let lanes = core.lanes as usize;
+    let layout = making.layout;
     if divides_each(lanes, layout.facts.n) {
         return whole_loops(alloc, lanes, turns);
     }
-    let single = turn(alloc, core, places, layout, 1, false, 1, target)?;
-    plain_loops(alloc, lanes, turns, single)
+    let Ends { head: _, tail } = ends(alloc, making, lanes, lanes / 2)?;
+    plain_loops(alloc, lanes, turns, tail)
 }
 
 /// Whole turns with aligned stores from where the first dest, which fills a register, is at a multiple of 16, and by the turn `wide` where
-/// it is so nowhere; and single elements before and behind them, where there may be some.
+/// it is so nowhere; and parts of one before and behind them, where there may be some elements.
 fn from_boundary(
     alloc: Global,
-    core: &Core,
-    places: &[u8],
-    layout: &Layout,
+    making: &Making,
     wide: Block,
     turns: Flow,
-    target: Target,
 ) -> Result<Flow, AllocError>
-    requires of { (f : FunctionValue) × AreOf f (record { core = core.now; places = places.now }) layout.now }
-    requires places { GoodPlaces core.now.steps places.now }
-    requires filled { core.now.lanes * slice_index core.now.sizes 0 ≡ 16 }
-    ensures { IfOk result (λ flow. (f : FunctionValue) → AreOf f (record { core = core.now; places = places.now }) layout.now → AreFromBoundary f target places.now wide.list (flat_of turns) (flat_of flow)) }
+    requires of { (f : FunctionValue) × AreFor f making.now }
+    requires filled { making.now.core.now.lanes * slice_index making.now.core.now.sizes 0 ≡ 16 }
+    ensures { IfOk result (λ flow. (f : FunctionValue) → AreFor f making.now → AreFromBoundary f making.now.target making.now.places.now wide.list (flat_of turns) (flat_of flow)) }
 {
+    let core = making.core;
     let lanes = core.lanes as usize;
     let wide = repeat(alloc, Cond::Ns, plain(wide))?;
+    let layout = making.layout;
     if divides_each(lanes, layout.facts.n) {
         return tested_loops(alloc, lanes, wide, turns);
     }
-    let tail = turn(alloc, core, places, layout, 1, false, 1, target)?;
-    let head = Block {
-        list: InsList::from_slice(alloc, tail.list.as_slice())?,
-    };
+    let ends = ends(alloc, making, lanes, lanes / 2)?;
     let shift = shift_of(core.sizes[0] as usize);
-    aligned_loops(alloc, shift, lanes, head, wide, turns, tail)
+    aligned_loops(alloc, shift, lanes, ends, wide, turns)
 }
 
 /// The loops over the elements of a row.
-fn elements(
-    alloc: Global,
-    core: &Core,
-    places: &[u8],
-    layout: &Layout,
-    target: Target,
-) -> Result<Flow, AllocError>
-    requires of { (f : FunctionValue) × AreOf f (record { core = core.now; places = places.now }) layout.now }
-    requires places { GoodPlaces core.now.steps places.now }
-    ensures { IfOk result (λ flow. (f : FunctionValue) → AreOf f (record { core = core.now; places = places.now }) layout.now → IsElements f target places.now flow) }
+fn elements(alloc: Global, making: &Making) -> Result<Flow, AllocError>
+    requires of { (f : FunctionValue) × AreFor f making.now }
+    ensures { IfOk result (λ flow. (f : FunctionValue) → AreFor f making.now → IsElements f making.now.target making.now.places.now flow) }
 {
+    let core = making.core;
     let lanes = core.lanes as usize;
     let size = core.sizes[0] as usize;
-    let wide = turn(alloc, core, places, layout, lanes, false, 1, target)?;
+    let wide = turn(alloc, making, lanes, false, 1)?;
     let blocks = blocks_of(wide.list.len());
     if lanes * size != REGISTER {
-        let turns = whole_turns(alloc, core, places, layout, false, blocks, wide, target)?;
-        return from_first(alloc, core, places, layout, turns, target);
+        let turns = whole_turns(alloc, making, false, blocks, wide)?;
+        return from_first(alloc, making, turns);
     }
-    let stored = turn(alloc, core, places, layout, lanes, true, 1, target)?;
-    let turns = whole_turns(alloc, core, places, layout, true, blocks, stored, target)?;
-    if begins_aligned(layout) {
-        return from_first(alloc, core, places, layout, turns, target);
+    let stored = turn(alloc, making, lanes, true, 1)?;
+    let turns = whole_turns(alloc, making, true, blocks, stored)?;
+    if begins_aligned(making.layout) {
+        return from_first(alloc, making, turns);
     }
-    from_boundary(alloc, core, places, layout, wide, turns, target)
+    from_boundary(alloc, making, wide, turns)
 }

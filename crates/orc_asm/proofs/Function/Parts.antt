@@ -29,6 +29,7 @@ use Rattle.orc_frame.specs.Parts.{InFrame, InChanged, InBlock, InReturn, InSums,
 use Rattle.orc_frame.specs.GoodCall.{GoodCall}
 use Rattle.orc_frame.specs.Function.{IsCellByte, subject_of}
 use Rattle.orc_program.specs.Need.{turns}
+use Rattle.orc_region.specs.Regions.{TurnParts}
 use Rattle.orc_region.specs.Code.{Turns, pointer, elements_of, last_place, resident_register, resident_loads_code, sum_stores_code}
 use Rattle.orc_region.specs.Elements.{HasCome, Holds, PointsAt, InElements, InWords, IsDest, IsQuiet}
 use Rattle.orc_region.proofs.Block.Cells.{Numbers}
@@ -75,7 +76,7 @@ ok_same x y r a b = ap (ok_value x) (sym a ∙ b)
 is_mapped : (m e : Memory) (a : ℕ) → m a ≡ e a → IsMapped m a → IsMapped e a
 is_mapped m e a q h = subst (λ o. is_some o ≡ true) q h
 
-module _ {target : Target} (f : FunctionValue) (is : is_function f ≡ true) (at : List ℕ) (single wide aligned large : List Ins) (turns_are : Turns f target at single wide aligned large) (code : Placed) (s : Point) (args : Arguments) (back : ℕ) (good : GoodCall (subject_of f) code s args back) where
+module _ {target : Target} (f : FunctionValue) (is : is_function f ≡ true) (at : List ℕ) (fewer : TurnParts) (wide aligned large : List Ins) (turns_are : Turns f target at fewer wide aligned large) (code : Placed) (s : Point) (args : Arguments) (back : ℕ) (good : GoodCall (subject_of f) code s args back) where
   abbrev known : Arrays f
   known = arrays_known f is
 
@@ -290,7 +291,7 @@ module _ {target : Target} (f : FunctionValue) (is : is_function f ≡ true) (at
     row_dest a w = (w.0, w.1, (r, row, w.2, omega (arith, w.4), w.5, w.6, w.7))
 
     -- what holds at each step in a row
-    on_way : (u : Core) (i : Ins) → OnWay f code s args back good r 0 args.n (Wanted f is at single wide aligned large turns_are code s args back good r row) c u i → Q u i
+    on_way : (u : Core) (i : Ins) → OnWay f code s args back good r 0 args.n (Wanted f is at fewer wide aligned large turns_are code s args back good r row) c u i → Q u i
     on_way u i w = (
       record { stack = inr w.stack; quiet = λ a nc nf ns. w.quiet a (λ t. nc (row_dest a t)) nf ∙ h.steady.quiet a nc nf },
       record { apart = w.wide.apart; stored = λ al. w.wide.stored (al.full, al.reached r row, (al.some, al.alone)) },
@@ -321,11 +322,11 @@ module _ {target : Target} (f : FunctionValue) (is : is_function f ≡ true) (at
           slots = λ x w. words x (omega (arith, w.0), omega (arith, w.1));
         }
 
-    does : (t : State) × (list : List Ins) × (d : Core) × Does Q (elements_of f single wide aligned large) c list d × Ended f known code s args back good Kept r e t c d × (length list ≤ regions_of (most_besides f) (turns f args.n) (most_turn f target)) × (weigh cell_weight list ≤ turns f args.n * (subject_of f).operands)
+    does : (t : State) × (list : List Ins) × (d : Core) × Does Q (elements_of f fewer wide aligned large) c list d × Ended f known code s args back good Kept r e t c d × (length list ≤ regions_of (most_besides f) (turns f args.n) (most_turn f target)) × (weigh cell_weight list ≤ turns f args.n * (subject_of f).operands)
     does =
-        let x = row_does f is at single wide aligned large turns_are code s args back good r row e (e, h.emulated, refl) c holds points h.counter in
+        let x = row_does f is at fewer wide aligned large turns_are code s args back good r row e (e, h.emulated, refl) c holds points h.counter in
         let y = x.3 in
-        (y.e, x.0, x.1, does_map _ Q on_way (elements_of f single wide aligned large) c x.0 x.1 x.2, row_ended x.1 y.e y.come y.quiet y.holds y.words, y.short, y.light)
+        (y.e, x.0, x.1, does_map _ Q on_way (elements_of f fewer wide aligned large) c x.0 x.1 x.2, row_ended x.1 y.e y.come y.quiet y.holds y.words, y.short, y.light)
 
   -- ---- after the rows
 
@@ -414,7 +415,7 @@ module _ {target : Target} (f : FunctionValue) (is : is_function f ≡ true) (at
         )
 
   pub parts : (first last : List Ins) → Prepares (layout_of f) first → Finishes (layout_of f) last
-      → Parts f known code s args back good Fair (first ++ resident_loads_code at count patterns) (elements_of f single wide aligned large) (sum_stores_code at count ++ last) (regions_of (most_besides f) (turns f args.n) (most_turn f target)) (turns f args.n * (subject_of f).operands)
+      → Parts f known code s args back good Fair (first ++ resident_loads_code at count patterns) (elements_of f fewer wide aligned large) (sum_stores_code at count ++ last) (regions_of (most_besides f) (turns f args.n) (most_turn f target)) (turns f args.n * (subject_of f).operands)
   parts first last prepares finishes = record {
     Kept = Kept;
     kept_on = kept_on;

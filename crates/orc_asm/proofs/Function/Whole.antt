@@ -27,6 +27,7 @@ use Rattle.orc_frame.specs.Subject.{rows as rows_of}
 use Rattle.orc_asm.specs.RunsAs.{quiet, fully}
 use Rattle.orc_asm.specs.RunsAs.{wide as wide_promise}
 use Rattle.orc_asm.specs.Function.{RunsFully}
+use Rattle.orc_region.specs.Regions.{TurnParts}
 use Rattle.orc_region.specs.Code.{Turns, IsElements, elements_of, resident_loads_code, sum_stores_code}
 use Rattle.orc_asm.specs.Rows.{rows_flow, whole_flow}
 use Rattle.orc_region.proofs.Checked.Layouts.{patterns_are, sizes_are}
@@ -73,7 +74,7 @@ ret_bytes = refl
 
 -- ---- the code of rows in turns
 
-module _ {target : Target} (f : FunctionValue) (h : is_function f ≡ true) (l : Layout) (first last : List Ins) (x : Lists f l first last) (at : List ℕ) (single wide aligned large : List Ins) (turns : Turns f target at single wide aligned large) where
+module _ {target : Target} (f : FunctionValue) (h : is_function f ≡ true) (l : Layout) (first last : List Ins) (x : Lists f l first last) (at : List ℕ) (fewer : TurnParts) (wide aligned large : List Ins) (turns : Turns f target at fewer wide aligned large) where
   abbrev dests : ℕ
   dests = count_of kind.Dest f.vars
 
@@ -87,7 +88,7 @@ module _ {target : Target} (f : FunctionValue) (h : is_function f ≡ true) (l :
   fact = facts l (f, h, x.layout)
 
   abbrev elements : Flow
-  elements = elements_of f single wide aligned large
+  elements = elements_of f fewer wide aligned large
 
   abbrev rows : List Ins
   rows = flat (rows_flow elements f.two_d dests sources)
@@ -138,7 +139,7 @@ module _ {target : Target} (f : FunctionValue) (h : is_function f ≡ true) (l :
   known = arrays_known f h
 
   fits : Fits 960000 (flat elements)
-  fits = fits_elements f h at single wide aligned large turns
+  fits = fits_elements f h at fewer wide aligned large turns
 
   allowed : Each IsAllowed (with_return flow)
   allowed =
@@ -181,7 +182,7 @@ module _ {target : Target} (f : FunctionValue) (h : is_function f ≡ true) (l :
       lift subject (steps f target) (fully subject) (both_lift (quiet subject) (wide_promise subject) (quiet_lifts subject) (wide_lifts subject)) (spell_all (with_return flow))
       (runs_with f known front elements behind (most_turn f target) (most_besides f) some short (λ s args. WideAt subject args) (λ code s args back good. own_wide f known code s args back good)
       (λ code s args back good. subst (λ y. Parts f known code s args back good (WideAt (subject_of f) args) (first ++ resident_loads_code at (length y.acc_sizes.items) (length y.patterns.items)) elements (sum_stores_code at (length y.acc_sizes.items) ++ last) (regions_of (most_besides f) ((subject_of f).turns args.n) (most_turn f target)) ((subject_of f).turns args.n * some)) (sym x.layout)
-      (parts f h at single wide aligned large turns code s args back good first last (subst (λ y. Prepares y first) x.layout x.prepares) (subst (λ y. Finishes y last) x.layout x.finishes)))
+      (parts f h at fewer wide aligned large turns code s args back good first last (subst (λ y. Prepares y first) x.layout x.prepares) (subst (λ y. Finishes y last) x.layout x.finishes)))
       (fully subject)
       (λ s args way t q each counted. (q, wide_way subject s args way t each (λ R sees. subst (λ k. AtMost k R way) (bound args) (counted R sees))))
       allowed)
@@ -192,14 +193,14 @@ module _ {target : Target} (f : FunctionValue) (h : is_function f ≡ true) (l :
 -- as the bytes are built from the lists around the rows and the tree that does their elements
 pub whole_runs : (target : Target) (f : FunctionValue) → is_function f ≡ true → (l : Layout) (first last : List Ins) → Lists f l first last → (at : List ℕ) (tree : Tree) → IsElements f target at tree → (begins ends : List Ins) → begins ≡ first ++ resident_loads_code at (length l.acc_sizes.items) (length l.patterns.items) → ends ≡ sum_stores_code at (length l.acc_sizes.items) ++ last → (bytes : List ℕ) (two_d : Bool) (d s : ℕ) → two_d ≡ f.two_d → d ≡ count_of kind.Dest f.vars → s ≡ count_of kind.Source f.vars
     → bytes ≡ spell_all (with_return (whole_flow begins (Plain (flat_of tree)) ends two_d d s)) → RunsFully f target bytes × HasCodeLength bytes
-whole_runs target f h l first last x at tree (single, wide, aligned, large, turns, t) begins ends p q bytes two_d d s a b c e =
+whole_runs target f h l first last x at tree (fewer, wide, aligned, large, turns, t) begins ends p q bytes two_d d s a b c e =
     let loads = first ++ resident_loads_code at (length l.acc_sizes.items) (length l.patterns.items) in
     let stores = sum_stores_code at (length l.acc_sizes.items) ++ last in
-    let is : bytes ≡ spell_all (with_return (flow f h l first last x at single wide aligned large turns)) =
+    let is : bytes ≡ spell_all (with_return (flow f h l first last x at fewer wide aligned large turns)) =
     e ∙ ap₂ (λ y z. spell_all (with_return (whole_flow y (Plain (flat_of tree)) z two_d d s))) p q
     ∙ ap (λ r. spell_all (with_return (whole_flow loads (Plain (flat_of tree)) stores r d s))) a ∙ ap₂ (λ d s. spell_all (with_return (whole_flow loads (Plain (flat_of tree)) stores f.two_d d s))) b c
     ∙ ap (λ t. spell_all (with_return (whole_flow loads (Plain t) stores f.two_d (count_of kind.Dest f.vars) (count_of kind.Source f.vars)))) t in
-    (subst (RunsFully f target) (sym is) (code_runs f h l first last x at single wide aligned large turns), subst HasCodeLength (sym is) (code_length f h l first last x at single wide aligned large turns))
+    (subst (RunsFully f target) (sym is) (code_runs f h l first last x at fewer wide aligned large turns), subst HasCodeLength (sym is) (code_length f h l first last x at fewer wide aligned large turns))
 
 -- ---- the lists around the rows are spelled
 

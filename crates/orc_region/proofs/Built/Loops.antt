@@ -4,13 +4,13 @@ use Rattle.x86_ins.specs.declared.ins.AluOp.TheVariants.{Add, Sub, And}
 use Rattle.x86_ins.specs.declared.ins.ShiftOp.TheVariants.{Shr}
 use Rattle.x86_ins.specs.declared.ins.Ins.{Ins}
 use Rattle.x86_ins.specs.declared.ins.Ins.TheVariants.{MovImm, Alu, AluImm, Shift}
-use Rattle.x86_ins.specs.declared.ins.Cond.TheVariants.{E, Ne, Ns}
+use Rattle.x86_ins.specs.declared.ins.Cond.TheVariants.{E, Ns}
 use Rattle.x86_ins.specs.Spelling.{has_spelling}
 use Rattle.x86_ins.specs.Way.{Each}
 use Rattle.x86_flow.specs.declared.tree.Flow.{Flow}
-use Rattle.x86_flow.specs.Flow.{Plain, flat, loop_code, choice_code}
+use Rattle.x86_flow.specs.Flow.{Plain, flat, choice_code}
 use Rattle.x86_flow.specs.Tree.{flat_of}
-use Rattle.orc_region.specs.Regions.{never, gap_code, gap_flow, low_bits_code, behind_code, enter_head_code, leave_head_code, tail_flow, aligned_row, whole_row, tested_row}
+use Rattle.orc_region.specs.Regions.{TurnParts, never, gap_code, gap_flow, low_bits_code, behind_code, enter_head_code, leave_head_code, parts_flow, aligned_row, whole_row, plain_row, tested_row}
 
 three : (a b c d : List Ins) (i j k : Ins) → a ≡ [] → b ≡ a ++ i ∷ [] → c ≡ b ++ j ∷ [] → d ≡ c ++ k ∷ [] → d ≡ i ∷ j ∷ k ∷ []
 three a b c d i j k n p q r = r ∙ ap (λ l. l ++ k ∷ []) (q ∙ ap (λ l. l ++ j ∷ []) (p ∙ ap (λ l. l ++ i ∷ []) n))
@@ -49,8 +49,8 @@ spelled_low_bits list k e = subst AreSpelled (sym e) (spelled_each (low_bits_cod
 pub spelled_behind : (list : List Ins) (n : ℕ) → list ≡ behind_code n → All (λ i. IsTrue (has_spelling i)) list
 spelled_behind list n e = subst AreSpelled (sym e) (spelled_each (behind_code n) (refl, (refl, tt)))
 
-pub spelled_enter : (list : List Ins) → list ≡ enter_head_code → All (λ i. IsTrue (has_spelling i)) list
-spelled_enter list e = subst AreSpelled (sym e) (spelled_each enter_head_code (refl, (refl, (refl, tt))))
+pub spelled_enter : (list : List Ins) (n : ℕ) → list ≡ enter_head_code n → All (λ i. IsTrue (has_spelling i)) list
+spelled_enter list n e = subst AreSpelled (sym e) (spelled_each (enter_head_code n) (refl, (refl, (refl, tt))))
 
 pub spelled_leave : (list : List Ins) → list ≡ leave_head_code → All (λ i. IsTrue (has_spelling i)) list
 spelled_leave list e = subst AreSpelled (sym e) (spelled_each leave_head_code (refl, (refl, tt)))
@@ -80,21 +80,27 @@ tested_whole flow bits yes_way no_way either wide aligned list lanes n b y o e f
     let ways : flat_of either ≡ choice_code E one (flat (whole_row lanes (Plain (flat_of wide)))) = e ∙ ap (λ t. choice_code E t (flat_of no_way)) y ∙ ap (λ t. choice_code E one t) o in
     f ∙ ap (λ x. x ++ flat_of either) (b ∙ n) ∙ ap (λ x. low_bits_code 4 ++ x) ways
 
-pub aligned_whole : (flow gap behind yes_way no_way either last turns counted wide aligned : Flow) (head tail counts : List Ins) (k lanes : ℕ) → tail ≡ head → counts ≡ behind_code lanes → flat_of behind ≡ counts
+pub aligned_whole : (flow gap behind yes_way no_way either turns counted wide aligned head tail : Flow) (counts : List Ins) (k lanes : ℕ) → flat_of head ≡ flat_of tail → counts ≡ behind_code lanes → flat_of behind ≡ counts
     → flat_of gap ≡ flat (gap_flow k)
-    → flat_of yes_way ≡ enter_head_code ++ (loop_code Ne head ++ (leave_head_code ++ flat_of aligned))
+    → flat_of yes_way ≡ enter_head_code lanes ++ (flat_of head ++ (leave_head_code ++ flat_of aligned))
     → flat_of no_way ≡ Alu Add 1 0 ∷ flat_of wide
     → flat_of either ≡ choice_code Ns (flat_of yes_way) (flat_of no_way)
-    → flat_of last ≡ flat (tail_flow lanes (Plain tail))
-    → flat_of turns ≡ flat_of either ++ flat_of last
+    → flat_of turns ≡ flat_of either ++ flat_of tail
     → flat_of counted ≡ flat_of behind ++ flat_of turns
     → flat_of flow ≡ flat_of gap ++ flat_of counted
-    → flat_of flow ≡ flat (aligned_row k lanes (Plain head) (Plain (flat_of wide)) (Plain (flat_of aligned)))
-aligned_whole flow gap behind yes_way no_way either last turns counted wide aligned head tail counts k lanes s n b g y o e l t c f =
-    let back : flat_of last ≡ flat (tail_flow lanes (Plain head)) = l ∙ ap (λ t. flat (tail_flow lanes (Plain t))) s in
-    let one = enter_head_code ++ (loop_code Ne head ++ (leave_head_code ++ flat_of aligned)) in
+    → (parts : TurnParts) → flat_of tail ≡ flat (parts_flow lanes parts)
+    → flat_of flow ≡ flat (aligned_row k lanes parts (Plain (flat_of wide)) (Plain (flat_of aligned)))
+aligned_whole flow gap behind yes_way no_way either turns counted wide aligned head tail counts k lanes s n b g y o e t c f parts p =
+    let rest = flat (parts_flow lanes parts) in
+    let one = enter_head_code lanes ++ (rest ++ (leave_head_code ++ flat_of aligned)) in
     let two = Alu Add 1 0 ∷ flat_of wide in
-    let ways : flat_of either ≡ choice_code Ns one two = e ∙ ap (λ t. choice_code Ns t (flat_of no_way)) y ∙ ap (λ t. choice_code Ns one t) o in
-    let body : flat_of turns ≡ choice_code Ns one two ++ flat (tail_flow lanes (Plain head)) = t ∙ ap (λ x. x ++ flat_of last) ways ∙ ap (λ x. choice_code Ns one two ++ x) back in
-    let all : flat_of counted ≡ behind_code lanes ++ (choice_code Ns one two ++ flat (tail_flow lanes (Plain head))) = c ∙ ap (λ x. x ++ flat_of turns) (b ∙ n) ∙ ap (λ x. behind_code lanes ++ x) body in
+    let yes : flat_of yes_way ≡ one = y ∙ ap (λ x. enter_head_code lanes ++ (x ++ (leave_head_code ++ flat_of aligned))) (s ∙ p) in
+    let ways : flat_of either ≡ choice_code Ns one two = e ∙ ap (λ t. choice_code Ns t (flat_of no_way)) yes ∙ ap (λ t. choice_code Ns one t) o in
+    let body : flat_of turns ≡ choice_code Ns one two ++ rest = t ∙ ap (λ x. x ++ flat_of tail) ways ∙ ap (λ x. choice_code Ns one two ++ x) p in
+    let all : flat_of counted ≡ behind_code lanes ++ (choice_code Ns one two ++ rest) = c ∙ ap (λ x. x ++ flat_of turns) (b ∙ n) ∙ ap (λ x. behind_code lanes ++ x) body in
     f ∙ ap (λ x. x ++ flat_of counted) g ∙ ap (λ x. flat (gap_flow k) ++ x) all
+
+-- whole turns from the first element on, and parts of one
+pub plain_whole : (flow turns wide tail : Flow) (lanes : ℕ) → flat_of turns ≡ flat (whole_row lanes (Plain (flat_of wide))) → flat_of flow ≡ flat_of turns ++ flat_of tail
+    → (parts : TurnParts) → flat_of tail ≡ flat (parts_flow lanes parts) → flat_of flow ≡ flat (plain_row lanes parts (Plain (flat_of wide)))
+plain_whole flow turns wide tail lanes t f parts p = f ∙ ap (λ x. x ++ flat_of tail) t ∙ ap (λ x. flat (whole_row lanes (Plain (flat_of wide))) ++ x) p

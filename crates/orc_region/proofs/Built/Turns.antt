@@ -1,6 +1,9 @@
 -- The turns over the elements of a row, and the loops around them, as they are built.
-use Rattle.std.proofs.Common.{◌≡◌, ◌≢◌, ℕ, zero, suc, ◌+◌, ◌*◌, ◌<◌, ◌≤◌, ◌==◌, ◌&&◌, ◌⊎◌, if◌then◌else◌, Bool, true, false, true≢false, All, IsTrue, List, [], length, nat_lt, nat_le, slice_index, sym, ap, ap₂, ◌∙◌, subst, arith, inl, inr, refl, ⊎_elim}
+use Rattle.std.proofs.Common.{◌≡◌, ◌≢◌, ℕ, zero, suc, ◌+◌, ◌*◌, ◌/◌, ◌^◌, ◌++◌, ◌∷◌, le_refl, ◌<◌, ◌≤◌, ◌==◌, ◌&&◌, ◌⊎◌, if◌then◌else◌, Bool, true, false, true≢false, All, IsTrue, List, [], length, nat_lt, nat_le, slice_index, sym, ap, ap₂, ◌∙◌, subst, arith, inl, inr, refl, ⊎_elim}
 use Rattle.std.proofs.lemmas.Bool.{ne_eqb, lt-ltb, ltb-true, eqb-true}
+use Rattle.std.proofs.lemmas.Nat.{pow-add}
+use Rattle.std.proofs.Math.Nat.{mul_assoc}
+use Rattle.orc_program.proofs.Lanes.{lanes_is}
 use Rattle.orc_program.proofs.Sizes.{both}
 use Rattle.x86_ins.specs.declared.ins.Cond.TheVariants.{Ns}
 use Rattle.x86_ins.specs.declared.ins.Ins.{Ins}
@@ -24,25 +27,60 @@ use Rattle.orc_plan.specs.Places.{GoodPlaces, PlacedValue}
 use Rattle.orc_frame.specs.declared.frame.Layout.{Layout}
 use Rattle.orc_frame.specs.Frame.{IsLayout}
 use Rattle.orc_frame.specs.Layout.{layout_of}
-use Rattle.orc_region.specs.Code.{Seats, seats_with, seats_of, IsReady, IsBlock, IsBlockBy, IsTurnBy, IsTurnOf, AreWholeTurns, used_from, Turns, AreFromFirst, AreFromBoundary, IsElements, span_of, shift_of, is_filled, fills, blocks_of, turns_flow, from_first, from_boundary, elements_flow, elements_of}
+use Rattle.orc_region.specs.Code.{Seats, seats_with, seats_of, IsShare, IsPart, AreParts, ArePartsOf, AreByParts, IsReady, IsBlock, IsBlockBy, IsTurnBy, IsTurnOf, AreWholeTurns, used_from, Turns, AreFromFirst, AreFromBoundary, IsElements, span_of, shift_of, is_filled, fills, blocks_of, turns_flow, from_first, from_boundary, elements_flow, elements_of}
 use Rattle.orc_region.specs.Elements.{AreOf, DoesElements}
-use Rattle.orc_region.specs.Regions.{aligned_row, whole_row, plain_row, tested_row, wide_loop, wide_loops}
+use Rattle.orc_region.specs.Regions.{TurnParts, part_flow, parts_flow, aligned_row, whole_row, plain_row, tested_row, wide_loop, wide_loops}
 use Rattle.orc_region.proofs.Built.Slots.{first_there, used_dests, used_sources}
 use Rattle.orc_region.proofs.Calls.Setting.{sums_count}
 use Rattle.orc_region.proofs.Calls.Blocks.{does_elements}
 use Rattle.orc_region.proofs.Turn.Blocks.{block_is, block_spelled}
 use Rattle.orc_region.proofs.Checked.Fits.{slot_sized}
-use Rattle.orc_region.proofs.Sizes.Loops.{Fits, fits_whole, fits_tested, fits_plain, fits_aligned, fits_larges}
-use Rattle.orc_region.proofs.Checked.Several.{IsCount, one_count, lanes_count}
+use Rattle.orc_region.proofs.Sizes.Loops.{Fits, FitsPart, fits_list, fits_whole, fits_tested, fits_plain, fits_aligned, fits_larges}
+use Rattle.orc_region.proofs.Checked.Several.{IsCount, IsPower, share_count, lanes_count}
+use Rattle.orc_region.proofs.Row.Parts.{parts_map}
 use Rattle.orc_region.proofs.Turn.Lists.{few_blocks, blocks_near, ready_is, turn_is, turn_fine, turn_spelled, turn_size}
 
 -- ---- how many elements a turn does
 
-pub count_is : (f : FunctionValue) → is_function f ≡ true → (count : ℕ) → (count ≡ 1) ⊎ (count ≡ lanes f) → IsCount f count
-count_is f h count which = ⊎_elim (λ e. subst (IsCount f) (sym e) (one_count f h)) (λ e. subst (IsCount f) (sym e) (lanes_count f h)) which
+-- all lanes are a share of them
+pub share_all : (lanes : ℕ) → IsShare lanes lanes
+share_all lanes = (0, omega arith)
+
+-- and so is half of what is a share and more than one
+pub share_half : (f : FunctionValue) → is_function f ≡ true → (n : ℕ) → n ≡ lanes f → (count : ℕ) → IsShare n count → count ≢ 1 → IsShare n (count / 2)
+share_half f h n n_is count share more = (1 + share.0, subst (λ c. count / 2 * 2 ^ (1 + share.0) ≡ c) share.1 (doubling (even is.power)))
+  where
+    is : IsCount f count
+    is = share_count f h count (subst (λ k. IsShare k count) n_is share)
+
+    even : IsPower count → count / 2 * 2 ≡ count
+    even (inl e) = absurd (more e)
+    even (inr (inl e)) = omega (arith, e)
+    even (inr (inr (inl e))) = omega (arith, e)
+    even (inr (inr (inr (inl e)))) = omega (arith, e)
+    even (inr (inr (inr (inr e)))) = omega (arith, e)
+
+    doubling : count / 2 * 2 ≡ count → count / 2 * 2 ^ (1 + share.0) ≡ count * 2 ^ share.0
+    doubling e = ap (λ p. count / 2 * p) (pow-add 2 1 share.0) ∙ sym (mul_assoc (count / 2) 2 (2 ^ share.0)) ∙ ap (λ c. c * 2 ^ share.0) e
+
+pub half_of_lanes : (f : FunctionValue) → is_function f ≡ true → (n : ℕ) → n ≡ lanes f → IsShare n (n / 2)
+half_of_lanes f h n n_is = share_half f h n n_is n (share_all n) (λ e. go (lanes_is f h) e)
+  where
+    go : (lanes f ≡ 2) ⊎ ((lanes f ≡ 4) ⊎ ((lanes f ≡ 8) ⊎ (lanes f ≡ 16))) → n ≡ 1 → ⊥
+    go (inl p) e = omega (arith, p, e, n_is)
+    go (inr (inl p)) e = omega (arith, p, e, n_is)
+    go (inr (inr (inl p))) e = omega (arith, p, e, n_is)
+    go (inr (inr (inr p))) e = omega (arith, p, e, n_is)
 
 pub lanes_few : (f : FunctionValue) → is_function f ≡ true → (n : ℕ) → n ≡ lanes f → n ≤ 64
 lanes_few f h n e = (let few = (lanes_count f h).most in omega (arith, e, few))
+
+-- by a view of the lanes
+pub share_own : (n own : ℕ) → own ≡ n → IsShare n own
+share_own n own e = subst (IsShare n) (sym e) (share_all n)
+
+pub half_in_lanes : (f : FunctionValue) → is_function f ≡ true → (n : ℕ) → n ≡ lanes f → (own : ℕ) → own ≡ n → IsShare n (own / 2)
+half_in_lanes f h n n_is own own_is = subst (λ k. IsShare n (k / 2)) (sym own_is) (half_of_lanes f h n n_is)
 
 -- ---- turns
 
@@ -76,17 +114,16 @@ pub layout_is : (f : FunctionValue) (p : PlacedValue) (l : Layout) → AreOf f p
 layout_is f p l are = (f, are.kept, are.layout)
 
 -- how many elements, by the function
-pub count_by : (f : FunctionValue) (p : PlacedValue) (l : Layout) → AreOf f p l → (count : ℕ) → (count ≡ 1) ⊎ (count ≡ p.core.lanes) → (count ≡ 1) ⊎ (count ≡ lanes f)
-count_by f p l are count (inl e) = inl e
-count_by f p l are count (inr e) = inr (e ∙ are.lanes)
+pub count_by : (f : FunctionValue) (p : PlacedValue) (l : Layout) → AreOf f p l → (count : ℕ) → IsShare p.core.lanes count → IsShare (lanes f) count
+count_by f p l are count share = subst (λ n. IsShare n count) are.lanes share
 
 module _ (f : FunctionValue) (at sizes : List ℕ) (steps : List Step) (x : Lowered f at sizes steps) where
   good : GoodPlaces (steps_of f) at
   good = subst (λ xs. GoodPlaces xs at) x.steps_are x.places
 
-  module _ (count : ℕ) (which : (count ≡ 1) ⊎ (count ≡ lanes f)) where
+  module _ (count : ℕ) (which : IsShare (lanes f) count) where
     several : IsCount f count
-    several = count_is f x.kept count which
+    several = share_count f x.kept count which
 
     pub count_few : count ≤ 16
     count_few = several.most
@@ -175,15 +212,31 @@ begins_is f l e some =
     ap (λ (y : Layout). nat_le 16 (slice_index y.facts.aligns.items 0)) e ∙ ap (λ (y : Facts). nat_le 16 (slice_index y.aligns.items 0)) (stated_is f)
     ∙ sym (ap (λ t. t && nat_le 16 (slice_index (facts_of f).aligns.items 0)) (lt-ltb 0 (count_of kind.Dest f.vars) some))
 
+-- ---- parts of a turn
+
+module _ (target : CodeTarget) (f : FunctionValue) (at : List ℕ) where
+  -- no part is below one element
+  pub no_parts : (list : List Ins) → list ≡ [] → AreByParts f target at 1 list
+  no_parts list e = ([], refl, e)
+
+  -- one more, before these
+  pub larger_part : (count from : ℕ) → IsShare (lanes f) count → 2 * count ≤ from → (turn : List Ins) → IsTurnOf f target at count false 1 turn → (1 < count → length turn ≤ 100) → (smaller list : List Ins) → AreByParts f target at count smaller
+      → list ≡ flat (part_flow from count (Plain turn)) ++ smaller → AreByParts f target at from list
+  larger_part count from share half turn is short smaller list x e = ((count, turn) ∷ x.0, (x.1, half, record { share = share; is = is; short = short }), e ∙ ap (λ (l : List Ins). flat (part_flow from count (Plain turn)) ++ l) x.2)
+
+  -- from the lanes on
+  pub parts_of_turn : (n : ℕ) → n ≡ lanes f → (list : List Ins) → AreByParts f target at n list → AreByParts f target at (lanes f) list
+  parts_of_turn n n_is list x = subst (λ k. AreByParts f target at k list) n_is x
+
 -- ---- turns from the first element on, or from a boundary
 
-flat_first : (w : Bool) (l : ℕ) (single : List Ins) (turns : Flow) → flat (from_first w l single (Plain (flat turns))) ≡ flat (from_first w l single turns)
-flat_first true l single turns = refl
-flat_first false l single turns = refl
+flat_first : (w : Bool) (l : ℕ) (parts : TurnParts) (turns : Flow) → flat (from_first w l parts (Plain (flat turns))) ≡ flat (from_first w l parts turns)
+flat_first true l parts turns = refl
+flat_first false l parts turns = refl
 
-flat_boundary : (w : Bool) (k l : ℕ) (single wide : List Ins) (turns : Flow) → flat (from_boundary w k l single wide (Plain (flat turns))) ≡ flat (from_boundary w k l single wide turns)
-flat_boundary true k l single wide turns = refl
-flat_boundary false k l single wide turns = refl
+flat_boundary : (w : Bool) (k l : ℕ) (parts : TurnParts) (wide : List Ins) (turns : Flow) → flat (from_boundary w k l parts wide (Plain (flat turns))) ≡ flat (from_boundary w k l parts wide turns)
+flat_boundary true k l parts wide turns = refl
+flat_boundary false k l parts wide turns = refl
 
 module _ (target : CodeTarget) (f : FunctionValue) (at : List ℕ) (n : ℕ) (n_is : n ≡ lanes f) where
   pub whole_first : has_whole_turns f ≡ true → (turns t : Tree) → flat_of t ≡ flat (whole_row n (Plain (flat_of turns))) → AreFromFirst f target at (flat_of turns) (flat_of t)
@@ -193,12 +246,13 @@ module _ (target : CodeTarget) (f : FunctionValue) (at : List ℕ) (n : ℕ) (n_
     e ∙ ap (λ k. flat (whole_row k (Plain (flat_of turns)))) n_is ∙ sym (ap (λ w. flat (from_first w (lanes f) [] (Plain (flat_of turns)))) whole),
   )
 
-  pub plain_first : has_whole_turns f ≡ false → (single : List Ins) → IsTurnOf f target at 1 false 1 single → (turns t : Tree) → flat_of t ≡ flat (plain_row n (Plain single) (Plain (flat_of turns))) → AreFromFirst f target at (flat_of turns) (flat_of t)
-  plain_first some_left single one turns t e = (
-    single,
-    λ w. one,
-    e ∙ ap (λ k. flat (plain_row k (Plain single) (Plain (flat_of turns)))) n_is ∙ sym (ap (λ w. flat (from_first w (lanes f) single (Plain (flat_of turns)))) some_left),
-  )
+  pub plain_first : has_whole_turns f ≡ false → (tail : List Ins) → AreByParts f target at n tail → (turns t : Tree) → ((parts : TurnParts) → tail ≡ flat (parts_flow n parts) → flat_of t ≡ flat (plain_row n parts (Plain (flat_of turns)))) → AreFromFirst f target at (flat_of turns) (flat_of t)
+  plain_first some_left tail by_parts turns t e =
+      let x = by_parts in (
+        x.0,
+        λ w. subst (λ k. AreParts (IsPart f target at) k x.0) n_is x.1,
+        e x.0 x.2 ∙ ap (λ k. flat (plain_row k x.0 (Plain (flat_of turns)))) n_is ∙ sym (ap (λ w. flat (from_first w (lanes f) x.0 (Plain (flat_of turns)))) some_left),
+      )
 
   module _ (turn : List Ins) (one_turn wide : Tree) (one_is : flat_of one_turn ≡ turn) (wide_is : flat_of wide ≡ loop_code Ns (flat_of one_turn)) where
     wide_flat : flat_of wide ≡ loop_code Ns turn
@@ -216,16 +270,17 @@ module _ (target : CodeTarget) (f : FunctionValue) (at : List ℕ) (n : ℕ) (n_
           ∙ sym (ap (λ w. flat (from_boundary w shift (lanes f) [] turn (Plain (flat_of turns)))) whole),
     )
 
-    pub searched_boundary : has_whole_turns f ≡ false → (single head : List Ins) → IsTurnOf f target at 1 false 1 single → head ≡ single → (k : ℕ) → k ≡ shift → (turns t : Tree) → flat_of t ≡ flat (aligned_row k n (Plain head) (Plain (flat_of wide)) (Plain (flat_of turns)))
+    pub searched_boundary : has_whole_turns f ≡ false → (tail : List Ins) → AreByParts f target at n tail → (k : ℕ) → k ≡ shift → (turns t : Tree) → ((parts : TurnParts) → tail ≡ flat (parts_flow n parts) → flat_of t ≡ flat (aligned_row k n parts (Plain (flat_of wide)) (Plain (flat_of turns))))
         → AreFromBoundary f target at turn (flat_of turns) (flat_of t)
-    searched_boundary some_left single head one same k k_is turns t e = (
-      single,
-      λ w. one,
-      e
-          ∙ ap₂ (λ k h. flat (aligned_row k n (Plain h) (Plain (flat_of wide)) (Plain (flat_of turns)))) k_is same
-          ∙ ap₂ (λ k w. flat (aligned_row shift k (Plain single) (Plain w) (Plain (flat_of turns)))) n_is wide_flat
-          ∙ sym (ap (λ w. flat (from_boundary w shift (lanes f) single turn (Plain (flat_of turns)))) some_left),
-    )
+    searched_boundary some_left tail by_parts k k_is turns t e =
+        let x = by_parts in (
+          x.0,
+          λ w. subst (λ k. AreParts (IsPart f target at) k x.0) n_is x.1,
+          e x.0 x.2
+              ∙ ap (λ k. flat (aligned_row k n x.0 (Plain (flat_of wide)) (Plain (flat_of turns)))) k_is
+              ∙ ap₂ (λ k w. flat (aligned_row shift k x.0 (Plain w) (Plain (flat_of turns)))) n_is wide_flat
+              ∙ sym (ap (λ w. flat (from_boundary w shift (lanes f) x.0 turn (Plain (flat_of turns)))) some_left),
+        )
 
 -- ---- the loops of a row
 
@@ -261,7 +316,7 @@ module _ (target : CodeTarget) (f : FunctionValue) (at sizes : List ℕ) (steps 
           turn,
           [],
           w.0,
-          record { good = good f at sizes steps x; one = a.1; more = more_is; stored = λ y. absurd (true≢false (sym y ∙ empty)); many = λ l. subst (λ k. IsTurnOf f target at (lanes f) k (blocks_of (length turn)) w.0) (sym empty) (w.1 l) },
+          record { good = good f at sizes steps x; fewer = a.1; more = more_is; stored = λ y. absurd (true≢false (sym y ∙ empty)); many = λ l. subst (λ k. IsTurnOf f target at (lanes f) k (blocks_of (length turn)) w.0) (sym empty) (w.1 l) },
           a.2
               ∙ ap (λ z. flat (from_first whole (lanes f) a.0 (Plain z))) w.2
               ∙ flat_first whole (lanes f) a.0 (turns_flow (lanes f) (blocks_of (length turn)) w.0 turn)
@@ -278,17 +333,17 @@ module _ (target : CodeTarget) (f : FunctionValue) (at sizes : List ℕ) (steps 
       w : AreWholeTurns f target at true (blocks_of (length turn)) list (flat_of turns)
       w = by_blocks true list turns are
 
-      these : (single : List Ins) → (whole ≡ false → IsTurnOf f target at 1 false 1 single) → Turns f target at single turn list w.0
-      these single one = record {
+      these : (parts : TurnParts) → ArePartsOf f target at parts → Turns f target at parts turn list w.0
+      these parts fewer = record {
         good = good f at sizes steps x;
-        one = one;
+        fewer = fewer;
         more = more_is;
         stored = λ y. subst (λ k. IsTurnOf f target at k true 1 list) n_is stored;
         many = λ l. subst (λ k. IsTurnOf f target at (lanes f) k (blocks_of (length turn)) w.0) (sym yes_filled) (w.1 l);
       }
 
-      abbrev Elements : Bool → Bool → List Ins → List Ins
-      Elements filled begins single = flat (elements_flow filled begins whole (shift_of size_first) (lanes f) (blocks_of (length turn)) single turn list w.0)
+      abbrev Elements : Bool → Bool → TurnParts → List Ins
+      Elements filled begins parts = flat (elements_flow filled begins whole (shift_of size_first) (lanes f) (blocks_of (length turn)) parts turn list w.0)
 
       pub begun_elements : nat_le 16 (slice_index l.facts.aligns.items 0) ≡ true → (t : Tree) → AreFromFirst f target at (flat_of turns) (flat_of t) → IsElements f target at t
       begun_elements begins t a = (
@@ -338,8 +393,8 @@ fits_turns lanes b most few large turn h g = go (nat_lt 1 b) refl
     go true e = (let near = blocks_near lanes b most few in let x = fits_larges lanes (b * lanes) 475343 118943 near (omega arith) (omega arith) large turn (g (ltb-true 1 b e)) h in record { allowed = x.allowed; bytes = (let b = x.bytes in omega (arith, b)) })
 
 -- they are allowed, and are few
-pub fits_elements : {target : CodeTarget} (f : FunctionValue) → is_function f ≡ true → (at : List ℕ) (single wide aligned large : List Ins) → Turns f target at single wide aligned large → Fits 960000 (flat (elements_of f single wide aligned large))
-fits_elements {target} f h at single wide aligned large t = go (fills f) (begins_aligned f) refl
+pub fits_elements : {target : CodeTarget} (f : FunctionValue) → is_function f ≡ true → (at : List ℕ) (parts : TurnParts) (wide aligned large : List Ins) → Turns f target at parts wide aligned large → Fits 960000 (flat (elements_of f parts wide aligned large))
+fits_elements {target} f h at parts wide aligned large t = go (fills f) (begins_aligned f) refl
   where
     count : IsCount f (lanes f)
     count = lanes_count f h
@@ -353,8 +408,15 @@ fits_elements {target} f h at single wide aligned large t = go (fills f) (begins
         let bytes = turn_size f h at t.good count is_count target aligned b near list x in
         record { allowed = all_allowed list (turn_fine f h at t.good count is_count target aligned b near list x); bytes = omega (arith, bytes, room) }
 
-    fits_one : has_whole_turns f ≡ false → Fits 118943 single
-    fits_one e = fits_turn 1 (one_count f h) false 1 118943 (omega arith) (omega arith) single (t.one e)
+    fits_piece : (count : ℕ) (turn : List Ins) → 2 * count ≤ lanes f → IsPart f target at count turn → FitsPart count turn
+    fits_piece count turn half x =
+        let is_count = share_count f h count x.share in
+        let near = blocks_near count 1 is_count.most (omega arith) in
+        let fine = turn_fine f h at t.good count is_count target false 1 near turn x.is in
+        record { some = is_count.some; one = fits_turn count is_count false 1 118943 (omega arith) (omega arith) turn x.is; several = λ l. fits_list turn 100 (x.short l) fine }
+
+    fits_pieces : has_whole_turns f ≡ false → AreParts FitsPart (lanes f) parts
+    fits_pieces e = parts_map (IsPart f target at) FitsPart (lanes f) fits_piece parts (lanes f) (le_refl (lanes f)) (t.fewer e)
 
     fits_more : Fits 118943 wide
     fits_more = fits_turn (lanes f) count false 1 118943 (omega arith) (omega arith) wide t.more
@@ -366,24 +428,24 @@ fits_elements {target} f h at single wide aligned large t = go (fills f) (begins
     fits_body : (turn : List Ins) → Fits 118943 turn → Fits 594400 (flat (turns_flow (lanes f) (blocks_of (length wide)) large turn))
     fits_body turn x = fits_turns (lanes f) (blocks_of (length wide)) count.most (few_blocks (length wide)) large turn x (λ l. let few = few_blocks (length wide) in fits_turn (lanes f) count (fills f) (blocks_of (length wide)) 475343 few (omega (arith, few)) large (t.many l))
 
-    fits_first : (w : Bool) → has_whole_turns f ≡ w → (turns : Flow) → Fits 594400 (flat turns) → Fits 960000 (flat (from_first w (lanes f) single turns))
+    fits_first : (w : Bool) → has_whole_turns f ≡ w → (turns : Flow) → Fits 594400 (flat turns) → Fits 960000 (flat (from_first w (lanes f) parts turns))
     fits_first true e turns x = (let y = fits_whole turns (lanes f) 594400 most x in record { allowed = y.allowed; bytes = (let b = y.bytes in omega (arith, b)) })
     fits_first false e turns x =
-        let y = fits_plain (Plain single) turns turns (lanes f) 118943 594400 594400 most (omega arith) (omega arith) (omega arith) (fits_one e) x x in
+        let y = fits_plain parts turns turns (lanes f) 594400 594400 count.most (omega arith) (omega arith) (fits_pieces e) x x in
         record { allowed = y.allowed; bytes = (let b = y.bytes in omega (arith, b)) }
 
-    fits_boundary : (w : Bool) → has_whole_turns f ≡ w → (turns : Flow) → Fits 594400 (flat turns) → Fits 960000 (flat (from_boundary w (shift_of (size_of_slot f.vars 0)) (lanes f) single wide turns))
+    fits_boundary : (w : Bool) → has_whole_turns f ≡ w → (turns : Flow) → Fits 594400 (flat turns) → Fits 960000 (flat (from_boundary w (shift_of (size_of_slot f.vars 0)) (lanes f) parts wide turns))
     fits_boundary true e turns x =
         let y = fits_tested (wide_loop (Plain wide)) turns (lanes f) 118955 594400 most (omega arith) (omega arith) (fits_wide 118943 (omega arith) wide fits_more) x in
         record { allowed = y.allowed; bytes = (let b = y.bytes in omega (arith, b)) }
     fits_boundary false e turns x =
-        let y = fits_aligned (Plain single) (wide_loop (Plain wide)) turns (lanes f) 118943 118955 594400 most (omega arith) (omega arith) (omega arith) (fits_one e) (fits_wide 118943 (omega arith) wide fits_more) x (shift_of (size_of_slot f.vars 0)) (shift_few (size_of_slot f.vars 0)) in
+        let y = fits_aligned parts (wide_loop (Plain wide)) turns (lanes f) 118955 594400 count.most (omega arith) (omega arith) (fits_pieces e) (fits_wide 118943 (omega arith) wide fits_more) x (shift_of (size_of_slot f.vars 0)) (shift_few (size_of_slot f.vars 0)) in
         record { allowed = y.allowed; bytes = (let b = y.bytes in omega (arith, b)) }
 
-    go : (k q : Bool) → fills f ≡ k → Fits 960000 (flat (elements_flow k q (has_whole_turns f) (shift_of (size_of_slot f.vars 0)) (lanes f) (blocks_of (length wide)) single wide aligned large))
+    go : (k q : Bool) → fills f ≡ k → Fits 960000 (flat (elements_flow k q (has_whole_turns f) (shift_of (size_of_slot f.vars 0)) (lanes f) (blocks_of (length wide)) parts wide aligned large))
     go true true e = fits_first (has_whole_turns f) refl (turns_flow (lanes f) (blocks_of (length wide)) large aligned) (fits_body aligned (fits_stored e))
     go true false e = fits_boundary (has_whole_turns f) refl (turns_flow (lanes f) (blocks_of (length wide)) large aligned) (fits_body aligned (fits_stored e))
     go false q e = fits_first (has_whole_turns f) refl (turns_flow (lanes f) (blocks_of (length wide)) large wide) (fits_body wide fits_more)
 
 pub elements_few : (target : CodeTarget) (f : FunctionValue) → is_function f ≡ true → (at : List ℕ) (t : Tree) → IsElements f target at t → size (flat_of t) ≤ 960000
-elements_few target f h at t (single, wide, aligned, large, turns, e) = (let b = (fits_elements f h at single wide aligned large turns).bytes in omega (arith, ap size e, b))
+elements_few target f h at t (parts, wide, aligned, large, turns, e) = (let b = (fits_elements f h at parts wide aligned large turns).bytes in omega (arith, ap size e, b))

@@ -1,5 +1,5 @@
 -- The loops of a row do the elements of a row of a good call.
-use Rattle.std.proofs.Common.{◌≡◌, ℕ, ◌+◌, ◌*◌, ◌/◌, ◌%◌, ◌^◌, ◌<◌, ◌≤◌, ◌==◌, min, nat_lt, nat_le, Bool, true, false, true≢false, if◌then◌else◌, List, length, slice_index, Ok, is_some, refl, sym, ap, ◌∙◌, subst, arith, mul-le-mul_left, ◌⊎◌, inl, inr}
+use Rattle.std.proofs.Common.{◌≡◌, ℕ, ◌+◌, ◌-◌, ◌*◌, ◌/◌, ◌%◌, ◌^◌, ◌<◌, ◌≤◌, ◌==◌, min, le_refl, nat_lt, nat_le, Bool, true, false, true≢false, if◌then◌else◌, List, length, slice_index, Ok, is_some, refl, sym, ap, ap₂, ◌∙◌, subst, arith, mul-le-mul_left, ◌⊎◌, inl, inr}
 use Rattle.std.specs.Int.{cast_unsigned, cast_signed, w64}
 use Rattle.std.proofs.Math.Nat.{mul-add, mul-le-mul_right}
 use Rattle.std.proofs.lemmas.Int.{of_z-to_z}
@@ -31,19 +31,21 @@ use Rattle.orc_frame.specs.Parts.{InFrame, InChanged}
 use Rattle.orc_frame.specs.Subject.{Call as Arguments, IsArray, rows, cell}
 use Rattle.orc_frame.specs.GoodCall.{GoodCall, lowered}
 use Rattle.orc_frame.specs.Function.{IsCellByte, subject_of}
-use Rattle.orc_region.specs.Code.{Action, Plan, AreActions, seats_of, IsTurnOf, Turns, IsElements, plan_with, aligned_first, shift_of, is_filled, blocks_of, turns_flow, from_first, from_boundary, fills, elements_flow, elements_of}
+use Rattle.orc_region.specs.Regions.{TurnParts}
+use Rattle.orc_region.specs.Code.{Action, Plan, AreActions, AreParts, IsPart, seats_of, IsTurnOf, Turns, IsElements, plan_with, aligned_first, shift_of, is_filled, blocks_of, turns_flow, from_first, from_boundary, fills, elements_flow, elements_of}
 use Rattle.orc_region.specs.Elements.{meant_call, HasCome, Holds, PointsAt, InElements, IsDest, IsQuiet, IsAlone, DoesRow, arrays_of}
 use Rattle.orc_region.proofs.Block.Cells.{OfDests}
 use Rattle.orc_region.proofs.Block.Emulated.{state}
 use Rattle.orc_region.proofs.Block.Touched.{TouchesPart}
 use Rattle.orc_region.proofs.Built.Turns.{fits_elements}
-use Rattle.orc_region.proofs.Checked.Several.{IsCount, one_count, lanes_count}
-use Rattle.orc_region.proofs.Row.Gaps.{AtSixteen, some_turns, turns_behind}
+use Rattle.orc_region.proofs.Checked.Several.{IsCount, share_count, lanes_count}
+use Rattle.orc_region.proofs.Row.Gaps.{AtSixteen, turns_behind}
+use Rattle.orc_region.proofs.Row.Parts.{parts_map}
 use Rattle.orc_region.proofs.Sizes.Steps.{regions_of}
 use Rattle.orc_region.proofs.Turn.Advancing.{Setting, Able, IsCell, IsDestCell, Inside}
 use Rattle.orc_region.proofs.Turn.Lists.{turns_map, few_blocks, blocks_near, stand_is, fit_actions, ins_blocks, turn_ins, turn_few}
 use Rattle.orc_region.proofs.Turn.Operands.{turn_light}
-use Rattle.orc_region.proofs.Turn.Rounds.{Outside, At, Round, wide_turns, aligned_turns, narrow, first_done, boundary_done}
+use Rattle.orc_region.proofs.Turn.Rounds.{Outside, At, Round, TurnedPart, wide_turns, aligned_turns, narrow, first_done, boundary_done}
 use Rattle.orc_region.proofs.Calls.Cells.{Arrays, stack_room, stride_small, mapped, cell_cells, cell_at, cell_frame}
 use Rattle.orc_region.proofs.Calls.Setting.{meant, base, numbers, Emul, Slot, setting, apart, changed_frame}
 use Rattle.orc_region.proofs.Calls.Holding.{totals_in, framed_in, agrees_in, holds_again}
@@ -52,10 +54,10 @@ use Rattle.orc_region.proofs.Calls.Doing.{OnWay, Leaves, doing}
 use Rattle.orc_region.proofs.Calls.Blocks.{arrays_known, from_row, cell_begins, words_kept, words_frame}
 use Rattle.orc_region.proofs.Calls.Filled.{filled_first, filled_is}
 
--- the instructions of a row's elements besides their turns
+-- the instructions of a row's elements besides their turns: at most 2 for each of four parts, 4 around large turns, 1 before them; and where the boundary is searched, what no turn pays for
 abbrev besides_of : Bool → ℕ
-besides_of true = 19
-besides_of false = 7
+besides_of true = 20
+besides_of false = 13
 
 abbrev pub most_besides : FunctionValue → ℕ
 most_besides f = 17 + 3 * arrays_of f
@@ -68,7 +70,7 @@ own_turn f target = cost_for f target + arrays_of f + 1
 abbrev pub most_turn : FunctionValue → CodeTarget → ℕ
 most_turn f target = 3 + own_turn f target
 
-besides_fit : (dests lanes size sources : ℕ) → is_filled dests lanes size ≡ true → 19 ≤ 17 + 3 * (dests + sources)
+besides_fit : (dests lanes size sources : ℕ) → is_filled dests lanes size ≡ true → 20 ≤ 17 + 3 * (dests + sources)
 besides_fit dests lanes size sources e = (let some = ltb-true 0 dests (both (nat_lt 0 dests) (lanes * size == 16) e).0 in omega (arith, some))
 
 -- what several blocks take is at most what as many turns of one block do
@@ -93,7 +95,7 @@ row_multiple r s h = sym (mul-mod_second r s 16) ∙ ap (λ z. (r * z) % 16) h �
 only_row : (r s : ℕ) → r < 1 → (r * s) % 16 ≡ 0
 only_row r s l = (let z : r ≡ 0 = omega (arith, l) in subst (λ x. (x * s) % 16 ≡ 0) (sym z) (omega arith))
 
-module _ {target : CodeTarget} (f : FunctionValue) (is : is_function f ≡ true) (at : List ℕ) (single wide aligned large : List Ins) (x : Turns f target at single wide aligned large) where
+module _ {target : CodeTarget} (f : FunctionValue) (is : is_function f ≡ true) (at : List ℕ) (parts : TurnParts) (wide aligned large : List Ins) (x : Turns f target at parts wide aligned large) where
   abbrev known : Arrays f
   known = arrays_known f is
 
@@ -250,8 +252,15 @@ module _ {target : CodeTarget} (f : FunctionValue) (is : is_function f ≡ true)
             light = turn_light by_pointer refl f is at (stand_is f is at x.good) count is_count target aligned blocks list t;
           }
 
-      one_is : has_whole_turns f ≡ false → Turned 1 false 1 single
-      one_is some_left = turned 1 (one_count f is) false 1 (omega arith) (omega arith) single (x.one some_left)
+      -- a turn of one block, of some elements
+      abbrev PartTurned : ℕ → List Ins → Type 0
+      PartTurned = TurnedPart args.n Base Slots (numbers f is known code s args back good at) low plan Emulates (InFrame low) first (s.core.gpr 7) c.memory Q (stack_room f known code s args back good) in_frame Free calmly by_pointer refl each some (lanes f) (lanes_count f is).some (lanes_count f is).most b (few_blocks (length wide))
+
+      part_is : (count : ℕ) (turn : List Ins) → 2 * count ≤ lanes f → IsPart f target at count turn → PartTurned count turn
+      part_is count turn half y = (let is_count = share_count f is count y.share in record { some_elements = is_count.some; is = turned count is_count false 1 (omega arith) (omega arith) turn y.is })
+
+      parts_are : has_whole_turns f ≡ false → AreParts PartTurned (lanes f) parts
+      parts_are some_left = parts_map (IsPart f target at) PartTurned (lanes f) part_is parts (lanes f) (le_refl (lanes f)) (x.fewer some_left)
 
       more_is : Turned (lanes f) false 1 wide
       more_is = turned (lanes f) (lanes_count f is) false 1 (omega arith) (omega arith) wide x.more
@@ -273,10 +282,8 @@ module _ {target : CodeTarget} (f : FunctionValue) (is : is_function f ≡ true)
       few_behind = turns_behind (lanes f) args.n (has_whole_turns f) (begins_aligned f) (lanes_count f is).some none_left
 
       -- where the first dest needn't begin at a multiple of 16
-      few_before : begins_aligned f ≡ false → has_whole_turns f ≡ false → (h m rest : ℕ) → h < lanes f → rest < lanes f → h + (m * lanes f + rest) ≡ args.n → h + m + rest ≤ turns f args.n
-      few_before e w h m rest near short all =
-          subst (λ a. h + m + rest ≤ min args.n (most_turns (lanes f) (has_whole_turns f) a args.n)) (sym e)
-          (subst (λ k. h + m + rest ≤ min args.n (most_turns (lanes f) k false args.n)) (sym w) (some_turns (lanes f) args.n h m rest (lanes_count f is).some near short all))
+      granted : begins_aligned f ≡ false → has_whole_turns f ≡ false → turns f args.n ≡ min args.n (args.n / lanes f + 2 * lanes f - 2)
+      granted e w = ap₂ (λ whole begins. min args.n (most_turns (lanes f) whole begins args.n)) w e
 
       -- the first dest is at a multiple of 16
       at_first : (k : ℕ) → begins_aligned f ≡ true → AtSixteen k (Base 0) 0
@@ -294,41 +301,41 @@ module _ {target : CodeTarget} (f : FunctionValue) (is : is_function f ≡ true)
 
       -- ---- the loops
 
-      plain : fills f ≡ false → Goes (from_first (has_whole_turns f) (lanes f) single (turns_flow (lanes f) b large wide)) 7
+      plain : fills f ≡ false → Goes (from_first (has_whole_turns f) (lanes f) parts (turns_flow (lanes f) b large wide)) 13
       plain empty =
           let free = none_filled empty in
-          let y = first_done args.n Base Slots (numbers f is known code s args back good at) low plan Emulates (InFrame low) first (s.core.gpr 7) c.memory Q (stack_room f known code s args back good) in_frame Free calmly by_pointer refl each some (lanes f) (lanes_count f is).some (lanes_count f is).most b (few_blocks (length wide)) single (has_whole_turns f) one_is none_left (turns f args.n) few_behind (turns_flow (lanes f) b large wide) (λ i. Unit {0})
-          (wide_turns args.n Base Slots (numbers f is known code s args back good at) low plan Emulates (InFrame low) first (s.core.gpr 7) c.memory Q (stack_room f known code s args back good) in_frame Free calmly by_pointer refl each some (lanes f) (lanes_count f is).some (lanes_count f is).most b (few_blocks (length wide)) wide more_is free large (many_is false empty)) tt (λ e. free) c place_first counter in
-          (y.0, y.1, y.2, y.3, roomy y.0 7 7 (turns f args.n) (2 + each) (2 + most_turn f target) (omega arith) (omega arith) y.4, y.5)
+          let y = first_done args.n Base Slots (numbers f is known code s args back good at) low plan Emulates (InFrame low) first (s.core.gpr 7) c.memory Q (stack_room f known code s args back good) in_frame Free calmly by_pointer refl each some (lanes f) (lanes_count f is).some (lanes_count f is).most b (few_blocks (length wide)) parts (has_whole_turns f) parts_are none_left (turns f args.n) few_behind (turns_flow (lanes f) b large wide) (λ i. Unit {0})
+          (wide_turns args.n Base Slots (numbers f is known code s args back good at) low plan Emulates (InFrame low) first (s.core.gpr 7) c.memory Q (stack_room f known code s args back good) in_frame Free calmly by_pointer refl each some (lanes f) (lanes_count f is).some (lanes_count f is).most b (few_blocks (length wide)) wide more_is free large (many_is false empty)) tt (λ count half e. free) c place_first counter in
+          (y.0, y.1, y.2, y.3, roomy y.0 13 13 (turns f args.n) (2 + each) (2 + most_turn f target) (omega arith) (omega arith) y.4, y.5)
 
       stored_is : fills f ≡ true → Turned (lanes f) true 1 aligned
       stored_is full = turned (lanes f) (lanes_count f is) true 1 (omega arith) (omega arith) aligned (x.stored full)
 
-      begun : fills f ≡ true → begins_aligned f ≡ true → Goes (from_first (has_whole_turns f) (lanes f) single (turns_flow (lanes f) b large aligned)) 19
+      begun : fills f ≡ true → begins_aligned f ≡ true → Goes (from_first (has_whole_turns f) (lanes f) parts (turns_flow (lanes f) b large aligned)) 20
       begun full begins =
           let z = filled_first f is full in
           let k = shift_of (size 0) in
           let stored = stored_is full in
-          let y = first_done args.n Base Slots (numbers f is known code s args back good at) low plan Emulates (InFrame low) first (s.core.gpr 7) c.memory Q (stack_room f known code s args back good) in_frame Free calmly by_pointer refl each some (lanes f) (lanes_count f is).some (lanes_count f is).most b (few_blocks (length wide)) single (has_whole_turns f) one_is none_left (turns f args.n) few_behind (turns_flow (lanes f) b large aligned) (AtSixteen k (Base 0))
+          let y = first_done args.n Base Slots (numbers f is known code s args back good at) low plan Emulates (InFrame low) first (s.core.gpr 7) c.memory Q (stack_room f known code s args back good) in_frame Free calmly by_pointer refl each some (lanes f) (lanes_count f is).some (lanes_count f is).most b (few_blocks (length wide)) parts (has_whole_turns f) parts_are none_left (turns f args.n) few_behind (turns_flow (lanes f) b large aligned) (AtSixteen k (Base 0))
           (aligned_turns args.n Base Slots (numbers f is known code s args back good at) low plan Emulates (InFrame low) first (s.core.gpr 7) c.memory Q (stack_room f known code s args back good) in_frame Free calmly by_pointer refl each some (lanes f) (lanes_count f is).some (lanes_count f is).most b (few_blocks (length wide)) aligned stored k z.shift z.full z.size_is large (many_is true full)) (at_first k begins)
-          (λ e. absurd (narrow args.n Base Slots (numbers f is known code s args back good at) low plan Emulates (InFrame low) first (s.core.gpr 7) c.memory Q (stack_room f known code s args back good) in_frame Free calmly by_pointer refl each some (lanes f) (lanes_count f is).some (lanes_count f is).most b (few_blocks (length wide)) aligned stored k z.shift z.full z.size_is e)) c place_first counter in
-          (y.0, y.1, y.2, y.3, roomy y.0 7 19 (turns f args.n) (2 + each) (2 + most_turn f target) (omega arith) (omega arith) y.4, y.5)
+          (λ count half e. absurd (narrow args.n Base Slots (numbers f is known code s args back good at) low plan Emulates (InFrame low) first (s.core.gpr 7) c.memory Q (stack_room f known code s args back good) in_frame Free calmly by_pointer refl each some (lanes f) (lanes_count f is).some (lanes_count f is).most b (few_blocks (length wide)) aligned stored k z.shift z.full z.size_is count half e)) c place_first counter in
+          (y.0, y.1, y.2, y.3, roomy y.0 13 20 (turns f args.n) (2 + each) (2 + most_turn f target) (omega arith) (omega arith) y.4, y.5)
 
       -- where some element of the first dest begins at a multiple of 16, it does so by the row's base
       reached_at : (k : ℕ) → size 0 ≡ 2 ^ k → (h : ℕ) → cell (subject_of f) args 0 r h 0 % 16 ≡ 0 → AtSixteen k (Base 0) h
       reached_at k is_size h e = ap (λ z. (Base 0 + h * z) % 16) (sym is_size) ∙ cell_begins (args.base 0 + r * args.stride 0) (h * size 0) e
 
-      searched : fills f ≡ true → begins_aligned f ≡ false → Goes (from_boundary (has_whole_turns f) (shift_of (size 0)) (lanes f) single wide (turns_flow (lanes f) b large aligned)) 19
+      searched : fills f ≡ true → begins_aligned f ≡ false → Goes (from_boundary (has_whole_turns f) (shift_of (size 0)) (lanes f) parts wide (turns_flow (lanes f) b large aligned)) 20
       searched full begins =
           let y = filled_first f is full in
           let k = shift_of (size 0) in
-          let z = boundary_done args.n Base Slots (numbers f is known code s args back good at) low plan Emulates (InFrame low) first (s.core.gpr 7) c.memory Q (stack_room f known code s args back good) in_frame Free calmly by_pointer refl each some (lanes f) (lanes_count f is).some (lanes_count f is).most b (few_blocks (length wide)) single (has_whole_turns f) one_is none_left (turns f args.n) few_behind (few_before begins) wide more_is aligned (stored_is full) k y.shift y.full y.some y.size_is large (many_is true full)
+          let z = boundary_done args.n Base Slots (numbers f is known code s args back good at) low plan Emulates (InFrame low) first (s.core.gpr 7) c.memory Q (stack_room f known code s args back good) in_frame Free calmly by_pointer refl each some (lanes f) (lanes_count f is).some (lanes_count f is).most b (few_blocks (length wide)) parts (has_whole_turns f) parts_are none_left (turns f args.n) few_behind (granted begins) wide more_is aligned (stored_is full) k y.shift y.full y.some y.size_is large (many_is true full)
           (λ e none w. none w.1.0 w.1.1 (reached_at k y.size_is w.1.0 w.1.2))
           (λ e none w. none (subst (AtSixteen k (Base 0)) (w.1.3 e) (reached_at k y.size_is w.1.0 w.1.2)))
           c place_first counter in
-          (z.0, z.1, z.2, z.3, roomy z.0 19 19 (turns f args.n) (3 + (2 + each)) (2 + most_turn f target) (omega arith) (omega arith) z.4, z.5)
+          (z.0, z.1, z.2, z.3, roomy z.0 20 20 (turns f args.n) (3 + (2 + each)) (2 + most_turn f target) (omega arith) (omega arith) z.4, z.5)
 
-      by_facts : (full first_at_16 : Bool) → fills f ≡ full → begins_aligned f ≡ first_at_16 → Goes (elements_flow full first_at_16 (has_whole_turns f) (shift_of (size 0)) (lanes f) b single wide aligned large) (besides_of full)
+      by_facts : (full first_at_16 : Bool) → fills f ≡ full → begins_aligned f ≡ first_at_16 → Goes (elements_flow full first_at_16 (has_whole_turns f) (shift_of (size 0)) (lanes f) b parts wide aligned large) (besides_of full)
       by_facts false first_at_16 e q = plain e
       by_facts true true e q = begun e q
       by_facts true false e q = searched e q
@@ -342,7 +349,7 @@ module _ {target : CodeTarget} (f : FunctionValue) (is : is_function f ≡ true)
       abbrev Left : ℕ → List Ins → Core → Type 0
       Left steps = Leaves f code s args back good r 0 args.n Wanted c at steps (turns f args.n * some)
 
-      pub row_does : (done : List Ins) × (d : Core) × Does Q (elements_of f single wide aligned large) c done d × Left (regions_of (most_besides f) (turns f args.n) (most_turn f target)) done d
+      pub row_does : (done : List Ins) × (d : Core) × Does Q (elements_of f parts wide aligned large) c done d × Left (regions_of (most_besides f) (turns f args.n) (most_turn f target)) done d
       row_does =
           let y = by_facts (fills f) (begins_aligned f) refl refl in
           let d = y.1 in
@@ -359,22 +366,22 @@ module _ {target : CodeTarget} (f : FunctionValue) (is : is_function f ≡ true)
               short = (let b = few_besides (fills f) refl in omega (arith, y.4, b));
               light = y.5;
               quiet = quietly d only;
-              holds = holds_again f is known code s args back good at t d p.totals w.framed p.emulated.agrees w.calm.stack w.block w.agree (λ a m. does_keeps Q a (elements_of f single wide aligned large) c y.0 d y.2 (h.mapped a m)) w.bounded;
+              holds = holds_again f is known code s args back good at t d p.totals w.framed p.emulated.agrees w.calm.stack w.block w.agree (λ a m. does_keeps Q a (elements_of f parts wide aligned large) c y.0 d y.2 (h.mapped a m)) w.bounded;
               words = λ a q. only a (λ t. dest_frame a t (words_frame low a q)) (words_kept low (count_of kind.Accumulator f.vars) a known.few.accs q) (λ z. omega (arith, q.1, z.0));
             },
           )
 
   -- ---- wherever they stand
 
-  pub does_flow : DoesRow f target at (flat (elements_of f single wide aligned large))
+  pub does_flow : DoesRow f target at (flat (elements_of f parts wide aligned large))
   does_flow code s args back good from stands r row e come c h points counter =
       let y = row_does code s args back good r row e come c h points counter in
       let l = y.3 in
       let steps : 2 + most_turn f target ≡ cost_for f target + arrays_of f + 6 = omega arith in
-      let z = doing f code s args back good r 0 args.n (Wanted code s args back good r row) c at (elements_of f single wide aligned large) (fits_elements f is at single wide aligned large x).allowed from stands
+      let z = doing f code s args back good r 0 args.n (Wanted code s args back good r row) c at (elements_of f parts wide aligned large) (fits_elements f is at parts wide aligned large x).allowed from stands
       (most_besides f + turns f args.n * (cost_for f target + arrays_of f + 6)) (turns f args.n * some) y.0 y.1 y.2 (record { e = l.e; come = l.come; short = subst (λ k. length y.0 ≤ most_besides f + turns f args.n * k) steps l.short; light = l.light; quiet = l.quiet; holds = l.holds; words = l.words }) in
       (z.0, λ full reached alone. z.2 (full, reached, alone))
 
 -- as the tree is built
 pub does_tree : (target : CodeTarget) (f : FunctionValue) → is_function f ≡ true → (at : List ℕ) (tree : Tree) → IsElements f target at tree → DoesRow f target at (flat_of tree)
-does_tree target f is at tree (single, wide, aligned, large, turns, e) = subst (DoesRow f target at) (sym e) (does_flow f is at single wide aligned large turns)
+does_tree target f is at tree (parts, wide, aligned, large, turns, e) = subst (DoesRow f target at) (sym e) (does_flow f is at parts wide aligned large turns)

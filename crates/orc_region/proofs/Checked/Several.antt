@@ -1,7 +1,9 @@
 -- How many elements a turn can do at once: a power of two, of which the elements of each array and of each operand fill at most a register.
-use Rattle.std.proofs.Common.{◌≡◌, ℕ, ◌*◌, ◌/◌, ◌<◌, ◌≤◌, ◌==◌, ◌&&◌, true, false, List, [], ◌∷◌, ◌++◌, length, refl, sym, ap, subst, arith, ◌⊎◌, inl, inr, ⊎_elim}
+use Rattle.std.proofs.Common.{◌≡◌, ℕ, zero, suc, ◌+◌, ◌^◌, ◌*◌, ◌/◌, ◌<◌, ◌≤◌, ◌==◌, ◌&&◌, true, false, List, [], ◌∷◌, ◌++◌, length, refl, sym, ap, subst, arith, ◌⊎◌, inl, inr, ⊎_elim}
 use Rattle.std.proofs.lemmas.Bool.{true≢false, cases_lt, eqb-true}
 use Rattle.std.proofs.lemmas.List.{get_or_past}
+use Rattle.std.proofs.lemmas.Nat.{pow_below}
+use Rattle.std.proofs.Math.Nat.{mul-le-mul_right}
 use Rattle.orc_program.proofs.Lanes.{lanes_is, declared_fits, insn_fits}
 use Rattle.orc_ops.specs.declared.opcode.Op.{Op}
 use Rattle.orc_ops.specs.declared.opcode.Op.TheVariants as op
@@ -19,6 +21,7 @@ use Rattle.orc_program.proofs.Sizes.{both, kept_of, size_kept}
 use Rattle.x86_ins.specs.Way.{Each}
 use Rattle.x86_flow.specs.Moves.{IsWidth}
 use Rattle.sse_laws.specs.Meets.{is_sum, widest}
+use Rattle.orc_region.specs.Code.{IsShare}
 use Rattle.orc_region.proofs.Checked.Passing.{checked}
 use Rattle.orc_region.proofs.Checked.Sized.{prefix_ok}
 
@@ -180,3 +183,51 @@ several_count f count power declared insns = record {
 -- the lanes of a function
 pub lanes_count : (f : FunctionValue) → is_function f ≡ true → IsCount f (lanes f)
 lanes_count f h = several_count f (lanes f) (lanes_is f h) (declared_fits f h) (insn_fits f h)
+
+-- ---- a share of the lanes
+
+-- fewer elements fit where more do
+fewer_operands : (count more : ℕ) → count ≤ more → (insns : List Insn) → Each (FitsIn more) insns → Each (FitsIn count) insns
+fewer_operands count more few [] h = tt
+fewer_operands count more few (insn ∷ insns) h =
+    let m : count * (widest insn.op * insn.prefix) ≤ more * (widest insn.op * insn.prefix) = mul-le-mul_right (widest insn.op * insn.prefix) few in
+    let g : more * (widest insn.op * insn.prefix) ≤ 16 = h.0 in
+    (omega (arith, m, g), fewer_operands count more few insns h.1)
+
+pub fewer_count : (f : FunctionValue) (count more : ℕ) → IsPower count → count ≤ more → IsCount f more → IsCount f count
+fewer_count f count more power few is = record {
+  some = some_of count power;
+  most = most_of count power;
+  power = power;
+  arrays = λ p l a. (let m : count * (var_at f.vars p).size ≤ more * (var_at f.vars p).size = mul-le-mul_right (var_at f.vars p).size few in let most = is.arrays p l a in omega (arith, m, most));
+  operands = fewer_operands count more few f.insns is.operands;
+}
+
+too_far : (lanes count j : ℕ) → lanes ≤ 16 → 0 < lanes → 4 < j → count * 2 ^ j ≡ lanes → ⊥
+too_far lanes zero j few some more e = omega (arith, e, some)
+too_far lanes (suc count) j few some more e = (let m : 1 * 2 ^ j ≤ suc count * 2 ^ j = mul-le-mul_right (2 ^ j) (omega arith) in omega (arith, m, e, few, pow_below 4 j more))
+
+-- what some power of two, halved a few times, leaves
+halved : (lanes count j : ℕ) → (lanes ≡ 2) ⊎ ((lanes ≡ 4) ⊎ ((lanes ≡ 8) ⊎ (lanes ≡ 16))) → count * 2 ^ j ≡ lanes → IsPower count × (count ≤ lanes)
+halved lanes count zero power e = (subst IsPower (let z : lanes ≡ count = omega (arith, e) in z) (inr power), omega (arith, e))
+halved lanes count (suc zero) (inl p) e = (inl (omega (arith, e, p)), omega (arith, e))
+halved lanes count (suc zero) (inr (inl p)) e = (inr (inl (omega (arith, e, p))), omega (arith, e))
+halved lanes count (suc zero) (inr (inr (inl p))) e = (inr (inr (inl (omega (arith, e, p)))), omega (arith, e))
+halved lanes count (suc zero) (inr (inr (inr p))) e = (inr (inr (inr (inl (omega (arith, e, p))))), omega (arith, e))
+halved lanes count (suc (suc zero)) (inl p) e = absurd (omega (arith, e, p))
+halved lanes count (suc (suc zero)) (inr (inl p)) e = (inl (omega (arith, e, p)), omega (arith, e))
+halved lanes count (suc (suc zero)) (inr (inr (inl p))) e = (inr (inl (omega (arith, e, p))), omega (arith, e))
+halved lanes count (suc (suc zero)) (inr (inr (inr p))) e = (inr (inr (inl (omega (arith, e, p)))), omega (arith, e))
+halved lanes count (suc (suc (suc zero))) (inl p) e = absurd (omega (arith, e, p))
+halved lanes count (suc (suc (suc zero))) (inr (inl p)) e = absurd (omega (arith, e, p))
+halved lanes count (suc (suc (suc zero))) (inr (inr (inl p))) e = (inl (omega (arith, e, p)), omega (arith, e))
+halved lanes count (suc (suc (suc zero))) (inr (inr (inr p))) e = (inr (inl (omega (arith, e, p))), omega (arith, e))
+halved lanes count (suc (suc (suc (suc zero)))) (inl p) e = absurd (omega (arith, e, p))
+halved lanes count (suc (suc (suc (suc zero)))) (inr (inl p)) e = absurd (omega (arith, e, p))
+halved lanes count (suc (suc (suc (suc zero)))) (inr (inr (inl p))) e = absurd (omega (arith, e, p))
+halved lanes count (suc (suc (suc (suc zero)))) (inr (inr (inr p))) e = (inl (omega (arith, e, p)), omega (arith, e))
+halved lanes count (suc (suc (suc (suc (suc j))))) power e = absurd (too_far lanes count (suc (suc (suc (suc (suc j))))) (most_of lanes (inr power)) (some_of lanes (inr power)) (omega arith) e)
+
+-- so many elements as a share of the lanes are a count
+pub share_count : (f : FunctionValue) → is_function f ≡ true → (count : ℕ) → IsShare (lanes f) count → IsCount f count
+share_count f h count share = (let x = halved (lanes f) count share.0 (lanes_is f h) share.1 in fewer_count f count (lanes f) x.0 x.1 (lanes_count f h))

@@ -61,9 +61,14 @@ pub sixteen_on : (k : ℕ) → k ≤ 3 → (base i : ℕ) → AtSixteen k base i
 sixteen_on k l = each_size (λ k. (base i : ℕ) → AtSixteen k base i → AtSixteen k base (16 / 2 ^ k + i))
     (λ base i h. omega (arith, h)) (λ base i h. omega (arith, h)) (λ base i h. omega (arith, h)) (λ base i h. omega (arith, h)) k l
 
+-- at most so many instructions find the gap
+abbrev pub gap_steps : ℕ → ℕ
+gap_steps zero = 3
+gap_steps (suc k) = 7
+
 -- ---- turns
 
-at_least : (m l : ℕ) → 0 < l → m ≤ m * l
+pub at_least : (m l : ℕ) → 0 < l → m ≤ m * l
 at_least zero l h = omega arith
 at_least (suc m) l h = omega (arith, at_least m l h, h, suc-mul m l)
 

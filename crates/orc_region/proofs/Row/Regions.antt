@@ -1,5 +1,5 @@
--- A row's elements by turns: the single ones before a boundary, several at once, and the single ones that are left.
-use Rattle.std.proofs.Common.{◌≡◌, ◌≢◌, ℕ, zero, suc, ◌+◌, ◌-◌, ◌*◌, ◌/◌, ◌%◌, ◌^◌, ◌<◌, ◌≤◌, ◌==◌, nat_le, nat_lt, cond, not, Bool, true, false, if◌then◌else◌, pos, List, [], ◌∷◌, ◌++◌, length, bit_and, Option, Some, None, Ok, refl, sym, ap, ◌∙◌, subst, arith, length-append, suc-mul, ◌⊎◌, inl, inr, ⊎_elim}
+-- A row's elements by turns: parts of a turn before a boundary, whole turns, and parts of one for those that are left.
+use Rattle.std.proofs.Common.{◌≡◌, ◌≢◌, min, le_refl, ℕ, zero, suc, ◌+◌, ◌-◌, ◌*◌, ◌/◌, ◌%◌, ◌^◌, ◌<◌, ◌≤◌, ◌==◌, nat_le, nat_lt, cond, not, Bool, true, false, if◌then◌else◌, pos, List, [], ◌∷◌, ◌++◌, length, bit_and, Option, Some, None, Ok, refl, sym, ap, ◌∙◌, subst, arith, length-append, suc-mul, ◌⊎◌, inl, inr, ⊎_elim}
 use Rattle.std.proofs.lemmas.Bool.{cases_lt, cases_eq}
 use Rattle.std.proofs.lemmas.Nat.{and_mask, div-add-mod'}
 use Rattle.std.proofs.Math.Nat.{add-mul, mul-add, mul_assoc, mod-lt, mul-le-mul_left, mul-le-mul_right, mod-eq_of_lt}
@@ -10,7 +10,7 @@ use Rattle.orc_bits.proofs.LaneLaws.{change_other, eq_false}
 use Rattle.orc_bits.proofs.Memories.{fill_out, fill_mapped}
 use Rattle.x86_ins.specs.declared.ins.AluOp.TheVariants.{Add, Sub, And}
 use Rattle.x86_ins.specs.declared.ins.ShiftOp.TheVariants.{Shr}
-use Rattle.x86_ins.specs.declared.ins.Cond.TheVariants.{E, Ne, Ns}
+use Rattle.x86_ins.specs.declared.ins.Cond.TheVariants.{E, Ns}
 use Rattle.x86_ins.specs.declared.ins.Ins.{Ins}
 use Rattle.x86_ins.specs.declared.ins.Ins.TheVariants.{Load, Store, Move, MovImm, Alu, AluImm, Shift, Test, Jump, JumpIf}
 use Rattle.x86_ins.specs.declared.state.Flags.{Flags}
@@ -28,8 +28,10 @@ use Rattle.x86_flow.proofs.Touching.{touches_none, touches_in}
 use Rattle.x86_flow.proofs.Words.{load_word, store_word, at_away}
 use Rattle.x86_flow.proofs.Frame.{word_same, word_stored}
 use Rattle.orc_frame.specs.Layout.{left_slot, frame_size}
-use Rattle.orc_region.specs.Regions.{never, gap_code, gap_flow, behind_code, enter_head_code, leave_head_code, low_bits_code, reached_flow, unreached_flow, tail_flow, aligned_row, whole_row, plain_row, tested_row, wide_loops}
-use Rattle.orc_region.proofs.Row.Gaps.{each_size, AtSixteen, gap, IsGap, gap_is, no_gap}
+use Rattle.orc_region.specs.Regions.{TurnParts, never, gap_code, gap_flow, behind_code, enter_head_code, leave_head_code, low_bits_code, part_flow, parts_flow, reached_flow, unreached_flow, aligned_row, whole_row, plain_row, tested_row, wide_loops}
+use Rattle.orc_region.specs.Code.{AreParts}
+use Rattle.orc_region.proofs.Row.Gaps.{each_size, AtSixteen, gap, gap_steps, IsGap, gap_is, no_gap, some_turns}
+use Rattle.orc_region.proofs.Row.Parts.{doubled, turns_by, parts_few, parts_several, turns_few, turns_saved, two_fewer, reached_few, unreached_few, gaps_few, gap_short}
 use Rattle.orc_region.proofs.Block.Keeping.{line_bounded}
 use Rattle.orc_region.proofs.Row.Counters.{Tested}
 
@@ -50,32 +52,23 @@ one_weight v a xs p e x = omega (arith, e, x)
 one_before : (a : Ins) (xs : List Ins) (fixed p : ℕ) → length xs ≤ fixed + p → length (a ∷ xs) ≤ 1 + fixed + p
 one_before a xs fixed p x = omega (arith, x)
 
--- single elements and whole turns, and a list before each
-reached_steps : (a xs b ys : List Ins) (g m each fixed : ℕ) → length a ≡ 3 → length b ≡ 2 → length xs ≤ 1 + g * each → length ys ≤ fixed + m * each → length (a ++ (xs ++ (b ++ ys))) ≤ 6 + fixed + (g + m) * each
-reached_steps a xs b ys g m each fixed la lb x y = omega (arith, length-append a (xs ++ (b ++ ys)), length-append xs (b ++ ys), length-append b ys, la, lb, x, y, add-mul g m each)
+-- parts of a turn and whole turns, and a list before each
+reached_steps : (a xs b ys : List Ins) (p g m each fixed : ℕ) → length a ≡ 3 → length b ≡ 2 → length xs ≤ 2 * p + g * each → length ys ≤ fixed + m * each → length (a ++ (xs ++ (b ++ ys))) ≤ 5 + fixed + 2 * p + (g + m) * each
+reached_steps a xs b ys p g m each fixed la lb x y = omega (arith, length-append a (xs ++ (b ++ ys)), length-append xs (b ++ ys), length-append b ys, la, lb, x, y, add-mul g m each)
 
 reached_touches : (v : Ins → ℕ) (a xs b ys : List Ins) (g m some : ℕ) → weigh v a ≡ 0 → weigh v b ≡ 0 → weigh v xs ≤ g * some → weigh v ys ≤ m * some → weigh v (a ++ (xs ++ (b ++ ys))) ≤ (g + m) * some
 reached_touches v a xs b ys g m some la lb x y = omega (arith, weigh_append v a (xs ++ (b ++ ys)), weigh_append v xs (b ++ ys), weigh_append v b ys, la, lb, x, y, add-mul g m some)
 
--- a choice, on either way: the first has three instructions more besides its turns, and at least one turn to pay for them
-one_way : (a : Ins) (xs : List Ins) (fixed turned each : ℕ) → 0 < turned → length xs ≤ 6 + (3 + fixed) + turned * each → length (a ∷ xs) ≤ 7 + fixed + turned * (3 + each)
-one_way a xs fixed zero each some x = absurd (omega (arith, some))
-one_way a xs fixed (suc m) each some x = (let y : suc m * 3 + suc m * each ≡ suc m * (3 + each) = sym (mul-add (suc m) 3 each) in omega (arith, x, y))
-
-other_way : (a b : Ins) (xs : List Ins) (fixed turned each : ℕ) → length xs ≤ 1 + fixed + turned * each → length (a ∷ (xs ++ b ∷ [])) ≤ 7 + fixed + turned * (3 + each)
-other_way a b xs fixed turned each x = omega (arith, length-append xs (b ∷ []), x, mul-add turned 3 each)
+-- a choice, on either way
+other_way : (a b : Ins) (xs : List Ins) (fixed p : ℕ) → length xs ≤ 1 + fixed + p → length (a ∷ (xs ++ b ∷ [])) ≤ 3 + fixed + p
+other_way a b xs fixed p x = omega (arith, length-append xs (b ∷ []), x)
 
 other_weight : (v : Ins → ℕ) (a b : Ins) (xs : List Ins) (p : ℕ) → v a ≡ 0 → v b ≡ 0 → weigh v xs ≤ p → weigh v (a ∷ (xs ++ b ∷ [])) ≤ p
 other_weight v a b xs p va vb x = omega (arith, weigh_append v xs (b ∷ []), va, vb, x)
 
 -- the whole of a row
-row_steps : (a b xs ys : List Ins) (fixed m rest each t : ℕ) → length a ≤ 7 → length b ≡ 2 → length xs ≤ 7 + fixed + m * each → length ys ≤ 2 + rest * each → m + rest ≤ t → length (a ++ (b ++ (xs ++ ys))) ≤ 18 + fixed + t * each
-row_steps a b xs ys fixed m rest each t la lb x y l =
-    let few : (m + rest) * each ≤ t * each = mul-le-mul_right each l in
-    omega (arith, few, add-mul m rest each, length-append a (b ++ (xs ++ ys)), length-append b (xs ++ ys), length-append xs ys, la, lb, x, y)
-
-tail_steps : (ys : List Ins) (rest each : ℕ) → length ys ≤ 2 + rest * each → length ys ≤ 2 + rest * (3 + each)
-tail_steps ys rest each y = omega (arith, y, mul-add rest 3 each)
+row_steps : (a b xs ys : List Ins) (gaps besides p m r each all : ℕ) → length a ≤ gaps → length b ≡ 2 → length xs ≤ besides + m * each → length ys ≤ 2 * p + r * each → gaps + 2 + besides + 2 * p + (m + r) * each ≤ all → length (a ++ (b ++ (xs ++ ys))) ≤ all
+row_steps a b xs ys gaps besides p m r each all la lb x y l = omega (arith, add-mul m r each, length-append a (b ++ (xs ++ ys)), length-append b (xs ++ ys), length-append xs ys, la, lb, x, y, l)
 
 row_touches : (v : Ins → ℕ) (a b xs ys : List Ins) (m rest some t : ℕ) → weigh v a ≤ 0 → weigh v b ≡ 0 → weigh v xs ≤ m * some → weigh v ys ≤ rest * some → m + rest ≤ t → weigh v (a ++ (b ++ (xs ++ ys))) ≤ t * some
 row_touches v a b xs ys m rest some t la lb x y l =
@@ -85,6 +78,13 @@ row_touches v a b xs ys m rest some t la lb x y l =
 no_head : (m rest t : ℕ) → 0 + m + rest ≤ t → m + rest ≤ t
 no_head m rest t l = omega (arith, l)
 
+-- a part of a turn, and those behind it
+part_steps : (xs ys : List Ins) (p m r each : ℕ) → length xs ≤ 2 + m * each → length ys ≤ 2 * p + r * each → length (xs ++ ys) ≤ 2 * suc p + (m + r) * each
+part_steps xs ys p m r each x y = omega (arith, add-mul m r each, length-append xs ys, x, y)
+
+part_touches : (v : Ins → ℕ) (xs ys : List Ins) (m r some : ℕ) → weigh v xs ≤ m * some → weigh v ys ≤ r * some → weigh v (xs ++ ys) ≤ (m + r) * some
+part_touches v xs ys m r some x y = omega (arith, add-mul m r some, weigh_append v xs ys, x, y)
+
 -- two loops
 two_loops : (xs ys : List Ins) (p q r m : ℕ) → length xs ≤ 2 + p → length ys ≤ 2 + r → p ≤ q → q + r ≡ m → length (xs ++ ys) ≤ 4 + m
 two_loops xs ys p q r m x y l e = omega (arith, length-append xs ys, x, y, l, e)
@@ -92,11 +92,11 @@ two_loops xs ys p q r m x y l e = omega (arith, length-append xs ys, x, y, l, e)
 two_weights : (v : Ins → ℕ) (xs ys : List Ins) (p q r m : ℕ) → weigh v xs ≤ p → weigh v ys ≤ r → p ≤ q → q + r ≡ m → weigh v (xs ++ ys) ≤ m
 two_weights v xs ys p q r m x y l e = omega (arith, weigh_append v xs ys, x, y, l, e)
 
--- whole turns, and single ones behind them
-plain_steps : (xs ys : List Ins) (fixed m rest each t : ℕ) → length xs ≤ 1 + fixed + m * each → length ys ≤ 2 + rest * each → m + rest ≤ t → length (xs ++ ys) ≤ 3 + fixed + t * each
-plain_steps xs ys fixed m rest each t x y l =
+-- whole turns, and parts of one behind them
+plain_steps : (xs ys : List Ins) (fixed p m rest each t : ℕ) → length xs ≤ 1 + fixed + m * each → length ys ≤ 2 * p + rest * each → p ≤ 4 → m + rest ≤ t → length (xs ++ ys) ≤ 9 + fixed + t * each
+plain_steps xs ys fixed p m rest each t x y four l =
     let few : (m + rest) * each ≤ t * each = mul-le-mul_right each l in
-    omega (arith, few, add-mul m rest each, length-append xs ys, x, y)
+    omega (arith, few, add-mul m rest each, length-append xs ys, x, y, four)
 
 plain_touches : (v : Ins → ℕ) (xs ys : List Ins) (m rest some t : ℕ) → weigh v xs ≤ m * some → weigh v ys ≤ rest * some → m + rest ≤ t → weigh v (xs ++ ys) ≤ t * some
 plain_touches v xs ys m rest some t x y l =
@@ -178,10 +178,14 @@ module _ (Q : Core → Ins → Type 0) (rsp : ℕ) (stack_low : rsp + (frame_siz
     quiet : (i : ℕ) (c : Core) → At i c → (u : Core) (ins : Ins) → Beside c u → (span ins u).1 ≡ 0 → Q u ins
     quiet i c h u ins b e = ground.calm i c h u ins b (λ x t. absurd (touches_none ins u e x t))
 
-    -- ---- counts: RCX is so many less than the elements left, modulo 2^64
+    -- ---- counts: RCX is so many less than the elements left up to a stop, modulo 2^64
 
+    abbrev pub less_to : ℕ → ℕ → ℕ → ℕ
+    less_to stop count i = (stop + (2 ^ 64 - (i + count))) % 2 ^ 64
+
+    -- up to the end of the row
     abbrev pub less : ℕ → ℕ → ℕ
-    less count i = (n + (2 ^ 64 - (i + count))) % 2 ^ 64
+    less = less_to n
 
     le_yes : (a b : ℕ) → a ≤ b → nat_le a b ≡ true
     le_yes a b h = grind (arith)
@@ -189,42 +193,42 @@ module _ (Q : Core → Ins → Type 0) (rsp : ℕ) (stack_low : rsp + (frame_siz
     le_no : (a b : ℕ) → b < a → nat_le a b ≡ false
     le_no a b h = grind (arith)
 
-    sign_of : (count i m rest : ℕ) → count ≤ 64 → rest < count → i + (m * count + rest) ≡ n → not (nat_le (2 ^ 63) (less count i)) ≡ not (m == 0)
-    sign_of count i zero rest most short all = ap not (le_yes (2 ^ 63) (less count i) (let f = ground.few in omega (arith, f, most, short, all)))
-    sign_of count i (suc m) rest most short all = ap not (le_no (2 ^ 63) (less count i) (let f = ground.few in omega (arith, f, most, short, all, suc-mul m count)) ∙ sym (eq_false (suc m) 0 (λ e. omega (arith, e))))
+    sign_of : (stop : ℕ) → stop ≤ n → (count i m rest : ℕ) → count ≤ 64 → rest < count → i + (m * count + rest) ≡ stop → not (nat_le (2 ^ 63) (less_to stop count i)) ≡ not (m == 0)
+    sign_of stop within count i zero rest most short all = ap not (le_yes (2 ^ 63) (less_to stop count i) (let f = ground.few in omega (arith, f, within, most, short, all)))
+    sign_of stop within count i (suc m) rest most short all = ap not (le_no (2 ^ 63) (less_to stop count i) (let f = ground.few in omega (arith, f, within, most, short, all, suc-mul m count)) ∙ sym (eq_false (suc m) 0 (λ e. omega (arith, e))))
 
-    -- where turns of `lanes` elements, `rest` fewer than that left, come to
-    pub record Rest (lanes rest : ℕ) (c d : Core) : Type 0 where
+    -- where turns of `lanes` elements, `rest` fewer than that left to a stop, come to
+    pub record Rest (stop lanes rest : ℕ) (c d : Core) : Type 0 where
       pub i : ℕ
-      pub all : i + rest ≡ n
+      pub all : i + rest ≡ stop
       pub at : At i d
-      pub counter : d.gpr 1 ≡ less lanes i
+      pub counter : d.gpr 1 ≡ less_to stop lanes i
       pub tested : Tested d
       pub word : (x : ℕ) → InWord x → d.memory x ≡ c.memory x
 
     -- a flow that does all whole turns of so many elements from where RCX is so many less than the elements left, with so many instructions besides turns
     abbrev pub IsRegion : Flow → ℕ → (ℕ → Type 0) → ℕ → Type 0
     IsRegion flow lanes Pre fixed = (i : ℕ) (c : Core) (m rest : ℕ) → i + (m * lanes + rest) ≡ n → rest < lanes → At i c → Pre i → c.gpr 1 ≡ less lanes i → Tested c
-        → (done : List Ins) × (d : Core) × Does Q flow c done d × Rest lanes rest c d × (length done ≤ fixed + m * (2 + each)) × (weigh v done ≤ m * some)
+        → (done : List Ins) × (d : Core) × Does Q flow c done d × Rest n lanes rest c d × (length done ≤ fixed + m * (2 + each)) × (weigh v done ≤ m * some)
 
     -- ---- several at once
 
-    module _ (turn : Flow) (count : ℕ) (Pre : ℕ → Type 0) (steps touches : ℕ) (positive : 0 < count) (most : count ≤ 64) (next : (i : ℕ) → Pre i → Pre (count + i)) (does : IsTurn turn count Pre steps touches) (rest : ℕ) (short : rest < count) (start : Core) where
+    module _ (turn : Flow) (count : ℕ) (Pre : ℕ → Type 0) (steps touches : ℕ) (positive : 0 < count) (most : count ≤ 64) (next : (i : ℕ) → Pre i → Pre (count + i)) (does : IsTurn turn count Pre steps touches) (stop : ℕ) (within : stop ≤ n) (rest : ℕ) (short : rest < count) (start : Core) where
       record Going (m : ℕ) (c : Core) : Type 0 where
         i : ℕ
-        all : i + (m * count + rest) ≡ n
+        all : i + (m * count + rest) ≡ stop
         at : At i c
         pre : Pre i
-        counter : c.gpr 1 ≡ less count i
+        counter : c.gpr 1 ≡ less_to stop count i
         tested : Tested c
         word : (x : ℕ) → InWord x → c.memory x ≡ start.memory x
 
       going_tests : (m : ℕ) (c : Core) → Going m c → test Ns c.flags ≡ Some (not (m == 0))
-      going_tests m c h = h.tested.sign ∙ ap (λ x. Some (not (nat_le (2 ^ 63) x))) h.counter ∙ ap Some (sign_of count h.i m rest most short h.all)
+      going_tests m c h = h.tested.sign ∙ ap (λ x. Some (not (nat_le (2 ^ 63) x))) h.counter ∙ ap Some (sign_of stop within count h.i m rest most short h.all)
 
       going_turn : (m : ℕ) (c : Core) → Going (suc m) c → (done : List Ins) × (d : Core) × Does Q turn c done d × Going m d × (weigh (λ i. 1) done ≤ steps) × (weigh v done ≤ touches)
       going_turn m c h =
-          let t = does h.i c (omega (arith, h.all, suc-mul m count)) h.at h.pre in
+          let t = does h.i c (omega (arith, h.all, within, suc-mul m count)) h.at h.pre in
           let few = ground.few in (
             t.0,
             t.1,
@@ -234,7 +238,7 @@ module _ (Q : Core → Ins → Type 0) (rsp : ℕ) (stack_low : rsp + (frame_siz
               all = omega (arith, h.all, suc-mul m count);
               at = t.3;
               pre = next h.i h.pre;
-              counter = t.4.counter ∙ ap (λ x. (x + (2 ^ 64 - count)) % 2 ^ 64) h.counter ∙ omega (arith, few, most, h.all, suc-mul m count);
+              counter = t.4.counter ∙ ap (λ x. (x + (2 ^ 64 - count)) % 2 ^ 64) h.counter ∙ omega (arith, few, within, most, h.all, suc-mul m count);
               tested = t.4.tested;
               word = λ x w. t.4.word x w ∙ h.word x w;
             },
@@ -242,7 +246,7 @@ module _ (Q : Core → Ins → Type 0) (rsp : ℕ) (stack_low : rsp + (frame_siz
             t.6,
           )
 
-      loop : (m : ℕ) (c : Core) → Going m c → (done : List Ins) × (d : Core) × Does Q (Repeat Ns turn) c done d × (end : Rest count rest start d) × (length done ≤ 1 + m * (2 + steps)) × (weigh v done ≤ m * touches) × Pre end.i
+      loop : (m : ℕ) (c : Core) → Going m c → (done : List Ins) × (d : Core) × Does Q (Repeat Ns turn) c done d × (end : Rest stop count rest start d) × (length done ≤ 1 + m * (2 + steps)) × (weigh v done ≤ m * touches) × Pre end.i
       loop m c h =
           let x = counted_loop Q Ns turn Going (λ i. 1) v steps touches (λ q rel. refl, λ rel. refl) (λ q rel. refl, λ rel. refl) (λ m c h. jumps h.i c h.at) going_tests going_turn m c h in
           let last = x.3 in
@@ -251,37 +255,8 @@ module _ (Q : Core → Ins → Type 0) (rsp : ℕ) (stack_low : rsp + (frame_siz
     -- turns of so many elements are a region
     pub wide_region : (turn : Flow) (lanes : ℕ) (Pre : ℕ → Type 0) → 0 < lanes → lanes ≤ 64 → ((i : ℕ) → Pre i → Pre (lanes + i)) → IsTurn turn lanes Pre each some → IsRegion (Repeat Ns turn) lanes Pre 1
     wide_region turn lanes Pre positive most next does i c m rest all short at pre counter tested =
-        let x = loop turn lanes Pre each some positive most next does rest short c m c (record { i = i; all = all; at = at; pre = pre; counter = counter; tested = tested; word = λ x w. refl }) in
+        let x = loop turn lanes Pre each some positive most next does n (le_refl n) rest short c m c (record { i = i; all = all; at = at; pre = pre; counter = counter; tested = tested; word = λ x w. refl }) in
         (x.0, x.1, x.2, x.3, x.4, x.5)
-
-    -- ---- single elements
-
-    module _ (turn : Flow) (does : IsTurn turn 1 (λ i. Unit {0}) each some) (stop : ℕ) (within : stop ≤ n) (start : Core) where
-      pub record Single (m : ℕ) (c : Core) : Type 0 where
-        pub i : ℕ
-        pub all : i + m ≡ stop
-        pub at : At i c
-        pub counter : c.gpr 1 ≡ m
-        pub tested : Tested c
-        pub word : (x : ℕ) → InWord x → c.memory x ≡ start.memory x
-
-      single_turn : (m : ℕ) (c : Core) → Single (suc m) c → (done : List Ins) × (d : Core) × Does Q turn c done d × Single m d × (weigh (λ i. 1) done ≤ each) × (weigh v done ≤ some)
-      single_turn m c h =
-          let t = does h.i c (omega (arith, h.all, within)) h.at tt in
-          let few = ground.few in (
-            t.0,
-            t.1,
-            t.2,
-            record { i = 1 + h.i; all = omega (arith, h.all); at = t.3; counter = t.4.counter ∙ ap (λ x. (x + (2 ^ 64 - 1)) % 2 ^ 64) h.counter ∙ omega (arith, few, within, h.all); tested = t.4.tested; word = λ x w. t.4.word x w ∙ h.word x w },
-            omega (arith, t.5, weigh_one t.0),
-            t.6,
-          )
-
-      -- single elements up to an element
-      pub singles : (m : ℕ) (c : Core) → Single m c → (done : List Ins) × (d : Core) × Does Q (Repeat Ne turn) c done d × Single 0 d × (length done ≤ 1 + m * (2 + each)) × (weigh v done ≤ m * some)
-      singles m c h =
-          let x = counted_loop Q Ne turn Single (λ i. 1) v each some (λ q rel. refl, λ rel. refl) (λ q rel. refl, λ rel. refl) (λ m c h. jumps h.i c h.at) (λ m c h. h.tested.zero ∙ ap (λ x. Some (not (x == 0))) h.counter) single_turn m c h in
-          (x.0, x.1, x.2, x.3, omega (arith, x.4, weigh_one x.0), x.5)
 
     -- ---- straight lists
 
@@ -319,33 +294,33 @@ module _ (Q : Core → Ins → Type 0) (rsp : ℕ) (stack_low : rsp + (frame_siz
     -- RCX becomes less by the difference, and then turns of `more` elements
     large_part : (large : Flow) (lanes more : ℕ) (Pre : ℕ → Type 0) (steps touches : ℕ) → 0 < more → lanes ≤ more → more ≤ 64 → ((i : ℕ) → Pre i → Pre (more + i)) → IsTurn large more Pre steps touches
         → (i : ℕ) (c : Core) (q rest : ℕ) → i + (q * more + rest) ≡ n → rest < more → At i c → Pre i → c.gpr 1 ≡ less lanes i
-        → (done : List Ins) × (d : Core) × Does Q (Chain (Plain (AluImm Sub 1 (pos (more - lanes)) ∷ [])) (Repeat Ns large)) c done d × (end : Rest more rest c d) × (length done ≤ 2 + q * (2 + steps)) × (weigh v done ≤ q * touches) × Pre end.i
+        → (done : List Ins) × (d : Core) × Does Q (Chain (Plain (AluImm Sub 1 (pos (more - lanes)) ∷ [])) (Repeat Ns large)) c done d × (end : Rest n more rest c d) × (length done ≤ 2 + q * (2 + steps)) × (weigh v done ≤ q * touches) × Pre end.i
     large_part large lanes more Pre steps touches positive under most next does i c q rest all short at pre counter = go (lower_line (more - lanes) (omega (arith, most)) i c at)
       where
         down : (x : ℕ) → x ≡ (c.gpr 1 + (2 ^ 64 - (more - lanes))) % 2 ^ 64 → x ≡ less more i
         down x e = e ∙ ap (λ t. (t + (2 ^ 64 - (more - lanes))) % 2 ^ 64) counter ∙ (let f = ground.few in omega (arith, f, most, under, all))
 
         go : (d : Core) × Line Q (AluImm Sub 1 (pos (more - lanes)) ∷ []) c d × Recounted i ((c.gpr 1 + (2 ^ 64 - (more - lanes))) % 2 ^ 64) c d
-            → (done : List Ins) × (d : Core) × Does Q (Chain (Plain (AluImm Sub 1 (pos (more - lanes)) ∷ [])) (Repeat Ns large)) c done d × (end : Rest more rest c d) × (length done ≤ 2 + q * (2 + steps)) × (weigh v done ≤ q * touches) × Pre end.i
+            → (done : List Ins) × (d : Core) × Does Q (Chain (Plain (AluImm Sub 1 (pos (more - lanes)) ∷ [])) (Repeat Ns large)) c done d × (end : Rest n more rest c d) × (length done ≤ 2 + q * (2 + steps)) × (weigh v done ≤ q * touches) × Pre end.i
         go (u, line, h) =
-            let y = loop large more Pre steps touches positive most next does rest short c q u
+            let y = loop large more Pre steps touches positive most next does n (le_refl n) rest short c q u
             (record { i = i; all = all; at = h.at; pre = pre; counter = down (u.gpr 1) h.counter_is; tested = h.tested; word = λ t w. ap (λ g. g t) h.memory }) in
             let first = AluImm Sub 1 (pos (more - lanes)) in
             (first ∷ y.0, y.1, (first ∷ [], y.0, u, (line, refl), y.2, refl), y.3, one_more first y.0 (q * (2 + steps)) y.4, one_weight v first y.0 (q * touches) refl y.5, y.6)
 
-    -- and then turns of `lanes` elements
-    small_part : (turn : Flow) (lanes more : ℕ) (Pre : ℕ → Type 0) → 0 < lanes → lanes ≤ more → more ≤ 64 → ((i : ℕ) → Pre i → Pre (lanes + i)) → IsTurn turn lanes Pre each some
-        → (c u : Core) (r rest : ℕ) → rest < lanes → (g : Rest more (r * lanes + rest) c u) → Pre g.i
-        → (done : List Ins) × (d : Core) × Does Q (Chain (Plain (AluImm Add 1 (pos (more - lanes)) ∷ [])) (Repeat Ns turn)) u done d × Rest lanes rest c d × (length done ≤ 2 + r * (2 + each)) × (weigh v done ≤ r * some)
-    small_part turn lanes more Pre positive under most next does c u r rest short g pre = go (raise_line (more - lanes) (omega (arith, most)) g.i u g.at)
+    -- turns of `lanes` elements, from where RCX is `more` less than the elements left
+    part_line : (stop : ℕ) → stop ≤ n → (turn : Flow) (lanes more : ℕ) (Pre : ℕ → Type 0) → 0 < lanes → lanes ≤ more → more ≤ 64 → ((i : ℕ) → Pre i → Pre (lanes + i)) → IsTurn turn lanes Pre each some
+        → (c u : Core) (r rest : ℕ) → rest < lanes → (g : Rest stop more (r * lanes + rest) c u) → Pre g.i
+        → (done : List Ins) × (d : Core) × Does Q (part_flow more lanes turn) u done d × Rest stop lanes rest c d × (length done ≤ 2 + r * (2 + each)) × (weigh v done ≤ r * some)
+    part_line stop within turn lanes more Pre positive under most next does c u r rest short g pre = go (raise_line (more - lanes) (omega (arith, most)) g.i u g.at)
       where
-        up : (x : ℕ) → x ≡ (u.gpr 1 + (more - lanes)) % 2 ^ 64 → x ≡ less lanes g.i
-        up x e = e ∙ ap (λ t. (t + (more - lanes)) % 2 ^ 64) g.counter ∙ (let f = ground.few in let a = g.all in omega (arith, f, most, under, a))
+        up : (x : ℕ) → x ≡ (u.gpr 1 + (more - lanes)) % 2 ^ 64 → x ≡ less_to stop lanes g.i
+        up x e = e ∙ ap (λ t. (t + (more - lanes)) % 2 ^ 64) g.counter ∙ (let f = ground.few in let a = g.all in omega (arith, f, within, most, under, a))
 
         go : (d : Core) × Line Q (AluImm Add 1 (pos (more - lanes)) ∷ []) u d × Recounted g.i ((u.gpr 1 + (more - lanes)) % 2 ^ 64) u d
-            → (done : List Ins) × (d : Core) × Does Q (Chain (Plain (AluImm Add 1 (pos (more - lanes)) ∷ [])) (Repeat Ns turn)) u done d × Rest lanes rest c d × (length done ≤ 2 + r * (2 + each)) × (weigh v done ≤ r * some)
+            → (done : List Ins) × (d : Core) × Does Q (part_flow more lanes turn) u done d × Rest stop lanes rest c d × (length done ≤ 2 + r * (2 + each)) × (weigh v done ≤ r * some)
         go (z, line, h) =
-            let y = loop turn lanes Pre each some positive (omega (arith, under, most)) next does rest short c r z
+            let y = loop turn lanes Pre each some positive (omega (arith, under, most)) next does stop within rest short c r z
             (record { i = g.i; all = g.all; at = h.at; pre = pre; counter = up (z.gpr 1) h.counter_is; tested = h.tested; word = λ t w. ap (λ f. f t) h.memory ∙ g.word t w }) in
             let first = AluImm Add 1 (pos (more - lanes)) in
             (first ∷ y.0, y.1, (first ∷ [], y.0, z, (line, refl), y.2, refl), y.3, one_more first y.0 (r * (2 + each)) y.4, one_weight v first y.0 (r * some) refl y.5)
@@ -373,10 +348,10 @@ module _ (Q : Core → Ins → Type 0) (rsp : ℕ) (stack_low : rsp + (frame_siz
         whole : (y : ℕ) → m / b * b * y + m % b * y ≡ m * y
         whole y = sym (add-mul (m / b * b) (m % b) y) ∙ ap (λ k. k * y) split
 
-        go : (done : List Ins) × (d : Core) × Does Q (Chain (Plain (AluImm Sub 1 (pos (b * lanes - lanes)) ∷ [])) (Repeat Ns large)) c done d × (end : Rest (b * lanes) (m % b * lanes + rest) c d) × (length done ≤ 2 + m / b * (2 + steps)) × (weigh v done ≤ m / b * touches) × Pre end.i
-            → (done : List Ins) × (d : Core) × Does Q (wide_loops lanes (b * lanes) large turn) c done d × Rest lanes rest c d × (length done ≤ 4 + m * (2 + each)) × (weigh v done ≤ m * some)
+        go : (done : List Ins) × (d : Core) × Does Q (Chain (Plain (AluImm Sub 1 (pos (b * lanes - lanes)) ∷ [])) (Repeat Ns large)) c done d × (end : Rest n (b * lanes) (m % b * lanes + rest) c d) × (length done ≤ 2 + m / b * (2 + steps)) × (weigh v done ≤ m / b * touches) × Pre end.i
+            → (done : List Ins) × (d : Core) × Does Q (wide_loops lanes (b * lanes) large turn) c done d × Rest n lanes rest c d × (length done ≤ 4 + m * (2 + each)) × (weigh v done ≤ m * some)
         go (xs, u, line, g, few, light, pre_there) =
-            let y = small_part turn lanes (b * lanes) Pre positive under most next does c u (m % b) rest short g pre_there in (
+            let y = part_line n (le_refl n) turn lanes (b * lanes) Pre positive under most next does c u (m % b) rest short g pre_there in (
               xs ++ y.0,
               y.1,
               (xs, y.0, u, line, y.2, refl),
@@ -385,29 +360,49 @@ module _ (Q : Core → Ins → Type 0) (rsp : ℕ) (stack_low : rsp + (frame_siz
               two_weights v xs y.0 (m / b * touches) (m / b * b * some) (m % b * some) (m * some) light y.5 (spread touches some few_touches) (whole some),
             )
 
-    -- ---- the tail
+    -- ---- parts of a turn
 
-    -- single elements to the end of the row
-    tail_line : (single : Flow) (lanes : ℕ) → lanes ≤ 64 → IsTurn single 1 (λ i. Unit {0}) each some → (rest : ℕ) (c d : Core) → rest < lanes → Rest lanes rest c d
-        → (done : List Ins) × (e : Core) × Does Q (tail_flow lanes single) d done e × At n e × (length done ≤ 2 + rest * (2 + each)) × (weigh v done ≤ rest * some)
-    tail_line single lanes most does rest c d short h = go (raise_line lanes (omega (arith, most)) h.i d h.at)
-      where
-        up : (x : ℕ) → x ≡ (d.gpr 1 + lanes) % 2 ^ 64 → x ≡ rest
-        up x e = e ∙ ap (λ t. (t + lanes) % 2 ^ 64) h.counter ∙ (let f = ground.few in let a = h.all in omega (arith, f, most, a))
+    -- a turn of so many elements, from any element on
+    pub record IsPiece (count : ℕ) (turn : List Ins) : Type 0 where
+      pub some_elements : 0 < count
+      pub does : IsTurn (Plain turn) count (λ i. Unit {0}) each some
 
-        go : (u : Core) × Line Q (AluImm Add 1 (pos lanes) ∷ []) d u × Recounted h.i ((d.gpr 1 + lanes) % 2 ^ 64) d u
-            → (done : List Ins) × (e : Core) × Does Q (tail_flow lanes single) d done e × At n e × (length done ≤ 2 + rest * (2 + each)) × (weigh v done ≤ rest * some)
-        go (u, line, x) =
-            let y = singles single does n (omega arith) u rest u (record { i = h.i; all = h.all; at = x.at; counter = up (u.gpr 1) x.counter_is; tested = x.tested; word = λ t w. refl }) in
-            let last = y.3 in
-            let end : last.i ≡ n = omega (arith, last.all) in
-            let first = AluImm Add 1 (pos lanes) in
-            (first ∷ y.0, y.1, (first ∷ [], y.0, u, (line, refl), y.2, refl), subst (λ i. At i y.1) end last.at, one_more first y.0 (rest * (2 + each)) y.4, one_weight v first y.0 (rest * some) refl y.5)
+    some_piece : (count : ℕ) (turn : List Ins) → IsPiece count turn → 0 < count
+    some_piece count turn x = x.some_elements
+
+    -- where parts of a turn come to
+    record Ended (stop : ℕ) (c d : Core) : Type 0 where
+      at : At stop d
+      word : (x : ℕ) → InWord x → d.memory x ≡ c.memory x
+
+    -- fewer elements than a turn does, up to a stop
+    parts_line : (stop : ℕ) → stop ≤ n → (parts : TurnParts) (from : ℕ) → from ≤ 64 → AreParts IsPiece from parts → (x : ℕ) → x < from → (c u : Core) → Rest stop from x c u
+        → (done : List Ins) × (d : Core) × Does Q (parts_flow from parts) u done d × Ended stop c d × (length done ≤ 2 * length parts + turns_by parts x * (2 + each)) × (weigh v done ≤ turns_by parts x * some)
+    parts_line stop within [] from most are x short c u h =
+        let one : from ≡ 1 = are in
+        let end : h.i ≡ stop = (let a = h.all in omega (arith, a, one, short)) in
+        ([], u, (refl, refl), record { at = subst (λ i. At i u) end h.at; word = h.word }, omega arith, omega arith)
+    parts_line stop within (part ∷ parts) from most are x short c u h =
+        let piece = are.2 in
+        let count : ℕ = part.0 in
+        let some_elements = piece.some_elements in
+        let half = are.1 in
+        let less : x % count < count = mod-lt x some_elements in
+        let split : x ≡ x / count * count + x % count = sym (div-add-mod' x count) in
+        let y = part_line stop within (Plain part.1) count from (λ i. Unit {0}) some_elements (omega (arith, half)) most (λ i t. tt) piece.does c u (x / count) (x % count) less (subst (λ k. Rest stop from k c u) split h) tt in
+        let z = parts_line stop within parts count (omega (arith, half, most)) are.0 (x % count) less c y.1 y.3 in (
+          y.0 ++ z.0,
+          z.1,
+          (y.0, z.0, y.1, y.2, z.2, refl),
+          z.3,
+          part_steps y.0 z.0 (length parts) (x / count) (turns_by parts (x % count)) (2 + each) y.4 z.4,
+          part_touches v y.0 z.0 (x / count) (turns_by parts (x % count)) some y.5 z.5,
+        )
 
     -- ---- a row from its first element on
 
     pub whole_line : (wide : Flow) (lanes fixed : ℕ) (Pre : ℕ → Type 0) → 0 < lanes → lanes ≤ 64 → IsRegion wide lanes Pre fixed → Pre 0 → (c : Core) → At 0 c → c.gpr 1 ≡ n
-        → (done : List Ins) × (u : Core) × (d : Core) × Does Q (whole_row lanes wide) c done d × Rest lanes (n % lanes) u d × (length done ≤ 1 + fixed + n / lanes * (2 + each)) × (weigh v done ≤ n / lanes * some)
+        → (done : List Ins) × (u : Core) × (d : Core) × Does Q (whole_row lanes wide) c done d × Rest n lanes (n % lanes) u d × (length done ≤ 1 + fixed + n / lanes * (2 + each)) × (weigh v done ≤ n / lanes * some)
     whole_line wide lanes fixed Pre positive most does_wide pre c at count = go (lower_line lanes (omega (arith, most)) 0 c at)
       where
         short : n % lanes < lanes
@@ -420,24 +415,29 @@ module _ (Q : Core → Ins → Type 0) (rsp : ℕ) (stack_low : rsp + (frame_siz
         down x e = e ∙ ap (λ t. (t + (2 ^ 64 - lanes)) % 2 ^ 64) count ∙ omega arith
 
         go : (u : Core) × Line Q (AluImm Sub 1 (pos lanes) ∷ []) c u × Recounted 0 ((c.gpr 1 + (2 ^ 64 - lanes)) % 2 ^ 64) c u
-            → (done : List Ins) × (u : Core) × (d : Core) × Does Q (whole_row lanes wide) c done d × Rest lanes (n % lanes) u d × (length done ≤ 1 + fixed + n / lanes * (2 + each)) × (weigh v done ≤ n / lanes * some)
+            → (done : List Ins) × (u : Core) × (d : Core) × Does Q (whole_row lanes wide) c done d × Rest n lanes (n % lanes) u d × (length done ≤ 1 + fixed + n / lanes * (2 + each)) × (weigh v done ≤ n / lanes * some)
         go (u, line, x) =
             let y = does_wide 0 u (n / lanes) (n % lanes) all short x.at pre (down (u.gpr 1) x.counter_is) x.tested in
             let first = AluImm Sub 1 (pos lanes) in
             (first ∷ y.0, u, y.1, (first ∷ [], y.0, u, (line, refl), y.2, refl), y.3, one_before first y.0 fixed (n / lanes * (2 + each)) y.4, one_weight v first y.0 (n / lanes * some) refl y.5)
 
-    -- and then single elements
-    pub plain_line : (single wide : Flow) (lanes fixed t : ℕ) (Pre : ℕ → Type 0) → 0 < lanes → lanes ≤ 64 → IsTurn single 1 (λ i. Unit {0}) each some → IsRegion wide lanes Pre fixed → Pre 0 → n / lanes + n % lanes ≤ t → (c : Core) → At 0 c → c.gpr 1 ≡ n
-        → (done : List Ins) × (d : Core) × Does Q (plain_row lanes single wide) c done d × At n d × (length done ≤ 3 + fixed + t * (2 + each)) × (weigh v done ≤ t * some)
-    plain_line single wide lanes fixed t Pre positive most does_single does_wide pre fit c at count =
-        let y = whole_line wide lanes fixed Pre positive most does_wide pre c at count in
-        let z = tail_line single lanes most does_single (n % lanes) y.1 y.2 (mod-lt n positive) y.4 in (
+    -- and then parts of a turn
+    pub plain_line : (parts : TurnParts) (wide : Flow) (lanes fixed t : ℕ) (Pre : ℕ → Type 0) → 0 < lanes → lanes ≤ 16 → AreParts IsPiece lanes parts → IsRegion wide lanes Pre fixed → Pre 0 → n / lanes + n % lanes ≤ t → (c : Core) → At 0 c → c.gpr 1 ≡ n
+        → (done : List Ins) × (d : Core) × Does Q (plain_row lanes parts wide) c done d × At n d × (length done ≤ 9 + fixed + t * (2 + each)) × (weigh v done ≤ t * some)
+    plain_line parts wide lanes fixed t Pre positive most pieces does_wide pre fit c at count =
+        let near : lanes ≤ 64 = omega (arith, most) in
+        let y = whole_line wide lanes fixed Pre positive near does_wide pre c at count in
+        let z = parts_line n (le_refl n) parts lanes near pieces (n % lanes) (mod-lt n positive) y.1 y.2 y.4 in
+        let last = z.3 in
+        let four = parts_few IsPiece some_piece 4 parts lanes pieces most in
+        let few = turns_few IsPiece some_piece parts lanes pieces (n % lanes) in
+        let within : n / lanes + turns_by parts (n % lanes) ≤ t = omega (arith, fit, few) in (
           y.0 ++ z.0,
           z.1,
           (y.0, z.0, y.2, y.3, z.2, refl),
-          z.3,
-          plain_steps y.0 z.0 fixed (n / lanes) (n % lanes) (2 + each) t y.5 z.4 fit,
-          plain_touches v y.0 z.0 (n / lanes) (n % lanes) some t y.6 z.5 fit,
+          last.at,
+          plain_steps y.0 z.0 fixed (length parts) (n / lanes) (turns_by parts (n % lanes)) (2 + each) t y.5 z.4 four within,
+          plain_touches v y.0 z.0 (n / lanes) (turns_by parts (n % lanes)) some t y.6 z.5 within,
         )
 
     -- where whole turns are all of the row
@@ -581,7 +581,7 @@ module _ (Q : Core → Ins → Type 0) (rsp : ℕ) (stack_low : rsp + (frame_siz
       abbrev first : List Ins
       first = low_bits_code (suc k)
 
-      multiple : c.gpr 2 % 2 ^ suc k ≡ 0 → (done : List Ins) × (d : Core) × Does Q (gap_flow (suc k)) c done d × HasGap (suc k) base c d × (length done ≤ 7) × (weigh v done ≤ 0)
+      multiple : c.gpr 2 % 2 ^ suc k ≡ 0 → (done : List Ins) × (d : Core) × Does Q (gap_flow (suc k)) c done d × HasGap (suc k) base c d × (length done ≤ gap_steps (suc k)) × (weigh v done ≤ 0)
       multiple m =
           let x = gap_line (suc k) few c2 low.at in
           let q : gap (suc k) (c2.gpr 2) ≡ gap (suc k) (c.gpr 2) = ap (gap (suc k)) low.pointer in (
@@ -593,7 +593,7 @@ module _ (Q : Core → Ins → Type 0) (rsp : ℕ) (stack_low : rsp + (frame_siz
             omega arith,
           )
 
-      other : c.gpr 2 % 2 ^ suc k ≢ 0 → (done : List Ins) × (d : Core) × Does Q (gap_flow (suc k)) c done d × HasGap (suc k) base c d × (length done ≤ 7) × (weigh v done ≤ 0)
+      other : c.gpr 2 % 2 ^ suc k ≢ 0 → (done : List Ins) × (d : Core) × Does Q (gap_flow (suc k)) c done d × HasGap (suc k) base c d × (length done ≤ gap_steps (suc k)) × (weigh v done ≤ 0)
       other ne =
           let d : Core = with_gpr c2 0 never in
           let b : Beside c2 d = set_0 c2 c2 _ _ (beside_same c2) in
@@ -608,7 +608,7 @@ module _ (Q : Core → Ins → Type 0) (rsp : ℕ) (stack_low : rsp + (frame_siz
             omega arith,
           )
 
-    gap_done : (k base : ℕ) → k ≤ 3 → (c : Core) → At 0 c → base % 2 ^ 64 ≡ c.gpr 2 → (done : List Ins) × (d : Core) × Does Q (gap_flow k) c done d × HasGap k base c d × (length done ≤ 7) × (weigh v done ≤ 0)
+    gap_done : (k base : ℕ) → k ≤ 3 → (c : Core) → At 0 c → base % 2 ^ 64 ≡ c.gpr 2 → (done : List Ins) × (d : Core) × Does Q (gap_flow k) c done d × HasGap k base c d × (length done ≤ gap_steps k) × (weigh v done ≤ 0)
     gap_done zero base few c h e =
         let x = gap_line 0 few c h in
         (gap_code 0, x.0, (x.1, refl), record { at = x.2.at; counter = x.2.counter; kind = inl (subst (λ g. IsGap 0 base g) (sym x.2.bytes) (gap_is 0 few base (c.gpr 2) e (omega arith))) }, omega arith, omega arith)
@@ -644,21 +644,21 @@ module _ (Q : Core → Ins → Type 0) (rsp : ℕ) (stack_low : rsp + (frame_siz
     touches_word u i e r s = touches_in 4 (rsp + left_slot) 8 i u (omega (arith, stack_low)) (inr (r, s ∙ ap (λ a. (a, 8)) (at_away u 4 rsp left_slot e (omega (arith, stack_low)))))
 
     -- what enter_head_code leaves
-    record Entered (c d : Core) : Type 0 where
+    record Entered (lanes : ℕ) (c d : Core) : Type 0 where
       at : At 0 d
-      counter : d.gpr 1 ≡ c.gpr 0
+      counter : d.gpr 1 ≡ (c.gpr 0 + (2 ^ 64 - lanes)) % 2 ^ 64
       tested : Tested d
       holds : word d.memory (rsp + left_slot) ≡ Some (c.gpr 1)
 
-    enter_line : (c : Core) → At 0 c → (d : Core) × Line Q enter_head_code c d × Entered c d
-    enter_line c h =
+    enter_line : (lanes : ℕ) → lanes ≤ 64 → (c : Core) → At 0 c → (d : Core) × Line Q (enter_head_code lanes) c d × Entered lanes c d
+    enter_line lanes most c h =
         let a = rsp + left_slot in
         let x = c.gpr 1 in
         let stack = ground.stack 0 c h in
         let small : x < 2 ^ 64 = (ground.bounded 0 c h).gpr 1 in
         let c1 : Core = with_memory c (fill 8 c.memory a (byte_of 8 x)) in
         let c2 : Core = with_gpr c1 1 (c.gpr 0) in
-        let c3 : Core = with_flags c2 (Some (flags_of false false (bit_and (c.gpr 0) (c.gpr 0)))) in
+        let c3 : Core = alu_core Sub c2 1 (lanes % 2 ^ 64) in
         let b0 = beside_same c in
         let b1 : Beside c c1 = record {
           gpr = λ r p q. refl;
@@ -667,16 +667,17 @@ module _ (Q : Core → Ins → Type 0) (rsp : ℕ) (stack_low : rsp + (frame_siz
           mapped = λ y m. fill_mapped 8 c.memory a (byte_of 8 x) y m;
         } in
         let b2 : Beside c c2 = set_1 c c1 _ _ b1 in
-        let b3 : Beside c c3 = set_flags c c2 _ b2 in
+        let b3 : Beside c c3 = set_1 c c2 _ _ b2 in
         let stores : work (Store 1 (away 4 left_slot)) c ≡ Ok c1 = store_word c 1 4 rsp left_slot stack (omega (arith, stack_low)) (λ y l u. ground.word 0 c h y (l, u)) in
-        let line : Line Q enter_head_code c c3 =
-        (ground.calm 0 c h c (Store 1 (away 4 left_slot)) b0 (touches_word c (Store 1 (away 4 left_slot)) stack refl refl), (c1, stores, (quiet 0 c h c1 (Move 1 0) b1 refl, (c2, refl, (quiet 0 c h c2 (Test 1 1) b2 refl, (c3, refl, refl)))))) in (
+        let line : Line Q (enter_head_code lanes) c c3 =
+        (ground.calm 0 c h c (Store 1 (away 4 left_slot)) b0 (touches_word c (Store 1 (away 4 left_slot)) stack refl refl), (c1, stores, (quiet 0 c h c1 (Move 1 0) b1 refl, (c2, refl, (quiet 0 c h c2 (AluImm Sub 1 (pos lanes)) b2 refl, (c3, refl, refl)))))) in
+        let same : lanes % 2 ^ 64 ≡ lanes = mod-eq_of_lt (omega (arith, most)) in (
           c3,
           line,
           record {
-            at = on_list enter_head_code ((omega arith, (omega arith, fits_up left_slot (omega arith))), ((omega arith, omega arith), ((omega arith, omega arith), tt))) 0 c c3 h line b3;
-            counter = refl;
-            tested = record { zero = ap (λ y. Some (not (y == 0))) (and_self (c.gpr 0)); sign = ap (λ y. Some (not (nat_le (2 ^ 63) y))) (and_self (c.gpr 0)) };
+            at = on_list (enter_head_code lanes) ((omega arith, (omega arith, fits_up left_slot (omega arith))), ((omega arith, omega arith), ((omega arith, fits_up lanes (omega (arith, most))), tt))) 0 c c3 h line b3;
+            counter = ap (λ y. (c.gpr 0 + (2 ^ 64 - y)) % 2 ^ 64) same;
+            tested = record { zero = refl; sign = refl };
             holds = word_stored c.memory a x (omega (arith, stack_low)) small;
           },
         )
@@ -707,8 +708,8 @@ module _ (Q : Core → Ins → Type 0) (rsp : ℕ) (stack_low : rsp + (frame_siz
           },
         )
 
-    free_enter : weigh v enter_head_code ≡ 0
-    free_enter = ap (λ t. (if t then 1 else 0) + (0 + (0 + 0))) by_stack
+    free_enter : (lanes : ℕ) → weigh v (enter_head_code lanes) ≡ 0
+    free_enter lanes = ap (λ t. (if t then 1 else 0) + (0 + (0 + 0))) by_stack
 
     free_leave : weigh v leave_head_code ≡ 0
     free_leave = ap (λ t. (if t then 1 else 0) + (0 + 0)) by_stack
@@ -721,38 +722,58 @@ module _ (Q : Core → Ins → Type 0) (rsp : ℕ) (stack_low : rsp + (frame_siz
       middle : Core
       d : Core
       does : Does Q flow c done d
-      ends : Rest lanes rest middle d
+      ends : Rest n lanes rest middle d
       few : length done ≤ fixed + turned * steps
       light : weigh v done ≤ turned * some
 
-    -- so many single elements, whole turns and single elements are at most t turns
-    module _ (single wide aligned : Flow) (k lanes fixed base : ℕ) (positive : 0 < lanes) (most : lanes ≤ 64) (t : ℕ) (fit : (g m rest : ℕ) → g < lanes → rest < lanes → g + (m * lanes + rest) ≡ n → g + m + rest ≤ t) (does_single : IsTurn single 1 (λ i. Unit {0}) each some)
+    -- parts of a turn, whole turns and parts of one are at most t turns
+    module _ (parts : TurnParts) (wide aligned : Flow) (k lanes fixed base : ℕ) (positive : 0 < lanes) (most : lanes ≤ 16) (t : ℕ) (granted : t ≡ min n (n / lanes + 2 * lanes - 2)) (pieces : AreParts IsPiece lanes parts)
         (does_aligned : IsRegion aligned lanes (AtSixteen k base) (3 + fixed))
         (does_wide : IsRegion wide lanes (λ i. (j : ℕ) → j + lanes ≤ n → AtSixteen k base j → ⊥) fixed) where
-      reached_line : (g : ℕ) (c : Core) → At 0 c → c.gpr 0 ≡ g → c.gpr 1 ≡ less lanes g → AtSixteen k base g → (m rest : ℕ) → g + (m * lanes + rest) ≡ n → rest < lanes → ToTail lanes rest (g + m) (6 + (3 + fixed)) (2 + each) (reached_flow single aligned) c
-      reached_line g c h gap_is count at_16 m rest all short = first (enter_line c h)
+      near_lanes : lanes ≤ 64
+      near_lanes = omega (arith, most)
+
+      -- the turns of the parts for so many elements
+      abbrev by_parts : ℕ → ℕ
+      by_parts = turns_by parts
+
+      no_more : (x : ℕ) → by_parts x ≤ x
+      no_more = turns_few IsPiece some_piece parts lanes pieces
+
+      fit : (g m rest : ℕ) → g < lanes → rest < lanes → g + (m * lanes + rest) ≡ n → g + m + rest ≤ t
+      fit g m rest near short all = subst (λ t. g + m + rest ≤ t) (sym granted) (some_turns lanes n g m rest positive near short all)
+
+      reached_line : (g : ℕ) (c : Core) → At 0 c → c.gpr 0 ≡ g → c.gpr 1 ≡ less lanes g → g < lanes → AtSixteen k base g → (m rest : ℕ) → g + (m * lanes + rest) ≡ n → rest < lanes
+          → ToTail lanes rest (by_parts g + m) (5 + (3 + fixed) + 2 * length parts) (2 + each) (reached_flow lanes parts aligned) c
+      reached_line g c h gap_is count near at_16 m rest all short = first (enter_line lanes near_lanes c h)
         where
-          last : (u : Core) → Line Q enter_head_code c u → (xs : List Ins) (w : Core) → Does Q (Repeat Ne single) u xs w → (length xs ≤ 1 + g * (2 + each)) → (weigh v xs ≤ g * some) → (d : Core) × Line Q leave_head_code w d × Left g (less lanes g) d → ToTail lanes rest (g + m) (6 + (3 + fixed)) (2 + each) (reached_flow single aligned) c
+          within : g ≤ n
+          within = omega (arith, all)
+
+          Head : Type 0
+          Head = ToTail lanes rest (by_parts g + m) (5 + (3 + fixed) + 2 * length parts) (2 + each) (reached_flow lanes parts aligned) c
+
+          last : (u : Core) → Line Q (enter_head_code lanes) c u → (xs : List Ins) (w : Core) → Does Q (parts_flow lanes parts) u xs w → (length xs ≤ 2 * length parts + by_parts g * (2 + each)) → (weigh v xs ≤ by_parts g * some) → (d : Core) × Line Q leave_head_code w d × Left g (less lanes g) d → Head
           last u enters xs w turns few light (d, leaves, x) =
               let y = does_aligned g d m rest all short x.at at_16 x.counter x.tested in
               record {
-                done = enter_head_code ++ (xs ++ (leave_head_code ++ y.0));
+                done = enter_head_code lanes ++ (xs ++ (leave_head_code ++ y.0));
                 middle = d;
                 d = y.1;
-                does = (enter_head_code, xs ++ (leave_head_code ++ y.0), u, (enters, refl), (xs, leave_head_code ++ y.0, w, turns, (leave_head_code, y.0, d, (leaves, refl), y.2, refl), refl), refl);
+                does = (enter_head_code lanes, xs ++ (leave_head_code ++ y.0), u, (enters, refl), (xs, leave_head_code ++ y.0, w, turns, (leave_head_code, y.0, d, (leaves, refl), y.2, refl), refl), refl);
                 ends = y.3;
-                few = reached_steps enter_head_code xs leave_head_code y.0 g m (2 + each) (3 + fixed) refl refl few y.4;
-                light = reached_touches v enter_head_code xs leave_head_code y.0 g m some free_enter free_leave light y.5;
+                few = reached_steps (enter_head_code lanes) xs leave_head_code y.0 (length parts) (by_parts g) m (2 + each) (3 + fixed) refl refl few y.4;
+                light = reached_touches v (enter_head_code lanes) xs leave_head_code y.0 (by_parts g) m some (free_enter lanes) free_leave light y.5;
               }
 
-          first : (u : Core) × Line Q enter_head_code c u × Entered c u → ToTail lanes rest (g + m) (6 + (3 + fixed)) (2 + each) (reached_flow single aligned) c
+          first : (u : Core) × Line Q (enter_head_code lanes) c u × Entered lanes c u → Head
           first (u, enters, x) =
-              let y = singles single does_single g (omega (arith, all)) u g u (record { i = 0; all = omega arith; at = x.at; counter = x.counter ∙ gap_is; tested = x.tested; word = λ t w. refl }) in
+              let none : lanes ≡ 0 + lanes = omega arith in
+              let counter : u.gpr 1 ≡ less_to g lanes 0 = x.counter ∙ ap (λ z. (z + (2 ^ 64 - lanes)) % 2 ^ 64) gap_is ∙ ap (λ k. (g + (2 ^ 64 - k)) % 2 ^ 64) none in
+              let y = parts_line g within parts lanes near_lanes pieces g near u u (record { i = 0; all = omega arith; at = x.at; counter = counter; tested = x.tested; word = λ t w. refl }) in
               let ended = y.3 in
-              let end : ended.i ≡ g = omega (arith, ended.all) in
-              let at : At g y.1 = subst (λ i. At i y.1) end ended.at in
               let holds : word y.1.memory (rsp + left_slot) ≡ Some (less lanes g) = word_same y.1.memory u.memory (rsp + left_slot) (omega (arith, stack_low)) (λ t l r. ended.word t (l, r)) ∙ x.holds ∙ ap Some count in
-              last u enters y.0 y.1 y.2 y.4 y.5 (leave_line g (less lanes g) y.1 at holds)
+              last u enters y.0 y.1 y.2 y.4 y.5 (leave_line g (less lanes g) y.1 ended.at holds)
 
       unreached_line : (g : ℕ) (c : Core) → At 0 c → c.gpr 0 ≡ g → g ≤ never → c.gpr 1 ≡ less lanes g → ((j : ℕ) → j + lanes ≤ n → AtSixteen k base j → ⊥) → (m rest : ℕ) → 0 + (m * lanes + rest) ≡ n → rest < lanes → ToTail lanes rest m (1 + fixed) (2 + each) (unreached_flow wide) c
       unreached_line g c h gap_is small count none m rest all short =
@@ -774,13 +795,15 @@ module _ (Q : Core → Ins → Type 0) (rsp : ℕ) (stack_low : rsp + (frame_siz
           back : (x a : ℕ) → x ≡ less lanes g → a ≡ g → (x + a) % 2 ^ 64 ≡ less lanes 0
           back x a e q = (let f = ground.few in omega (arith, f, most, e, q, small))
 
-      -- whole turns on the way that the gap decides
+      -- whole turns on the way that the gap decides, with so many instructions besides turns; what the gap and the tail take beside them fits too
       record Chosen (c : Core) : Type 0 where
         turned : ℕ
         rest : ℕ
+        besides : ℕ
         short : rest < lanes
-        within : turned + rest ≤ t
-        to : ToTail lanes rest turned (7 + fixed) (3 + (2 + each)) (Choice Ns (reached_flow single aligned) (unreached_flow wide)) c
+        within : turned + by_parts rest ≤ t
+        fits : (gaps : ℕ) → gaps ≤ 7 → gaps + 2 * length parts ≤ 13 → gaps + 2 + besides + 2 * length parts + (turned + by_parts rest) * (2 + each) ≤ 19 + fixed + t * (3 + (2 + each))
+        to : ToTail lanes rest turned besides (2 + each) (Choice Ns (reached_flow lanes parts aligned) (unreached_flow wide)) c
 
       none_left : (g : ℕ) → g ≤ never → n < g + lanes → not (nat_le (2 ^ 63) (less lanes g)) ≡ false
       none_left g small l = ap not (le_yes (2 ^ 63) (less lanes g) (let f = ground.few in omega (arith, f, most, small, l)))
@@ -788,10 +811,17 @@ module _ (Q : Core → Ins → Type 0) (rsp : ℕ) (stack_low : rsp + (frame_siz
       some_left : (g : ℕ) → g + lanes ≤ n → not (nat_le (2 ^ 63) (less lanes g)) ≡ true
       some_left g l = ap not (le_no (2 ^ 63) (less lanes g) (let f = ground.few in omega (arith, f, most, l)))
 
-      -- at least one turn is done where a boundary is reached
-      a_turn : (g m rest : ℕ) → rest < lanes → g + (m * lanes + rest) ≡ n → g + lanes ≤ n → 0 < g + m
+      -- at least one whole turn is done where a boundary is reached
+      a_turn : (g m rest : ℕ) → rest < lanes → g + (m * lanes + rest) ≡ n → g + lanes ≤ n → 0 < m
       a_turn g zero rest short all enough = absurd (omega (arith, short, all, enough))
       a_turn g (suc m) rest short all enough = omega arith
+
+      -- and where there are several parts, two turns that are granted are not done
+      spared : (g m rest : ℕ) → g < lanes → rest < lanes → 0 < m → g + (m * lanes + rest) ≡ n → 1 < length parts → by_parts g + m + by_parts rest + 2 ≤ t
+      spared g m rest near short turn all several =
+          subst (λ t. by_parts g + m + by_parts rest + 2 ≤ t) (sym granted)
+          (two_fewer lanes n g m rest (by_parts g) (by_parts rest) positive (parts_several IsPiece some_piece parts lanes pieces several) turn all (no_more g) (no_more rest)
+          (turns_saved IsPiece some_piece parts lanes pieces several g near) (turns_saved IsPiece some_piece parts lanes pieces several rest short))
 
       module _ (g : ℕ) (c : Core) (h : At 0 c) (gap_is_g : c.gpr 0 ≡ g) (counts : c.gpr 1 ≡ less lanes g) (tested : Tested c) where
         choose_reached : AtSixteen k base g → g < lanes → g + lanes ≤ n → Chosen c
@@ -800,23 +830,27 @@ module _ (Q : Core → Ins → Type 0) (rsp : ℕ) (stack_low : rsp + (frame_siz
             let rest = (n - g) % lanes in
             let short : rest < lanes = mod-lt (n - g) positive in
             let all : g + (m * lanes + rest) ≡ n = (let z = div-add-mod' (n - g) lanes in omega (arith, z, enough)) in
-            let some_turn : 0 < g + m = a_turn g m rest short all enough in
-            let x = reached_line g c h gap_is_g counts at_16 m rest all short in
+            let turn : 0 < m = a_turn g m rest short all enough in
+            let x = reached_line g c h gap_is_g counts near at_16 m rest all short in
             let jump = JumpIf Ns (pos (size (flat (unreached_flow wide)) + 5)) in
             let goes : test Ns c.flags ≡ Some true = tested.sign ∙ ap (λ t. Some (not (nat_le (2 ^ 63) t))) counts ∙ ap Some (some_left g enough) in
+            let within : by_parts g + m + by_parts rest ≤ t = (let l = fit g m rest near short all in let a = no_more g in let b = no_more rest in omega (arith, l, a, b)) in
+            let four = parts_few IsPiece some_piece 4 parts lanes pieces most in
             record {
-              turned = g + m;
+              turned = by_parts g + m;
               rest = rest;
+              besides = 9 + fixed + 2 * length parts;
               short = short;
-              within = fit g m rest near short all;
+              within = within;
+              fits = λ gaps seven few. (let l = reached_few gaps (length parts) (by_parts g + m + by_parts rest) t (2 + each) seven few four (omega (arith, turn)) within (spared g m rest near short turn all) (omega arith) in omega (arith, l));
               to = record {
                 done = jump ∷ x.done;
                 middle = x.middle;
                 d = x.d;
                 does = inl (jumps 0 c h, goes, (x.done, x.does, refl));
                 ends = x.ends;
-                few = one_way jump x.done fixed (g + m) (2 + each) some_turn x.few;
-                light = one_weight v jump x.done ((g + m) * some) refl x.light;
+                few = (let l = x.few in omega (arith, l));
+                light = one_weight v jump x.done ((by_parts g + m) * some) refl x.light;
               };
             }
 
@@ -828,20 +862,23 @@ module _ (Q : Core → Ins → Type 0) (rsp : ℕ) (stack_low : rsp + (frame_siz
             let all : 0 + (m * lanes + rest) ≡ n = (let z = div-add-mod' n lanes in omega (arith, z)) in
             let x = unreached_line g c h gap_is_g under counts none m rest all short in
             let jump = JumpIf Ns (pos (size (flat (unreached_flow wide)) + 5)) in
-            let past = Jump (pos (size (flat (reached_flow single aligned)))) in
+            let past = Jump (pos (size (flat (reached_flow lanes parts aligned)))) in
             let goes : test Ns c.flags ≡ Some false = tested.sign ∙ ap (λ t. Some (not (nat_le (2 ^ 63) t))) counts ∙ ap Some (none_left g under over) in
+            let within : m + by_parts rest ≤ t = (let l = no_head m rest t (fit 0 m rest positive short all) in let b = no_more rest in omega (arith, l, b)) in
             record {
               turned = m;
               rest = rest;
+              besides = 3 + fixed;
               short = short;
-              within = no_head m rest t (fit 0 m rest positive short all);
+              within = within;
+              fits = λ gaps seven few. (let l = unreached_few gaps (length parts) (m + by_parts rest) t (2 + each) few within in omega (arith, l));
               to = record {
                 done = jump ∷ (x.done ++ past ∷ []);
                 middle = x.middle;
                 d = x.d;
                 does = inr (jumps 0 c h, goes, (x.done, x.does, jumps x.ends.i x.d x.ends.at, refl));
                 ends = x.ends;
-                few = other_way jump past x.done fixed m (2 + each) x.few;
+                few = other_way jump past x.done fixed (m * (2 + each)) x.few;
                 light = other_weight v jump past x.done (m * some) refl refl x.light;
               };
             }
@@ -858,29 +895,33 @@ module _ (Q : Core → Ins → Type 0) (rsp : ℕ) (stack_low : rsp + (frame_siz
 
       -- a row whose first dest has elements of 2 ^ k bytes, of which `lanes` fill a register
       pub aligned_line : k ≤ 3 → 16 / 2 ^ k ≡ lanes → (c : Core) → At 0 c → c.gpr 1 ≡ n → base % 2 ^ 64 ≡ c.gpr 2
-          → (done : List Ins) × (d : Core) × Does Q (aligned_row k lanes single wide aligned) c done d × At n d × (length done ≤ 18 + fixed + t * (3 + (2 + each))) × (weigh v done ≤ t * some)
+          → (done : List Ins) × (d : Core) × Does Q (aligned_row k lanes parts wide aligned) c done d × At n d × (length done ≤ 19 + fixed + t * (3 + (2 + each))) × (weigh v done ≤ t * some)
       aligned_line few same c h counts address_is = first (gap_done k base few c h address_is)
         where
           Ends : Type 0
-          Ends = (done : List Ins) × (d : Core) × Does Q (aligned_row k lanes single wide aligned) c done d × At n d × (length done ≤ 18 + fixed + t * (3 + (2 + each))) × (weigh v done ≤ t * some)
+          Ends = (done : List Ins) × (d : Core) × Does Q (aligned_row k lanes parts wide aligned) c done d × At n d × (length done ≤ 19 + fixed + t * (3 + (2 + each))) × (weigh v done ≤ t * some)
 
           under : (g : ℕ) → Kind k base g → g ≤ never
           under g (inl gap) = (let l : g < lanes = subst (λ l. g < l) same gap.near in omega (arith, l, most))
           under g (inr far) = omega (arith, far.0)
 
-          last : (xs : List Ins) (b : Core) → Does Q (gap_flow k) c xs b → length xs ≤ 7 → weigh v xs ≤ 0 → (u : Core) → Line Q (behind_code lanes) b u → Chosen u → Ends
+          few_gaps : gap_steps k + 2 * length parts ≤ 13
+          few_gaps = gaps_few k few lanes (length parts) same (λ d l. parts_few IsPiece some_piece d parts lanes pieces l)
+
+          last : (xs : List Ins) (b : Core) → Does Q (gap_flow k) c xs b → length xs ≤ gap_steps k → weigh v xs ≤ 0 → (u : Core) → Line Q (behind_code lanes) b u → Chosen u → Ends
           last xs b gaps few_as light_as u behinds x =
-              let z = tail_line single lanes most does_single x.rest x.to.middle x.to.d x.short x.to.ends in (
+              let z = parts_line n (le_refl n) parts lanes near_lanes pieces x.rest x.short x.to.middle x.to.d x.to.ends in
+              let ended = z.3 in (
                 xs ++ (behind_code lanes ++ (x.to.done ++ z.0)),
                 z.1,
                 (xs, behind_code lanes ++ (x.to.done ++ z.0), b, gaps, (behind_code lanes, x.to.done ++ z.0, u, (behinds, refl), (x.to.done, z.0, x.to.d, x.to.does, z.2, refl), refl), refl),
-                z.3,
-                row_steps xs (behind_code lanes) x.to.done z.0 fixed x.turned x.rest (3 + (2 + each)) t few_as refl x.to.few (tail_steps z.0 x.rest (2 + each) z.4) x.within,
-                row_touches v xs (behind_code lanes) x.to.done z.0 x.turned x.rest some t light_as refl x.to.light z.5 x.within,
+                ended.at,
+                row_steps xs (behind_code lanes) x.to.done z.0 (gap_steps k) x.besides (length parts) x.turned (by_parts x.rest) (2 + each) (19 + fixed + t * (3 + (2 + each))) few_as refl x.to.few z.4 (x.fits (gap_steps k) (gap_short k) few_gaps),
+                row_touches v xs (behind_code lanes) x.to.done z.0 x.turned (by_parts x.rest) some t light_as refl x.to.light z.5 x.within,
               )
 
-          next : (xs : List Ins) (b : Core) → Does Q (gap_flow k) c xs b → length xs ≤ 7 → weigh v xs ≤ 0 → Kind k base (b.gpr 0) → (u : Core) × Line Q (behind_code lanes) b u × Behind lanes b u → Ends
+          next : (xs : List Ins) (b : Core) → Does Q (gap_flow k) c xs b → length xs ≤ gap_steps k → weigh v xs ≤ 0 → Kind k base (b.gpr 0) → (u : Core) × Line Q (behind_code lanes) b u × Behind lanes b u → Ends
           next xs b gaps few_as light_as kind (u, behinds, x) = last xs b gaps few_as light_as u behinds (choose (b.gpr 0) u x.at x.gap_is x.counter x.tested kind same)
 
-          first : (xs : List Ins) × (b : Core) × Does Q (gap_flow k) c xs b × HasGap k base c b × (length xs ≤ 7) × (weigh v xs ≤ 0) → Ends
-          first (xs, b, gaps, x, few_as, light_as) = next xs b gaps few_as light_as x.kind (behind_line lanes most b x.at (x.counter ∙ counts) (under (b.gpr 0) x.kind))
+          first : (xs : List Ins) × (b : Core) × Does Q (gap_flow k) c xs b × HasGap k base c b × (length xs ≤ gap_steps k) × (weigh v xs ≤ 0) → Ends
+          first (xs, b, gaps, x, few_as, light_as) = next xs b gaps few_as light_as x.kind (behind_line lanes near_lanes b x.at (x.counter ∙ counts) (under (b.gpr 0) x.kind))

@@ -13,8 +13,8 @@ use Rattle.orc_program.specs.Program.{FunctionValue}
 use Rattle.orc_program.specs.Slots.{size_of_slot}
 use Rattle.sse_laws.specs.Targets.{is_of, IsCodeFor}
 use Rattle.sse_laws.proofs.Targeted.{behind_for}
-use Rattle.orc_region.specs.Code.{IsElements, Turns, fills, blocks_of, shift_of, turns_flow, from_first, from_boundary, elements_flow}
-use Rattle.orc_region.specs.Regions.{gap_flow, aligned_row, plain_row, whole_row, tested_row, wide_loop, wide_loops}
+use Rattle.orc_region.specs.Code.{IsElements, IsPart, AreParts, Turns, fills, blocks_of, shift_of, turns_flow, from_first, from_boundary, elements_flow}
+use Rattle.orc_region.specs.Regions.{TurnParts, parts_flow, gap_flow, aligned_row, plain_row, whole_row, tested_row, wide_loop, wide_loops}
 use Rattle.orc_region.proofs.Targeted.Blocks.{turn_is_for}
 
 module _ (t : CodeTarget) where
@@ -41,16 +41,22 @@ module _ (t : CodeTarget) where
   whole_for : (n : ℕ) (wide : Flow) → are_for wide ≡ true → are_for (whole_row n wide) ≡ true
   whole_for n wide h = h
 
-  plain_for : (n : ℕ) (single wide : Flow) → are_for single ≡ true → are_for wide ≡ true → are_for (plain_row n single wide) ≡ true
-  plain_for n single wide h k = and_from (are_for wide) (are_for single) k h
+  -- by what each part of a turn is
+  parts_for : (Is : ℕ → List Ins → Type 0) → ((count : ℕ) (turn : List Ins) → Is count turn → IsCodeFor t turn) → (from : ℕ) (parts : TurnParts) → AreParts Is from parts → are_for (parts_flow from parts) ≡ true
+  parts_for Is h from [] are = refl
+  parts_for Is h from (part ∷ parts) are = and_from (list_all (is_of t) part.1) (are_for (parts_flow part.0 parts)) (h part.0 part.1 are.2) (parts_for Is h part.0 parts are.0)
+
+  plain_for : (n : ℕ) (parts : TurnParts) (wide : Flow) → are_for (parts_flow n parts) ≡ true → are_for wide ≡ true → are_for (plain_row n parts wide) ≡ true
+  plain_for n parts wide h k = and_from (are_for wide) (are_for (parts_flow n parts)) k h
 
   tested_for : (n : ℕ) (wide aligned : Flow) → are_for wide ≡ true → are_for aligned ≡ true → are_for (tested_row n wide aligned) ≡ true
   tested_for n wide aligned h k = and_from (are_for aligned) (are_for wide) k h
 
-  aligned_for : (k n : ℕ) (single wide aligned : Flow) → are_for single ≡ true → are_for wide ≡ true → are_for aligned ≡ true → are_for (aligned_row k n single wide aligned) ≡ true
-  aligned_for k n single wide aligned s w a =
-      and_from (are_for (gap_flow k)) (((are_for single && are_for aligned) && are_for wide) && are_for single) (gap_for k)
-      (and_from ((are_for single && are_for aligned) && are_for wide) (are_for single) (and_from (are_for single && are_for aligned) (are_for wide) (and_from (are_for single) (are_for aligned) s a) w) s)
+  aligned_for : (k n : ℕ) (parts : TurnParts) (wide aligned : Flow) → are_for (parts_flow n parts) ≡ true → are_for wide ≡ true → are_for aligned ≡ true → are_for (aligned_row k n parts wide aligned) ≡ true
+  aligned_for k n parts wide aligned p w a =
+      let ends = are_for (parts_flow n parts) in
+      and_from (are_for (gap_flow k)) (((ends && are_for aligned) && are_for wide) && ends) (gap_for k)
+      (and_from ((ends && are_for aligned) && are_for wide) ends (and_from (ends && are_for aligned) (are_for wide) (and_from ends (are_for aligned) p a) w) p)
 
   turns_for : (n b : ℕ) (large turn : List Ins) → IsCodeFor t turn → (1 < b → IsCodeFor t large) → are_for (turns_flow n b large turn) ≡ true
   turns_for n b large turn h many = go (nat_lt 1 b) (λ e. many (ltb-true 1 b e))
@@ -59,27 +65,27 @@ module _ (t : CodeTarget) where
       go true l = and_from (list_all (is_of t) large) (list_all (is_of t) turn) (l refl) h
       go false l = h
 
-  first_for : (whole : Bool) (n : ℕ) (single : List Ins) (turns : Flow) → (whole ≡ false → IsCodeFor t single) → are_for turns ≡ true → are_for (from_first whole n single turns) ≡ true
-  first_for true n single turns s h = whole_for n turns h
-  first_for false n single turns s h = plain_for n (Plain single) turns (s refl) h
+  first_for : (whole : Bool) (n : ℕ) (parts : TurnParts) (turns : Flow) → (whole ≡ false → are_for (parts_flow n parts) ≡ true) → are_for turns ≡ true → are_for (from_first whole n parts turns) ≡ true
+  first_for true n parts turns p h = whole_for n turns h
+  first_for false n parts turns p h = plain_for n parts turns (p refl) h
 
-  boundary_for : (whole : Bool) (k n : ℕ) (single wide : List Ins) (turns : Flow) → (whole ≡ false → IsCodeFor t single) → IsCodeFor t wide → are_for turns ≡ true → are_for (from_boundary whole k n single wide turns) ≡ true
-  boundary_for true k n single wide turns s w h = tested_for n (wide_loop (Plain wide)) turns w h
-  boundary_for false k n single wide turns s w h = aligned_for k n (Plain single) (wide_loop (Plain wide)) turns (s refl) w h
+  boundary_for : (whole : Bool) (k n : ℕ) (parts : TurnParts) (wide : List Ins) (turns : Flow) → (whole ≡ false → are_for (parts_flow n parts) ≡ true) → IsCodeFor t wide → are_for turns ≡ true → are_for (from_boundary whole k n parts wide turns) ≡ true
+  boundary_for true k n parts wide turns p w h = tested_for n (wide_loop (Plain wide)) turns w h
+  boundary_for false k n parts wide turns p w h = aligned_for k n parts (wide_loop (Plain wide)) turns (p refl) w h
 
-  elements_for : (filled begins whole : Bool) (k n b : ℕ) (single wide aligned large : List Ins) → (whole ≡ false → IsCodeFor t single) → IsCodeFor t wide → (filled ≡ true → IsCodeFor t aligned) → (1 < b → IsCodeFor t large) → are_for (elements_flow filled begins whole k n b single wide aligned large) ≡ true
-  elements_for true true whole k n b single wide aligned large s w a l = first_for whole n single (turns_flow n b large aligned) s (turns_for n b large aligned (a refl) l)
-  elements_for true false whole k n b single wide aligned large s w a l = boundary_for whole k n single wide (turns_flow n b large aligned) s w (turns_for n b large aligned (a refl) l)
-  elements_for false begins whole k n b single wide aligned large s w a l = first_for whole n single (turns_flow n b large wide) s (turns_for n b large wide w l)
+  elements_for : (filled begins whole : Bool) (k n b : ℕ) (parts : TurnParts) (wide aligned large : List Ins) → (whole ≡ false → are_for (parts_flow n parts) ≡ true) → IsCodeFor t wide → (filled ≡ true → IsCodeFor t aligned) → (1 < b → IsCodeFor t large) → are_for (elements_flow filled begins whole k n b parts wide aligned large) ≡ true
+  elements_for true true whole k n b parts wide aligned large p w a l = first_for whole n parts (turns_flow n b large aligned) p (turns_for n b large aligned (a refl) l)
+  elements_for true false whole k n b parts wide aligned large p w a l = boundary_for whole k n parts wide (turns_flow n b large aligned) p w (turns_for n b large aligned (a refl) l)
+  elements_for false begins whole k n b parts wide aligned large p w a l = first_for whole n parts (turns_flow n b large wide) p (turns_for n b large wide w l)
 
 -- ---- of a function
 
 pub elements_are_for : (t : CodeTarget) (f : FunctionValue) (at : List ℕ) (tree : Tree) → IsElements f t at tree → IsCodeFor t (flat_of tree)
-elements_are_for t f at tree (single, wide, aligned, large, turns, e) =
+elements_are_for t f at tree (parts, wide, aligned, large, turns, e) =
     subst (IsCodeFor t) (sym e)
-    (flat_for t (elements_flow (fills f) (begins_aligned f) (has_whole_turns f) (shift_of (size_of_slot f.vars 0)) (lanes f) (blocks_of (length wide)) single wide aligned large)
-    (elements_for t (fills f) (begins_aligned f) (has_whole_turns f) (shift_of (size_of_slot f.vars 0)) (lanes f) (blocks_of (length wide)) single wide aligned large
-    (λ w. turn_is_for f t at 1 false 1 single (turns.one w))
+    (flat_for t (elements_flow (fills f) (begins_aligned f) (has_whole_turns f) (shift_of (size_of_slot f.vars 0)) (lanes f) (blocks_of (length wide)) parts wide aligned large)
+    (elements_for t (fills f) (begins_aligned f) (has_whole_turns f) (shift_of (size_of_slot f.vars 0)) (lanes f) (blocks_of (length wide)) parts wide aligned large
+    (λ w. parts_for t (IsPart f t at) (λ count turn is. turn_is_for f t at count false 1 turn is.turn) (lanes f) parts (turns.fewer w))
     (turn_is_for f t at (lanes f) false 1 wide turns.more)
     (λ y. turn_is_for f t at (lanes f) true 1 aligned (turns.stored y))
     (λ l. turn_is_for f t at (lanes f) (fills f) (blocks_of (length wide)) large (turns.many l))))

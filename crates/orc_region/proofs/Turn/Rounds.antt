@@ -1,6 +1,6 @@
 -- Turns of so many elements are what the loops of a row ask for.
-use Rattle.std.proofs.Common.{◌≡◌, ◌≢◌, ℕ, zero, suc, ◌+◌, ◌/◌, true≢false, inl, ⊎_elim, ◌*◌, ◌%◌, ◌^◌, ◌<◌, ◌≤◌, Bool, true, false, is_some, if◌then◌else◌, nat_lt, suc-mul, le_refl, sym, ap, ◌∙◌, subst, arith, refl, List, length}
-use Rattle.std.proofs.Math.Nat.{mul-le-mul_left, mul-le-mul_right}
+use Rattle.std.proofs.Common.{◌≡◌, ◌≢◌, min, ◌-◌, ℕ, zero, suc, ◌+◌, ◌/◌, true≢false, inl, ⊎_elim, ◌*◌, ◌%◌, ◌^◌, ◌<◌, ◌≤◌, Bool, true, false, is_some, if◌then◌else◌, nat_lt, suc-mul, le_refl, sym, ap, ◌∙◌, subst, arith, refl, List, length}
+use Rattle.std.proofs.Math.Nat.{mul_assoc, mul-le-mul_left, mul-le-mul_right}
 use Rattle.std.proofs.lemmas.Bool.{ltb-true}
 use Rattle.orc_bits.specs.Memory.{Memory, IsMapped}
 use Rattle.x86_ins.specs.declared.ins.Ins.{Ins}
@@ -11,8 +11,8 @@ use Rattle.x86_flow.specs.Flow.{Flow, Plain}
 use Rattle.x86_flow.specs.Touching.{touch_weight}
 use Rattle.x86_flow.specs.Does.{Does}
 use Rattle.x86_flow.proofs.Plans.{weigh}
-use Rattle.orc_region.specs.Code.{Plan, IsBlocksTurn, pointer, resident_register, aligned_first, turns_flow, from_first, from_boundary}
-use Rattle.orc_region.specs.Regions.{wide_loop, wide_loops}
+use Rattle.orc_region.specs.Code.{Plan, IsBlocksTurn, AreParts, pointer, resident_register, aligned_first, turns_flow, from_first, from_boundary}
+use Rattle.orc_region.specs.Regions.{TurnParts, wide_loop, wide_loops}
 use Rattle.orc_region.proofs.Block.Registers.{not_0, not_1}
 use Rattle.orc_region.proofs.Block.Cells.{Numbers}
 use Rattle.orc_frame.specs.Layout.{frame_size}
@@ -20,7 +20,8 @@ use Rattle.orc_frame.specs.Parts.{InChanged}
 use Rattle.orc_region.proofs.Block.Frames.{framed_below}
 use Rattle.orc_region.proofs.Block.Touched.{TouchesPart}
 use Rattle.orc_region.proofs.Turn.Advancing.{Setting, Able, IsDestCell, Calm, Inside, turn_line}
-use Rattle.orc_region.proofs.Row.Regions.{InWord, Beside, Ground, IsTurn, IsRegion, wide_region, wide_regions, plain_line, turns_line, tested_line, aligned_line}
+use Rattle.orc_region.proofs.Row.Regions.{InWord, Beside, Ground, IsTurn, IsRegion, IsPiece, wide_region, wide_regions, plain_line, turns_line, tested_line, aligned_line}
+use Rattle.orc_region.proofs.Row.Parts.{parts_map}
 use Rattle.orc_region.proofs.Row.Gaps.{AtSixteen, each_size, sixteen_on}
 
 -- fewer turns, of no more instructions and touches
@@ -224,39 +225,57 @@ module _ (n : ℕ) (base : ℕ → ℕ) (P : ℕ → Type 0) (numbers : Numbers)
     aligned_turns large is_large =
         turns_are n base P numbers rsp p Emul F set rdi first Q stack_low framed Free calmly by by_stack each some lanes positive most (AtSixteen k (base 0)) (λ i t. subst (λ l. AtSixteen k (base 0) (l + i)) full (sixteen_on k small (base 0) i t)) (aligned_first true) aligns (λ i t e. absurd (true≢false e)) aligned is_aligned b few large is_large
 
-    -- one element is no whole register
-    pub narrow : 1 * p.size 0 ≡ 16 → ⊥
-    narrow e = each_size (λ k. p.size 0 ≡ 2 ^ k → ⊥) (λ s. omega (arith, e, s)) (λ s. omega (arith, e, s)) (λ s. omega (arith, e, s)) (λ s. omega (arith, e, s)) k small size_is
+    -- at most half as many elements are no whole register
+    pub narrow : (count : ℕ) → 2 * count ≤ lanes → count * p.size 0 ≡ 16 → ⊥
+    narrow count half e = (let m : 2 * count * p.size 0 ≤ lanes * p.size 0 = mul-le-mul_right (p.size 0) half in omega (arith, m, mul_assoc 2 count (p.size 0), e, whole_register))
 
-  -- whole turns, which are all of the row where `whole` is true, and single elements, at most t turns
-  module _ (single : List Ins) (whole : Bool) (is_single : whole ≡ false → Turned 1 false 1 single) (none : whole ≡ true → n % lanes ≡ 0) (t : ℕ) (behind : n / lanes + n % lanes ≤ t) where
-    single_turn : whole ≡ false → (1 * p.size 0 ≡ 16 → Free) → IsTurn Q rsp stack_low n Place g by by_stack each some (Plain single) 1 (λ i. Unit {0}) each some
-    single_turn some_left free i c within h pre =
-        let x = is_single some_left in
-        let short = x.short in
-        let t = turn_is n base P numbers rsp p Emul F set rdi first Q stack_low framed Free calmly by by_stack each some 1 (aligned_first false) 1 single x (omega arith) 1 (omega arith) (omega arith) each (omega (arith, short)) (λ i. Unit {0}) (λ i t. none_aligned 1 i) (λ i t u. free) i c within h pre in
-        (t.0, t.1, t.2, t.3, t.4, t.5, omega (arith, t.6))
+  -- a turn of one block, of some elements
+  pub record TurnedPart (count : ℕ) (turn : List Ins) : Type 0 where
+    pub some_elements : 0 < count
+    pub is : Turned count false 1 turn
+
+  abbrev Piece : ℕ → List Ins → Type 0
+  Piece = IsPiece Q rsp stack_low n Place g by by_stack each some
+
+  -- where at most half as many elements as a turn does fill a register of the first dest
+  abbrev pub FreeBelow : Type 0
+  FreeBelow = (count : ℕ) → 2 * count ≤ lanes → count * p.size 0 ≡ 16 → Free
+
+  -- whole turns, which are all of the row where `whole` is true, and parts of one, at most t turns
+  module _ (parts : TurnParts) (whole : Bool) (are_parts : whole ≡ false → AreParts TurnedPart lanes parts) (none : whole ≡ true → n % lanes ≡ 0) (t : ℕ) (behind : n / lanes + n % lanes ≤ t) where
+    piece : FreeBelow → (count : ℕ) (turn : List Ins) → 2 * count ≤ lanes → TurnedPart count turn → Piece count turn
+    piece free count turn half x = record { some_elements = x.some_elements; does = does }
+      where
+        does : IsTurn Q rsp stack_low n Place g by by_stack each some (Plain turn) count (λ i. Unit {0}) each some
+        does i c within h pre =
+            let is = x.is in
+            let short = is.short in
+            let t = turn_is n base P numbers rsp p Emul F set rdi first Q stack_low framed Free calmly by by_stack each some count (aligned_first false) 1 turn is x.some_elements count (omega arith) (omega (arith, half, most)) each (omega (arith, short)) (λ i. Unit {0}) (λ i t. none_aligned count i) (λ i t u. free count half) i c within h pre in
+            (t.0, t.1, t.2, t.3, t.4, t.5, omega (arith, t.6))
+
+    pieces : whole ≡ false → FreeBelow → AreParts Piece lanes parts
+    pieces some_left free = parts_map TurnedPart Piece lanes (λ count turn half x. piece free count turn half x) parts lanes (le_refl lanes) (are_parts some_left)
 
     -- from the first element on
-    pub first_done : (turns : Flow) (Pre : ℕ → Type 0) → IsRegion Q rsp stack_low n Place g by by_stack each some turns lanes Pre 4 → Pre 0 → (1 * p.size 0 ≡ 16 → Free) → (c : Core) → Place 0 c → c.gpr 1 ≡ n
-        → (done : List Ins) × (d : Core) × Does Q (from_first whole lanes single turns) c done d × Place n d × (length done ≤ 7 + t * (2 + each)) × (weigh (touch_weight by) done ≤ t * some)
+    pub first_done : (turns : Flow) (Pre : ℕ → Type 0) → IsRegion Q rsp stack_low n Place g by by_stack each some turns lanes Pre 4 → Pre 0 → FreeBelow → (c : Core) → Place 0 c → c.gpr 1 ≡ n
+        → (done : List Ins) × (d : Core) × Does Q (from_first whole lanes parts turns) c done d × Place n d × (length done ≤ 13 + t * (2 + each)) × (weigh (touch_weight by) done ≤ t * some)
     first_done turns Pre region pre free c h counts = go whole refl
       where
-        go : (k : Bool) → whole ≡ k → (done : List Ins) × (d : Core) × Does Q (from_first k lanes single turns) c done d × Place n d × (length done ≤ 7 + t * (2 + each)) × (weigh (touch_weight by) done ≤ t * some)
+        go : (k : Bool) → whole ≡ k → (done : List Ins) × (d : Core) × Does Q (from_first k lanes parts turns) c done d × Place n d × (length done ≤ 13 + t * (2 + each)) × (weigh (touch_weight by) done ≤ t * some)
         go true e =
             let y = turns_line Q rsp stack_low n Place g by by_stack each some turns lanes 4 Pre positive (omega (arith, most)) (none e) region pre c h counts in
             let fewer : n / lanes ≤ t = omega (arith, behind) in
-            (y.0, y.1, y.2, y.3, few_turns y.0 5 7 (n / lanes) t (2 + each) (2 + each) (omega arith) fewer (omega arith) y.4, light_turns (touch_weight by) y.0 (n / lanes) t some fewer y.5)
-        go false e = plain_line Q rsp stack_low n Place g by by_stack each some (Plain single) turns lanes 4 t Pre positive (omega (arith, most)) (single_turn e free) region pre behind c h counts
+            (y.0, y.1, y.2, y.3, few_turns y.0 5 13 (n / lanes) t (2 + each) (2 + each) (omega arith) fewer (omega arith) y.4, light_turns (touch_weight by) y.0 (n / lanes) t some fewer y.5)
+        go false e = plain_line Q rsp stack_low n Place g by by_stack each some parts turns lanes 4 t Pre positive most (pieces e free) region pre behind c h counts
 
     -- from where the first dest is at a multiple of 16, if it is somewhere
-    module _ (many : whole ≡ false → (g m rest : ℕ) → g < lanes → rest < lanes → g + (m * lanes + rest) ≡ n → g + m + rest ≤ t)
+    module _ (granted : whole ≡ false → t ≡ min n (n / lanes + 2 * lanes - 2))
         (wide : List Ins) (is_wide : Turned lanes false 1 wide) (aligned : List Ins) (is_aligned : Turned lanes true 1 aligned) (k : ℕ) (small : k ≤ 3) (full : 16 / 2 ^ k ≡ lanes) (some_dest : 0 < p.dests) (size_is : p.size 0 ≡ 2 ^ k)
         (large : List Ins) (is_large : 1 < b → Turned lanes true b large)
         -- where it is nowhere, or, where the row is whole turns, not at the first element
         (free_nowhere : whole ≡ false → ((j : ℕ) → j + lanes ≤ n → AtSixteen k (base 0) j → ⊥) → Free) (free_first : whole ≡ true → (AtSixteen k (base 0) 0 → ⊥) → Free) where
       pub boundary_done : (c : Core) → Place 0 c → c.gpr 1 ≡ n
-          → (done : List Ins) × (d : Core) × Does Q (from_boundary whole k lanes single wide (turns_flow lanes b large aligned)) c done d × Place n d × (length done ≤ 19 + t * (3 + (2 + each))) × (weigh (touch_weight by) done ≤ t * some)
+          → (done : List Ins) × (d : Core) × Does Q (from_boundary whole k lanes parts wide (turns_flow lanes b large aligned)) c done d × Place n d × (length done ≤ 20 + t * (3 + (2 + each))) × (weigh (touch_weight by) done ≤ t * some)
       boundary_done c h counts = go whole refl
         where
           address : base 0 % 2 ^ 64 ≡ c.gpr 2
@@ -274,11 +293,11 @@ module _ (n : ℕ) (base : ℕ → ℕ) (P : ℕ → Type 0) (numbers : Numbers)
           not_first : c.gpr 2 % 16 ≢ 0 → AtSixteen k (base 0) 0 → ⊥
           not_first m at = m (omega (arith, address, at))
 
-          go : (w : Bool) → whole ≡ w → (done : List Ins) × (d : Core) × Does Q (from_boundary w k lanes single wide (turns_flow lanes b large aligned)) c done d × Place n d × (length done ≤ 19 + t * (3 + (2 + each))) × (weigh (touch_weight by) done ≤ t * some)
+          go : (w : Bool) → whole ≡ w → (done : List Ins) × (d : Core) × Does Q (from_boundary w k lanes parts wide (turns_flow lanes b large aligned)) c done d × Place n d × (length done ≤ 20 + t * (3 + (2 + each))) × (weigh (touch_weight by) done ≤ t * some)
           go true e =
               let y = tested_line Q rsp stack_low n Place g by by_stack each some (wide_loop (Plain wide)) (turns_flow lanes b large aligned) lanes 4 (AtSixteen k (base 0)) (λ i. Free) positive (omega (arith, most)) (none e) region unaligned_4 c h counts at_first (λ m. free_first e (not_first m)) in
               let fewer : n / lanes ≤ t = omega (arith, behind) in
-              (y.0, y.1, y.2, y.3, few_turns y.0 9 19 (n / lanes) t (2 + each) (3 + (2 + each)) (omega arith) fewer (omega arith) y.4, light_turns (touch_weight by) y.0 (n / lanes) t some fewer y.5)
+              (y.0, y.1, y.2, y.3, few_turns y.0 9 20 (n / lanes) t (2 + each) (3 + (2 + each)) (omega arith) fewer (omega arith) y.4, light_turns (touch_weight by) y.0 (n / lanes) t some fewer y.5)
           go false e =
-              aligned_line Q rsp stack_low n Place g by by_stack each some (Plain single) (wide_loop (Plain wide)) (turns_flow lanes b large aligned) k lanes 1 (base 0) positive (omega (arith, most)) t (many e) (single_turn e (λ z. absurd (narrow aligned is_aligned k small full size_is z))) region
+              aligned_line Q rsp stack_low n Place g by by_stack each some parts (wide_loop (Plain wide)) (turns_flow lanes b large aligned) k lanes 1 (base 0) positive most t (granted e) (pieces e (λ count half z. absurd (narrow aligned is_aligned k small full size_is count half z))) region
               (unaligned_turns wide is_wide (λ i. (j : ℕ) → j + lanes ≤ n → AtSixteen k (base 0) j → ⊥) (λ i t. t) (λ i none. free_nowhere e none)) small full c h counts address

@@ -4,23 +4,26 @@ use Rattle.orc_region.proofs.turns.block.Goals as goal
 
 pub block_list-requires-clause-ready : goal.block_list-requires-clause-ready
 block_list-requires-clause-ready c =
-    let p : PlacedValue = record { core = c.args.core.now; places = c.args.places.now } in
+    let m = c.args.making.now in
+    let p : PlacedValue = record { core = m.core.now; places = m.places.now } in
     let f = c.requires.of.0 in
     let are = c.requires.of.1 in
-    ready f p.places p.core.sizes p.core.steps (lowered f p c.args.layout.now are c.requires.places) c.args.count (count_by f p c.args.layout.now are c.args.count c.requires.count) c.args.layout.now are.layout
+    ready f p.places p.core.sizes p.core.steps (lowered f p m.layout.now are.are are.good) c.args.count (count_by f p m.layout.now are.are c.args.count c.requires.count) m.layout.now are.are.layout
 
 pub invariant_of-result : goal.invariant_of-result
 invariant_of-result c =
-    let p : PlacedValue = record { core = c.args.core.now; places = c.args.places.now } in
+    let m = c.args.making.now in
+    let p : PlacedValue = record { core = m.core.now; places = m.places.now } in
     let f = c.requires.of.0 in
     let are = c.requires.of.1 in
-    let x = lowered f p c.args.layout.now are c.requires.places in
-    let which = count_by f p c.args.layout.now are c.args.count c.requires.count in
+    let x = lowered f p m.layout.now are.are are.good in
+    let which = count_by f p m.layout.now are.are c.args.count c.requires.count in
     record {
-      spelled = block_spelled_of f p.places p.core.sizes p.core.steps x c.args.count which c.args.target c.args.aligned c.in_ok-list.list (block_of f p.places p.core.sizes p.core.steps x c.args.count which c.args.layout.now are.layout c.args.target c.args.aligned c.in_ok-list.list c.in_ok-list.ensures);
+      spelled = block_spelled_of f p.places p.core.sizes p.core.steps x c.args.count which m.target c.args.aligned c.in_ok-list.list (block_of f p.places p.core.sizes p.core.steps x c.args.count which m.layout.now are.are.layout m.target c.args.aligned c.in_ok-list.list c.in_ok-list.ensures);
     }
 
 pub returns : goal.returns
 returns c f are =
-    let p : PlacedValue = record { core = c.args.core.now; places = c.args.places.now } in
-    block_of f p.places p.core.sizes p.core.steps (lowered f p c.args.layout.now are c.requires.places) c.args.count (count_by f p c.args.layout.now are c.args.count c.requires.count) c.args.layout.now are.layout c.args.target c.args.aligned c.in_ok-list.list c.in_ok-list.ensures
+    let m = c.args.making.now in
+    let p : PlacedValue = record { core = m.core.now; places = m.places.now } in
+    block_of f p.places p.core.sizes p.core.steps (lowered f p m.layout.now are.are are.good) c.args.count (count_by f p m.layout.now are.are c.args.count c.requires.count) m.layout.now are.are.layout m.target c.args.aligned c.in_ok-list.list c.in_ok-list.ensures

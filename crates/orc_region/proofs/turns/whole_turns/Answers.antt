@@ -6,6 +6,6 @@ use Rattle.orc_region.proofs.turns.whole_turns.Goals as goal
 
 pub returns : goal.returns
 returns c = ok_map c.wide_loops.result _ _
-    (λ t e f are. whole_of_many c.args.target f c.args.places.now c.args.aligned c.args.blocks c.requires.some c.if-blocks-eq1.false c.core.inside.lanes (ap (λ (x : CoreValue). x.lanes) c.core.view_is ∙ are.lanes)
+    (λ t e f are. whole_of_many c.args.making.now.target f c.args.making.now.places.now c.args.aligned c.args.blocks c.requires.some c.if-blocks-eq1.false c.core.inside.lanes (ap (λ (x : CoreValue). x.lanes) c.core.view_is ∙ are.are.lanes)
     c.in_ok-large.large.list c.args.turn_of_one.list (c.in_ok-large.ensures f are) c.plain-2.result c.plain-3.result t c.plain-2.ensures c.plain-3.ensures e)
     c.wide_loops.ensures
