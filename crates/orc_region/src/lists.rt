@@ -1,6 +1,6 @@
 //! The lists of instructions of a function's blocks and turns.
 
-ghost use Rattle.std.specs.Prelude.{◌≡◌, ◌≢◌, ◌<◌, ◌≤◌, ◌+◌, ◌-◌, ◌*◌, ◌++◌, ◌∷◌, [], All, OnOk, length, map, slice_index, true, pos};
+ghost use Rattle.std.specs.Prelude.{◌≡◌, ◌≢◌, ◌<◌, ◌≤◌, ◌+◌, ◌-◌, ◌*◌, ◌++◌, ◌∷◌, [], All, OnOk, length, map, slice_index, true, pos, is_some, ◌||◌};
 ghost use Rattle.x86_ins.specs.declared.ins.AluOp.TheVariants.{Add};
 ghost use Rattle.x86_ins.specs.declared.ins.Ins.TheVariants.{AluImm, VecLoad, VecStore};
 ghost use Rattle.x86_ins.specs.declared.ins.MoveOp.TheVariants.{Movdqu};
@@ -16,7 +16,7 @@ ghost use Rattle.orc_region.specs.Code.{HasRule, pointer, place_register, aligne
 use crate::homes::{
     Homes, REGISTERS, SUM, homes_of, names_of, own_names, place_register, source_names,
 };
-use crate::residents::{is_resident, pattern_number, resident_register};
+use crate::residents::{Seats, is_resident, pattern_number, resident_register};
 use crate::rules::{has_count, rule_of};
 use crate::span::Setting;
 use crate::taking::{Takes, takes_of};
@@ -335,7 +335,18 @@ fn push_rule(
     push_renamed(list, rule.as_slice(), &names_of(homes))
 }
 
-/// Adds what does an instruction on elements, of whose sources some are taken over. A count that the rule has in itself is brought nowhere.
+/// Which sources nothing has to bring: those that are taken over, and a count that the rule has in itself.
+fn spared_by(seats: &Seats<'_>, step: &Step, takes: Takes) -> Takes
+    ensures first { result.first ≡ takes.first }
+    ensures second { result.second ≡ (is_some (count_by (seats_in seats.now) step.now.op step.now.sources.items) || takes.second) }
+{
+    Takes {
+        first: takes.first,
+        second: has_count(seats, step) || takes.second,
+    }
+}
+
+/// Adds what does an instruction on elements, of whose sources some are taken over.
 fn push_action(
     list: &mut InsList,
     setting: &Setting<'_>,
@@ -349,10 +360,7 @@ fn push_action(
 {
     let results = step.results.as_slice();
     let homes = homes_of(setting.seats.places, results);
-    let spared = Takes {
-        first: takes.first,
-        second: has_count(&setting.seats, step) || takes.second,
-    };
+    let spared = spared_by(&setting.seats, step, takes);
     push_sources(list, setting, step.sources.as_slice(), spared, &homes)?;
     push_sum(list, setting, results)?;
     push_rule(list, setting, step, results, &homes)?;

@@ -116,12 +116,12 @@ module _ (size : ℕ → ℕ) (span : Span) where
       )
 
   -- the same where operands are read as slices
-  pub action_of_slices : (seats : Seats) (step : Step) (one two : Bool) (rs ss : List Item) → rs ≡ step.results.items → ss ≡ step.sources.items → (x y : ℕ) (base c1 c2 c3 c4 : List Ins) → x ≡ first_register (map (target_of seats.places) rs) → y ≡ second_register (map (target_of seats.places) rs)
-      → c1 ≡ base ++ sources_far_code one (is_some (count_by seats step.op step.sources.items) || two) span.count size (far_by span.first size) x y (map (source_of seats) ss) → c2 ≡ c1 ++ sum_code (map (target_of seats.places) rs) → AddsRule span.target span.count step.op (count_by seats step.op step.sources.items) (map (target_of seats.places) rs) c2 c3
+  pub action_of_slices : (seats : Seats) (step : Step) (one two first second : Bool) (rs ss : List Item) → first ≡ one → second ≡ (is_some (count_by seats step.op step.sources.items) || two) → rs ≡ step.results.items → ss ≡ step.sources.items → (x y : ℕ) (base c1 c2 c3 c4 : List Ins) → x ≡ first_register (map (target_of seats.places) rs) → y ≡ second_register (map (target_of seats.places) rs)
+      → c1 ≡ base ++ sources_far_code first second span.count size (far_by span.first size) x y (map (source_of seats) ss) → c2 ≡ c1 ++ sum_code (map (target_of seats.places) rs) → AddsRule span.target span.count step.op (count_by seats step.op step.sources.items) (map (target_of seats.places) rs) c2 c3
       → c4 ≡ c3 ++ results_far_code span.count size (far_by span.first size) (aligned_first span.aligned) (map (target_of seats.places) rs) → AddsAction seats size span step one two base c4
-  action_of_slices seats step one two rs ss er es x y base c1 c2 c3 c4 ex ey p q r t =
+  action_of_slices seats step one two first second rs ss ef en er es x y base c1 c2 c3 c4 ex ey p q r t =
       let to : map (target_of seats.places) rs ≡ map (target_of seats.places) step.results.items = ap (map (target_of seats.places)) er in
-      action_added seats step one two x y base c1 c2 c3 c4 (ex ∙ ap first_register to) (ey ∙ ap second_register to) (p ∙ ap (λ xs. base ++ sources_far_code one (is_some (count_by seats step.op step.sources.items) || two) span.count size (far_by span.first size) x y (map (source_of seats) xs)) es)
+      action_added seats step one two x y base c1 c2 c3 c4 (ex ∙ ap first_register to) (ey ∙ ap second_register to) (p ∙ ap (λ xs. base ++ sources_far_code first second span.count size (far_by span.first size) x y (map (source_of seats) xs)) es ∙ ap₂ (λ u v. base ++ sources_far_code u v span.count size (far_by span.first size) x y (map (source_of seats) step.sources.items)) ef en)
       (q ∙ ap (λ ts. c1 ++ sum_code ts) to) (subst (λ ts. AddsRule span.target span.count step.op (count_by seats step.op step.sources.items) ts c2 c3) to r) (t ∙ ap (λ ts. c3 ++ results_far_code span.count size (far_by span.first size) (aligned_first span.aligned) ts) to)
 
 -- ---- a rule under other names
