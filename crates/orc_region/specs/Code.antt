@@ -169,12 +169,12 @@ source_far_code count size far x (FromResident j g) = Vec Movdqa x (resident_reg
 source_far_code count size far x (FromPlace p) = Vec Movdqa x (place_register p) ∷ []
 source_far_code count size far x (FromSlot k) = VecLoad Movdqu x (away 4 (spill_slot k)) ∷ []
 
--- nothing brings what is taken over
+-- or nothing, where it is there already or isn't needed
 abbrev pub brought : Bool → List Ins → List Ins
 brought true code = []
 brought false code = code
 
--- the first source goes to register x, and the second to register y, but for those that are taken over
+-- the first source goes to register x, and the second to register y, but for those that nothing has to bring
 abbrev pub sources_far_code : Bool → Bool → ℕ → (ℕ → ℕ) → (ℕ → ℕ) → ℕ → ℕ → List Source → List Ins
 sources_far_code one two count size far x y [] = []
 sources_far_code one two count size far x y (s ∷ []) = brought one (source_far_code count size far x s)
@@ -203,7 +203,7 @@ results_far_code count size far aligned [] = []
 results_far_code count size far aligned (t ∷ []) = result_far_code count size far aligned 0 t
 results_far_code count size far aligned (t ∷ u ∷ more) = result_far_code count size far aligned 0 t ++ result_far_code count size far aligned 1 u
 
--- nothing has to bring the second source: it is taken over, or the rule has it in itself
+-- nothing has to bring the second source: its register is taken over, or the rule has it in itself
 abbrev pub spares_second : Action → Bool
 spares_second a = is_some a.by || a.takes_second
 

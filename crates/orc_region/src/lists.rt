@@ -178,7 +178,7 @@ fn push_source(
     }
 }
 
-/// Adds what brings a source to a register, unless it is taken over.
+/// Adds what brings a source to a register, unless nothing has to.
 fn push_brought(
     list: &mut InsList,
     setting: &Setting<'_>,
@@ -198,7 +198,7 @@ fn push_brought(
     }
 }
 
-/// Adds what brings sources to registers, but for those that are taken over.
+/// Adds what brings sources to registers, but for those that nothing has to bring.
 fn push_sources(
     list: &mut InsList,
     setting: &Setting<'_>,
