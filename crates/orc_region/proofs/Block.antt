@@ -5,6 +5,7 @@ pub mod Elements
 pub mod Emulated
 pub mod Frames
 pub mod Keeping
+pub mod Meeting
 pub mod Named
 pub mod Names
 pub mod Places

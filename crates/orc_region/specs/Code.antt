@@ -1,5 +1,5 @@
 -- The code of a function: the compiler's plan.
-use Rattle.std.specs.Prelude.{◌≡◌, ℕ, zero, suc, ◌+◌, ◌-◌, ◌*◌, ◌/◌, ◌^◌, ◌<◌, ◌≤◌, ◌==◌, ◌&&◌, ◌||◌, not, nat_lt, Bool, true, false, if◌then◌else◌, pos, List, [], ◌∷◌, ◌++◌, length, map, slice_index, max}
+use Rattle.std.specs.Prelude.{◌≡◌, ℕ, zero, suc, ◌+◌, ◌-◌, ◌*◌, ◌/◌, ◌^◌, ◌<◌, ◌≤◌, ◌==◌, ◌&&◌, ◌||◌, not, nat_lt, Bool, true, false, if◌then◌else◌, pos, List, [], ◌∷◌, ◌++◌, length, map, slice_index, slice_get, max, Option, Some, None, is_some}
 use Rattle.std.specs.List.{range_with_len}
 use Rattle.x86_ins.specs.declared.ins.Addr.{Addr}
 use Rattle.x86_ins.specs.declared.ins.AluOp.TheVariants.{Add, Sub}
@@ -15,6 +15,8 @@ use Rattle.orc_ops.specs.declared.target.Target.{Target as CodeTarget}
 use Rattle.orc_ops.specs.Table.{row, size_of_result}
 use Rattle.orc_ops.specs.Targets.{class_for}
 use Rattle.orc_program.specs.declared.program.VarKind.TheVariants as kind
+use Rattle.orc_program.specs.declared.program.Operand.{Operand}
+use Rattle.orc_program.specs.declared.program.Operand.TheVariants as operand
 use Rattle.orc_program.specs.declared.program.Pattern.{Pattern}
 use Rattle.orc_program.specs.Program.{FunctionValue, count_of}
 use Rattle.orc_program.specs.Checks.{patterns_of}
@@ -37,6 +39,8 @@ use Rattle.orc_frame.specs.Layout.{pattern_slot, sum_slot, spill_slots, spill_sl
 use Rattle.sse_laws.specs.Meets.{Meets, is_sum}
 use Rattle.sse_laws.specs.Targets.{IsCodeFor}
 use Rattle.sse_acc.specs.Sums.{AddsUp}
+use Rattle.sse_shift.specs.Meets.{MeetsAt}
+use Rattle.sse_shift.specs.Shifts.{has_shift}
 
 -- where a source comes from: the elements of an array's slot, a pattern, from the frame or from the register of the resident with a number, or a value, from the register of its place or from a spill slot
 pub data Source : Type 0 where
@@ -63,6 +67,8 @@ pub record Action : Type 0 where
   pub to : List Target
   -- one or two
   pub sources : List Source
+  -- the count that the rule has in itself, if it has one
+  pub by : Option ℕ
   -- computes the opcode in XMM0 to XMM5
   pub rule : List Ins
   -- whether the register of its first source is taken over, and that of its second: nothing reads again what stands there
@@ -73,10 +79,15 @@ pub record Action : Type 0 where
 abbrev pub HasRule : ℕ → Op → Type 0
 HasRule count op = is_sum (row op).kind ≡ true → (1 ≤ count) × (count ≤ 16) × (count ≤ 16 / size_of_result op 0)
 
--- the list computes the opcode, or adds its numbers of so many elements to a running sum
-pub record IsRule (count : ℕ) (op : Op) (rule : List Ins) : Type 0 where
-  pub meets : is_sum (row op).kind ≡ false → Meets op rule
-  pub adds : is_sum (row op).kind ≡ true → AddsUp op count rule
+-- the list computes the opcode, by a count that it has in itself or by what XMM1 holds
+abbrev pub MeetsBy : Option ℕ → Op → List Ins → Type 0
+MeetsBy None op rule = Meets op rule
+MeetsBy (Some n) op rule = MeetsAt op n rule
+
+-- the list does so, or adds the opcode's numbers of so many elements to a running sum
+pub record IsRule (count : ℕ) (op : Op) (by : Option ℕ) (rule : List Ins) : Type 0 where
+  pub meets : is_sum (row op).kind ≡ false → MeetsBy by op rule
+  pub adds : is_sum (row op).kind ≡ true → (by ≡ None) × AddsUp op count rule
   pub short : length rule ≤ 100
   pub known : Each IsIns rule
 
@@ -159,12 +170,12 @@ source_far_code count size far x (FromResident j g) = Vec Movdqa x (resident_reg
 source_far_code count size far x (FromPlace p) = Vec Movdqa x (place_register p) ∷ []
 source_far_code count size far x (FromSlot k) = VecLoad Movdqu x (away 4 (spill_slot k)) ∷ []
 
--- nothing brings what is taken over
+-- or nothing, where it is there already or isn't needed
 abbrev pub brought : Bool → List Ins → List Ins
 brought true code = []
 brought false code = code
 
--- the first source goes to register x, and the second to register y, but for those that are taken over
+-- the first source goes to register x, and the second to register y, but for those that nothing has to bring
 abbrev pub sources_far_code : Bool → Bool → ℕ → (ℕ → ℕ) → (ℕ → ℕ) → ℕ → ℕ → List Source → List Ins
 sources_far_code one two count size far x y [] = []
 sources_far_code one two count size far x y (s ∷ []) = brought one (source_far_code count size far x s)
@@ -193,9 +204,13 @@ results_far_code count size far aligned [] = []
 results_far_code count size far aligned (t ∷ []) = result_far_code count size far aligned 0 t
 results_far_code count size far aligned (t ∷ u ∷ more) = result_far_code count size far aligned 0 t ++ result_far_code count size far aligned 1 u
 
+-- nothing has to bring the second source: its register is taken over, or the rule has it in itself
+abbrev pub spares_second : Action → Bool
+spares_second a = is_some a.by || a.takes_second
+
 abbrev pub action_far_code : ℕ → (ℕ → ℕ) → (ℕ → ℕ) → (ℕ → Bool) → Action → List Ins
 action_far_code count size far aligned a =
-    sources_far_code a.takes_first a.takes_second count size far (first_register a.to) (second_register a.to) a.sources ++ (sum_code a.to ++ (rule_code a ++ results_far_code count size far aligned a.to))
+    sources_far_code a.takes_first (spares_second a) count size far (first_register a.to) (second_register a.to) a.sources ++ (sum_code a.to ++ (rule_code a ++ results_far_code count size far aligned a.to))
 
 -- ---- the names of the vector registers, each by the register's number
 
@@ -275,21 +290,26 @@ last_place (p ∷ ps) = max p (last_place ps)
 abbrev pub is_resident : ℕ → ℕ → Bool
 is_resident last g = nat_lt (last + g + 1) registers
 
--- where values stand, by their places, and patterns: behind so many running sums
+-- where values stand, by their places, and these patterns: behind so many running sums
 pub record Seats : Type 0 where
   pub places : List ℕ
   pub sums : ℕ
+  pub patterns : List Pattern
 
 abbrev pub seats_in : Standing → Seats
-seats_in s = record { places = s.places.now; sums = s.sums }
+seats_in s = record { places = s.places.now; sums = s.sums; patterns = s.patterns.now }
 
 -- those by places of values and by a layout
 abbrev pub seats_with : Layout → List ℕ → Seats
-seats_with l at = record { places = at; sums = length l.acc_sizes.items }
+seats_with l at = record { places = at; sums = length l.acc_sizes.items; patterns = l.patterns.items }
+
+-- a function's patterns
+abbrev pub patterns_in : FunctionValue → List Pattern
+patterns_in f = patterns_of f.vars f.insns
 
 -- those of a function whose values have these places
 abbrev pub seats_of : FunctionValue → List ℕ → Seats
-seats_of f at = record { places = at; sums = count_of kind.Accumulator f.vars }
+seats_of f at = record { places = at; sums = count_of kind.Accumulator f.vars; patterns = patterns_in f }
 
 abbrev pub to_sum : List ℕ → ℕ → Target
 to_sum at g = if is_resident (last_place at) g then ToResident g else ToSum g
@@ -312,13 +332,33 @@ target_of at (item.Array slot) = ToArray slot
 target_of at (item.Acc slot size) = to_sum at slot
 target_of at (item.Pattern j) = ToArray j
 
+-- the number that an operand is itself
+abbrev pub plain_number : Operand → Option ℕ
+plain_number (operand.Number n) = Some n
+plain_number (operand.Var p) = None
+
+-- the number of a pattern, where it is none of a parameter
+abbrev pub known_number : Option Pattern → Option ℕ
+known_number None = None
+known_number (Some p) = plain_number p.number
+
+-- that of a second source of two, where it is a pattern of these
+abbrev pub known_second : List Pattern → List Item → Option ℕ
+known_second patterns (s ∷ item.Pattern j ∷ []) = known_number (slice_get patterns j)
+known_second patterns items = None
+
+-- the count of a shift that is one instruction by it
+abbrev pub count_by : Seats → Op → List Item → Option ℕ
+count_by seats op items = if has_shift op then known_second seats.patterns items else None
+
 -- the action is the step's, by some list of the target's instructions that computes its opcode, in at most as many as its class for the target says
 pub record IsAction (target : CodeTarget) (seats : Seats) (count : ℕ) (step : Step) (a : Action) : Type 0 where
   pub op : a.op ≡ step.op
   pub prefix : a.prefix ≡ step.prefix
   pub to : a.to ≡ map (target_of seats.places) step.results.items
   pub sources : a.sources ≡ map (source_of seats) step.sources.items
-  pub rule : IsRule count a.op a.rule
+  pub by : a.by ≡ count_by seats step.op step.sources.items
+  pub rule : IsRule count a.op a.by a.rule
   pub few : length a.rule ≤ class_for a.op target
   pub for_target : IsCodeFor target a.rule
 
@@ -392,10 +432,6 @@ AreActions target seats count (s ∷ steps) (a ∷ rest) = (IsAction target seat
 AreActions target seats count [] (a ∷ rest) = ⊥
 AreActions target seats count (s ∷ steps) [] = ⊥
 
--- a function's patterns
-abbrev pub patterns_in : FunctionValue → List Pattern
-patterns_in f = patterns_of f.vars f.insns
-
 abbrev pub plan_with : FunctionValue → List Action → Plan
 plan_with f actions = record {
   dests = count_of kind.Dest f.vars;
@@ -428,8 +464,8 @@ sum_stores_code at (suc n) = sum_stores_code at n ++ sum_store_code at n
 
 -- ---- code by some lists that compute the opcodes
 
-abbrev pub AddsRule : CodeTarget → ℕ → Op → List Target → List Ins → List Ins → Type 0
-AddsRule target count op to old new = (rule : List Ins) × IsRule count op rule × (length rule ≤ class_for op target) × IsCodeFor target rule × (new ≡ old ++ map (renamed (rule_register to)) rule)
+abbrev pub AddsRule : CodeTarget → ℕ → Op → Option ℕ → List Target → List Ins → List Ins → Type 0
+AddsRule target count op by to old new = (rule : List Ins) × IsRule count op by rule × (length rule ≤ class_for op target) × IsCodeFor target rule × (new ≡ old ++ map (renamed (rule_register to)) rule)
 
 -- `size` has the bytes of an element of each array slot
 abbrev pub AddsAction : Seats → (ℕ → ℕ) → Span → Step → Bool → Bool → List Ins → List Ins → Type 0

@@ -1,6 +1,6 @@
 //! The lists of instructions of a function's blocks and turns.
 
-ghost use Rattle.std.specs.Prelude.{◌≡◌, ◌≢◌, ◌<◌, ◌≤◌, ◌+◌, ◌-◌, ◌*◌, ◌++◌, ◌∷◌, [], All, OnOk, length, map, slice_index, true, pos};
+ghost use Rattle.std.specs.Prelude.{◌≡◌, ◌≢◌, ◌<◌, ◌≤◌, ◌+◌, ◌-◌, ◌*◌, ◌++◌, ◌∷◌, [], All, OnOk, length, map, slice_index, true, pos, is_some, ◌||◌};
 ghost use Rattle.x86_ins.specs.declared.ins.AluOp.TheVariants.{Add};
 ghost use Rattle.x86_ins.specs.declared.ins.Ins.TheVariants.{AluImm, VecLoad, VecStore};
 ghost use Rattle.x86_ins.specs.declared.ins.MoveOp.TheVariants.{Movdqu};
@@ -11,17 +11,16 @@ ghost use Rattle.x86_flow.specs.Moves.{IsWidth, away, load_far_code, store_eithe
 ghost use Rattle.orc_frame.specs.Frame.{IsLayout};
 ghost use Rattle.orc_frame.specs.Layout.{pattern_slot, sum_slot, spill_slot};
 ghost use Rattle.orc_program.specs.Need.{places, registers};
-ghost use Rattle.orc_region.specs.Code.{HasRule, pointer, place_register, aligned_first, far_by, source_of, target_of, source_far_code, brought, sources_far_code, sum_code, result_far_code, results_far_code, advance_code, first_register, second_register, third_register, AddsRule, AddsAction, AddsNamed, AddsActions, IsMoved, IsLoaded, IsStored, IsReady, seats_in, from_pattern};
+ghost use Rattle.orc_region.specs.Code.{HasRule, pointer, place_register, aligned_first, far_by, source_of, target_of, source_far_code, brought, sources_far_code, sum_code, result_far_code, results_far_code, advance_code, first_register, second_register, third_register, AddsRule, AddsAction, AddsNamed, AddsActions, IsMoved, IsLoaded, IsStored, IsReady, seats_in, from_pattern, count_by};
 
 use crate::homes::{
     Homes, REGISTERS, SUM, homes_of, names_of, own_names, place_register, source_names,
 };
-use crate::residents::{is_resident, pattern_number, resident_register};
-use crate::rules::rule_for;
+use crate::residents::{Seats, is_resident, pattern_number, resident_register};
+use crate::rules::{has_count, rule_of};
 use crate::span::Setting;
 use crate::taking::{Takes, takes_of};
 use orc_frame::{Layout, STACK, pattern_at, spill_slot_at, sum_at};
-use orc_ops::Op;
 use orc_plan::{Item, Step, place_of};
 use std::alloc::{AllocError, Global};
 use x86_flow::{push_aligned_store, push_load_far, push_store_far};
@@ -179,7 +178,7 @@ fn push_source(
     }
 }
 
-/// Adds what brings a source to a register, unless it is taken over.
+/// Adds what brings a source to a register, unless nothing has to.
 fn push_brought(
     list: &mut InsList,
     setting: &Setting<'_>,
@@ -199,7 +198,7 @@ fn push_brought(
     }
 }
 
-/// Adds what brings sources to registers, but for those that are taken over.
+/// Adds what brings sources to registers, but for those that nothing has to bring.
 fn push_sources(
     list: &mut InsList,
     setting: &Setting<'_>,
@@ -321,18 +320,30 @@ fn push_renamed(list: &mut InsList, more: &[Ins], names: &[u8; 16]) -> Result<()
 fn push_rule(
     list: &mut InsList,
     setting: &Setting<'_>,
-    op: Op,
+    step: &Step,
     results: &[Item],
     homes: &Homes,
 ) -> Result<(), AllocError>
-    requires rule { HasRule setting.now.span.count op }
+    requires rule { HasRule setting.now.span.count step.now.op }
     requires first { homes.now.first ≡ first_register (map (target_of setting.now.seats.places.now) results.now) }
     requires second { homes.now.second ≡ second_register (map (target_of setting.now.seats.places.now) results.now) }
     requires sum { homes.now.sum ≡ third_register (map (target_of setting.now.seats.places.now) results.now) }
-    ensures { OnOk result (AddsRule setting.now.span.target setting.now.span.count op (map (target_of setting.now.seats.places.now) results.now) list.old list.new) }
+    ensures { OnOk result (AddsRule setting.now.span.target setting.now.span.count step.now.op (count_by (seats_in setting.now.seats) step.now.op step.now.sources.items) (map (target_of setting.now.seats.places.now) results.now) list.old list.new) }
 {
-    let rule = rule_for(op, setting.span.target, setting.span.count);
+    let span = setting.span;
+    let rule = rule_of(&setting.seats, step, span.target, span.count);
     push_renamed(list, rule.as_slice(), &names_of(homes))
+}
+
+/// Which sources nothing has to bring: those that are taken over, and a count that the rule has in itself.
+fn spared_by(seats: &Seats<'_>, step: &Step, takes: Takes) -> Takes
+    ensures first { result.first ≡ takes.first }
+    ensures second { result.second ≡ (is_some (count_by (seats_in seats.now) step.now.op step.now.sources.items) || takes.second) }
+{
+    Takes {
+        first: takes.first,
+        second: has_count(seats, step) || takes.second,
+    }
 }
 
 /// Adds what does an instruction on elements, of whose sources some are taken over.
@@ -349,9 +360,10 @@ fn push_action(
 {
     let results = step.results.as_slice();
     let homes = homes_of(setting.seats.places, results);
-    push_sources(list, setting, step.sources.as_slice(), takes, &homes)?;
+    let spared = spared_by(&setting.seats, step, takes);
+    push_sources(list, setting, step.sources.as_slice(), spared, &homes)?;
     push_sum(list, setting, results)?;
-    push_rule(list, setting, step.op, results, &homes)?;
+    push_rule(list, setting, step, results, &homes)?;
     push_results(list, setting, results)
 }
 

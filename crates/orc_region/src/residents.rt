@@ -10,6 +10,7 @@ ghost use Rattle.orc_region.specs.Code.{last_place, is_resident, resident_regist
 use crate::homes::REGISTERS;
 use orc_frame::{Layout, STACK, pattern_at, sum_at};
 use orc_plan::Placed;
+use orc_program::Pattern;
 use std::alloc::{AllocError, Global};
 use x86_ins::{Addr, Ins, InsList, MoveOp, Xmm};
 
@@ -20,6 +21,8 @@ pub struct Seats<'t> {
     pub places: &'t [u8],
     /// The number of running sums, behind which patterns are residents.
     pub sums: u8,
+    /// The patterns.
+    pub patterns: &'t [Pattern],
 }
 
 /// The larger of two places.
@@ -90,12 +93,13 @@ fn slot_of_pattern(layout: &Layout, pattern: usize) -> Addr
 }
 
 /// Where values with these places stand, and the patterns of a layout.
-pub fn seats_by<'t>(places: &'t [u8], layout: &Layout) -> Seats<'t>
+pub fn seats_by<'t>(places: &'t [u8], layout: &'t Layout) -> Seats<'t>
     ensures { seats_in result ≡ seats_with layout.now places.now }
 {
     Seats {
         places,
         sums: layout.acc_sizes.len() as u8,
+        patterns: layout.patterns.as_slice(),
     }
 }
 

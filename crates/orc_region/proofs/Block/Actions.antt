@@ -1,5 +1,5 @@
 -- Blocks of actions do so many elements at once as emulation does them one by one.
-use Rattle.std.proofs.Common.{◌≡◌, ◌≢◌, ℕ, suc, ◌+◌, ◌-◌, ◌*◌, ◌%◌, ◌^◌, ◌<◌, ◌≤◌, Bool, true, false, max, if◌then◌else◌, List, [], ◌∷◌, ◌++◌, get_or, Some, is_some, refl, sym, ap, ap₂, ◌∙◌, subst, arith, le_trans, map, append-nil, inl, inr, ⊎_elim}
+use Rattle.std.proofs.Common.{◌||◌, ◌≡◌, ◌≢◌, ℕ, suc, ◌+◌, ◌-◌, ◌*◌, ◌%◌, ◌^◌, ◌<◌, ◌≤◌, Bool, true, false, max, if◌then◌else◌, List, [], ◌∷◌, ◌++◌, get_or, Option, None, Some, is_some, refl, sym, ap, ap₂, ◌∙◌, subst, arith, le_trans, map, append-nil, inl, inr, ⊎_elim}
 use Rattle.std.proofs.lemmas.Bool.{cases_eq}
 use Rattle.std.proofs.Math.Nat.{le-max_left, le-max_right, mul-le-mul_left, mul-le-mul_right, mod-eq_of_lt, mod-mod}
 use Rattle.orc_bits.specs.Numbers.{cut}
@@ -26,7 +26,7 @@ use Rattle.x86_flow.specs.Moves.{IsWidth, away, load_far_code, store_either_code
 use Rattle.x86_flow.specs.Does.{Line}
 use Rattle.x86_flow.proofs.Moves.{IsFill, line_append, load_line_at, store_either_line}
 use Rattle.x86_flow.proofs.Plans.{rule_line}
-use Rattle.sse_laws.specs.Meets.{Meets, widest, size_beside, is_shift, second_of, results_at}
+use Rattle.sse_laws.specs.Meets.{widest, size_beside, is_shift, second_of, results_at}
 use Rattle.sse_acc.specs.Sums.{AddsUp, sum_below, sum_of}
 use Rattle.sse_acc.specs.Sums.{number_of as adds_number}
 use Rattle.sse_acc.proofs.Totals.{sum_below-same}
@@ -34,7 +34,7 @@ use Rattle.orc_program.specs.Meaning.{sub_lane, pack}
 use Rattle.orc_frame.specs.Layout.{pattern_slot, sum_slot, frame_size, spill_slot}
 use Rattle.orc_program.specs.Need.{registers}
 use Rattle.orc_frame.specs.Parts.{InChanged}
-use Rattle.orc_region.specs.Code.{Action, IsRule, Source, FromArray, FromPattern, FromResident, FromPlace, FromSlot, Target, ToArray, ToSum, ToResident, ToPlace, ToSlot, pointer, place_register, resident_register, slot_place, made_in, first_register, second_register, third_register, sum_home, rule_register, rule_code, source_far_code, brought, sources_far_code, sum_code, result_far_code, results_far_code, action_code, action_far_code}
+use Rattle.orc_region.specs.Code.{Action, spares_second, IsRule, Source, FromArray, FromPattern, FromResident, FromPlace, FromSlot, Target, ToArray, ToSum, ToResident, ToPlace, ToSlot, pointer, place_register, resident_register, slot_place, made_in, first_register, second_register, third_register, sum_home, rule_register, rule_code, source_far_code, brought, sources_far_code, sum_code, result_far_code, results_far_code, action_code, action_far_code}
 use Rattle.orc_region.specs.Elements.{sum_byte}
 use Rattle.orc_region.proofs.Block.RuleRegisters.{register_0, register_1, register_one, register_place, adds_renamed, adding_register, resident_0, resident_1, resident_2, resident_grown, resident_kept, seen}
 use Rattle.orc_region.proofs.Block.Sums.{IsResident, IsFramed, SameSums, byte_register, byte_slot, byte_same, SourceWithin, TargetWithin, IsClear, clear_of}
@@ -42,7 +42,8 @@ use Rattle.orc_region.proofs.Block.Registers.{not_0}
 use Rattle.orc_region.proofs.Arithmetic.Digits.{digit, digit_small, byte_split, byte_within, byte_further}
 use Rattle.orc_region.proofs.Arithmetic.SubLanes.{lane_sub_lane, packed_bytes}
 use Rattle.orc_region.proofs.Checked.Sized.{one_shift, shift_two}
-use Rattle.orc_region.proofs.Block.Cells.{Numbers, OfDests, Local, given_by, given, adds_to, results_add, live_target, live_targets, live_act, Lanes, Others, AtElements, IsOf, IsTo, IsFrom, IsBeside, AreFrom, IsMade, AreMade, AreTo, IsKept, IsKnown, Separate, Low, set_local, set_target, set_results, value_of, local_act, adds, store_lanes, store_others}
+use Rattle.orc_region.proofs.Block.Cells.{Numbers, OfDests, Local, given_by, given, adds_to, results_add, live_target, live_targets, live_act, Lanes, Others, AtElements, IsOf, IsTo, IsFrom, IsBeside, IsNumber, IsCounted, AreFrom, IsMade, AreMade, AreTo, IsKept, IsKnown, Separate, Low, set_local, set_target, set_results, value_of, local_act, adds, store_lanes, store_others}
+use Rattle.orc_region.proofs.Block.Meeting.{results_by, Meeting, meeting}
 use Rattle.orc_region.proofs.Block.Keeping.{line_bounded, each_front, each_back}
 use Rattle.orc_region.proofs.Block.Places.{held, held_register, held_slot, held_same, held_beside}
 use Rattle.orc_region.proofs.Block.Frames.{IsFrame, Framed, framed_same, framed_totals, framed_spilled, framed_grown, load_slot, store_slot, pattern_lane, same_sum, no_sum, adds_all, sum_both}
@@ -67,7 +68,7 @@ pub record IsFit (count : ℕ) (size : ℕ → ℕ) (a : Action) : Type 0 where
   pub to : Each (IsMovedTo count size) a.to
   pub sources : Each (IsMovedFrom count size) a.sources
   pub lanes : count * a.prefix * widest a.op ≤ 16
-  pub rule : IsRule count a.op a.rule
+  pub rule : IsRule count a.op a.by a.rule
   pub known : Each IsIns (action_code count size a)
 
 lane_fits : (q count w : ℕ) → q < count → count * w ≤ 16 → q * w + w ≤ 16
@@ -412,20 +413,20 @@ module _ (n : ℕ) (base size : ℕ → ℕ) (P : ℕ → Type 0) (numbers : Num
   abbrev made : Op → Local → List Source → ℕ → ℕ × ℕ
   made op l ss p = formula op ((given numbers.number op l ss).0 p) ((given numbers.number op l ss).1 p)
 
-  -- the registers hold an action's sources
-  abbrev Values : Op → ℕ → List Source → (ℕ → Local) → (ℕ → List ℕ) → Type 0
-  Values op prefix ss sig x = (q : ℕ) → q < count → (p : ℕ) → p < prefix → results_at op (q * prefix + p) x ≡ made op (sig q) ss p
+  -- the registers hold an action's sources, but for a count that the rule has in itself
+  abbrev Values : Option ℕ → Op → ℕ → List Source → (ℕ → Local) → (ℕ → List ℕ) → Type 0
+  Values by op prefix ss sig x = (q : ℕ) → q < count → (p : ℕ) → p < prefix → results_by by op (q * prefix + p) x ≡ made op (sig q) ss p
 
   abbrev pub Fits : Op → ℕ → Type 0
   Fits op prefix = (q : ℕ) → q < count → (p : ℕ) → p < prefix → (q * prefix + p) * widest op + widest op ≤ 16
 
   -- what the loads of an action's sources to registers a and b leave
-  record Read (op : Op) (prefix : ℕ) (ss : List Source) (sig : ℕ → Local) (a b : ℕ) (c d : Core) : Type 0 where
+  record Read (by : Option ℕ) (op : Op) (prefix : ℕ) (ss : List Source) (sig : ℕ → Local) (a b : ℕ) (c d : Core) : Type 0 where
     memory : d.memory ≡ c.memory
     gpr : (r : ℕ) → r ≢ 0 → d.gpr r ≡ c.gpr r
     others : (y : ℕ) → y ≢ a → y ≢ b → d.xmm y ≡ c.xmm y
     bounded : Bounded d
-    value : (x : ℕ → List ℕ) → x 0 ≡ d.xmm a → x 1 ≡ d.xmm b → Values op prefix ss sig x
+    value : (x : ℕ → List ℕ) → x 0 ≡ d.xmm a → x 1 ≡ d.xmm b → Values by op prefix ss sig x
 
   -- the elements of sources fit into a register
   pub record Room (op : Op) (prefix : ℕ) : Type 0 where
@@ -449,7 +450,7 @@ module _ (n : ℕ) (base size : ℕ → ℕ) (P : ℕ → Type 0) (numbers : Num
   sources_line : (one two : Bool) (i : ℕ) (op : Op) (prefix : ℕ) (ss : List Source) (ts : List Target) (c : Core) (live : ℕ → ℕ) (sig : ℕ → Local) (totals : ℕ → ℕ) → AreFrom n base size P numbers live op prefix ss → Each (IsKept n base size P numbers ts) ss → first_register ts ≢ second_register ts → IsClear numbers.last ts
       → Fits op prefix → Room op prefix → Each (IsMovedFrom count size) ss → Each IsIns (sources_far_code one two count size far (first_register ts) (second_register ts) ss) → i + count ≤ n
       → Points i c.gpr → c.gpr 4 ≡ rsp → Lanes n base size P i count c.memory sig → Framed numbers rsp c totals → AreAt one two op prefix live sig ts c ss → Bounded c → Stays c
-      → (d : Core) × Line Q (sources_far_code one two count size far (first_register ts) (second_register ts) ss) c d × Read op prefix ss sig (first_register ts) (second_register ts) c d
+      → (d : Core) × Line Q (sources_far_code one two count size far (first_register ts) (second_register ts) ss) c d × Read None op prefix ss sig (first_register ts) (second_register ts) c d
   sources_line one two i op prefix [] ts c live sig totals known kept apart clear fits room wide ins w at stack h framed stand bound stays = absurd known
   sources_line one two i op prefix (s ∷ []) ts c live sig totals known kept apart clear fits room wide ins w at stack h framed stand bound stays =
       let a = first_register ts in
@@ -494,6 +495,42 @@ module _ (n : ℕ) (base size : ℕ → ℕ) (P : ℕ → Type 0) (numbers : Num
           value = λ v e0 e1 q l p lp.
               second_value op prefix t live sig v known.1 known.2 (subst (InRegister (size_of_source op 1) prefix sig t) (sym e1) (y.2.lanes (bd.xmm e))) q l p lp (fits q l p lp) (lane (size_of_source op 0) (q * prefix + p) (v 0))
               ∙ first_value op prefix s live sig (v 0) known.0 (subst (InRegister (size_of_source op 0) prefix sig s) (sym e0) first) q l p lp (fits q l p lp) (given_by numbers.number (size_of_source op 1) (sig q) t p);
+        },
+      )
+
+  number_given : (m w : ℕ) (l : Local) (t : Source) (p : ℕ) → IsNumber n base size P numbers m t → given_by numbers.number w l t p ≡ m
+  number_given m w l (FromArray k) p h = absurd h
+  number_given m w l (FromPattern j) p h = h
+  number_given m w l (FromResident j g) p h = h
+  number_given m w l (FromPlace k) p h = absurd h
+  number_given m w l (FromSlot k) p h = absurd h
+
+  -- the same where the rule may have the second source in itself
+  sources_line_by : (by : Option ℕ) (one two : Bool) (i : ℕ) (op : Op) (prefix : ℕ) (ss : List Source) (ts : List Target) (c : Core) (live : ℕ → ℕ) (sig : ℕ → Local) (totals : ℕ → ℕ) → IsCounted n base size P numbers by ss → AreFrom n base size P numbers live op prefix ss → Each (IsKept n base size P numbers ts) ss → first_register ts ≢ second_register ts
+      → IsClear numbers.last ts → Fits op prefix → Room op prefix → Each (IsMovedFrom count size) ss → Each IsIns (sources_far_code one (is_some by || two) count size far (first_register ts) (second_register ts) ss) → i + count ≤ n
+      → Points i c.gpr → c.gpr 4 ≡ rsp → Lanes n base size P i count c.memory sig → Framed numbers rsp c totals → AreAt one two op prefix live sig ts c ss → Bounded c → Stays c
+      → (d : Core) × Line Q (sources_far_code one (is_some by || two) count size far (first_register ts) (second_register ts) ss) c d × Read by op prefix ss sig (first_register ts) (second_register ts) c d
+  sources_line_by None one two i op prefix ss ts c live sig totals counted known kept apart clear fits room wide ins w at stack h framed stand bound stays =
+      sources_line one two i op prefix ss ts c live sig totals known kept apart clear fits room wide ins w at stack h framed stand bound stays
+  sources_line_by (Some m) one two i op prefix [] ts c live sig totals counted known kept apart clear fits room wide ins w at stack h framed stand bound stays = absurd counted
+  sources_line_by (Some m) one two i op prefix (s ∷ []) ts c live sig totals counted known kept apart clear fits room wide ins w at stack h framed stand bound stays = absurd counted
+  sources_line_by (Some m) one two i op prefix (s ∷ t ∷ more) ts c live sig totals counted known kept apart clear fits room wide ins w at stack h framed stand bound stays =
+      let a = first_register ts in
+      let code = brought one (source_far_code count size far a s) in
+      let x = bring_source one i s (size_of_source op 0) prefix a c live sig totals known.0 wide.0 w at stack h framed stand.0 (first_room op prefix s room) bound stays in
+      let d = x.0 in
+      let line : Line Q (code ++ []) c d = subst (λ l. Line Q l c d) (sym (append-nil code)) x.1 in
+      let b = line_bounded Q (code ++ []) c d ins line bound in (
+        d,
+        line,
+        record {
+          memory = x.2.memory;
+          gpr = x.2.gpr;
+          others = λ y na nb. x.2.others y na;
+          bounded = b;
+          value = λ v e0 e1 q l p lp.
+              ap (formula op (lane (size_of_source op 0) (q * prefix + p) (v 0))) (sym (number_given m (size_of_source op 1) (sig q) t p counted))
+              ∙ first_value op prefix s live sig (v 0) known.0 (subst (InRegister (size_of_source op 0) prefix sig s) (sym e0) (x.2.lanes (b.xmm a))) q l p lp (fits q l p lp) (given_by numbers.number (size_of_source op 1) (sig q) t p);
         },
       )
 
@@ -713,12 +750,12 @@ module _ (n : ℕ) (base size : ℕ → ℕ) (P : ℕ → Type 0) (numbers : Num
       )
 
   -- a rule that computes leaves its results in the registers that they go to
-  computed_line : (op : Op) (prefix : ℕ) (ss : List Source) (ts : List Target) (rule : List Ins) (c : Core) (live : ℕ → ℕ) (sig : ℕ → Local) → Meets op rule → first_register ts ≢ second_register ts → third_register ts ≡ 2 → IsClear numbers.last ts → Fits op prefix
-      → Values op prefix ss sig (λ r. c.xmm (rule_register ts r)) → Bounded c → Stays c → Remains ts live sig c
+  computed_line : (by : Option ℕ) (op : Op) (prefix : ℕ) (ss : List Source) (ts : List Target) (rule : List Ins) (c : Core) (live : ℕ → ℕ) (sig : ℕ → Local) → Meeting by op rule → first_register ts ≢ second_register ts → third_register ts ≡ 2 → IsClear numbers.last ts → Fits op prefix
+      → Values by op prefix ss sig (λ r. c.xmm (rule_register ts r)) → Bounded c → Stays c → Remains ts live sig c
       → Line Q (map (renamed (rule_register ts)) rule) c (with_lanes c (after (map (renamed (rule_register ts)) rule) c.xmm))
       × Holds op prefix (λ q. made op (sig q) ss) (after (map (renamed (rule_register ts)) rule) c.xmm) (first_register ts) (second_register ts)
       × Remains ts live sig (with_lanes c (after (map (renamed (rule_register ts)) rule) c.xmm)) × SameSums numbers.last rsp c (with_lanes c (after (map (renamed (rule_register ts)) rule) c.xmm))
-  computed_line op prefix ss ts rule c live sig meets apart third clear fits value bound stays remains =
+  computed_line by op prefix ss ts rule c live sig meets apart third clear fits value bound stays remains =
       let f : ℕ → ℕ = rule_register ts in
       let list = map (renamed f) rule in
       let x : ℕ → List ℕ = λ r. c.xmm (f r) in
@@ -754,7 +791,7 @@ module _ (n : ℕ) (base size : ℕ → ℕ) (P : ℕ → Type 0) (numbers : Num
   abbrev amount : Op → ℕ → List Source → (ℕ → Local) → ℕ
   amount op prefix ss sig = sum_below count (λ q. (packed op prefix (made op (sig q) ss)).0)
 
-  amount_is : (op : Op) (prefix : ℕ) (ss : List Source) (sig : ℕ → Local) (x y : ℕ → List ℕ) → prefix ≡ 1 → y 0 ≡ x 0 → y 1 ≡ x 1 → Values op prefix ss sig x → sum_below count (λ q. adds_number op q y) ≡ amount op prefix ss sig
+  amount_is : (op : Op) (prefix : ℕ) (ss : List Source) (sig : ℕ → Local) (x y : ℕ → List ℕ) → prefix ≡ 1 → y 0 ≡ x 0 → y 1 ≡ x 1 → Values None op prefix ss sig x → sum_below count (λ q. adds_number op q y) ≡ amount op prefix ss sig
   amount_is op prefix ss sig x y one e f value = sum_below-same count (λ q. adds_number op q y) (λ q. (packed op prefix (made op (sig q) ss)).0) (λ q l.
       ap (λ (z : ℕ × ℕ). z.0) (same_results op q y x e f ∙ ap (λ t. results_at op t x) (sym (one_lane q prefix one)) ∙ value q l 0 (omega (arith, one)))
       ∙ sym (one_pack (size_of_result op 0) prefix (λ p. (made op (sig q) ss p).0) one))
@@ -766,7 +803,7 @@ module _ (n : ℕ) (base size : ℕ → ℕ) (P : ℕ → Type 0) (numbers : Num
   store_sum g = VecStore Movdqu 2 (away 4 (sum_slot g))
 
   -- the sum after the rule
-  grows : (op : Op) (prefix : ℕ) (ss : List Source) (sig : ℕ → Local) (rule : List Ins) (g : ℕ) (running : List ℕ) (x y : ℕ → List ℕ) → numbers.width g ≡ size_of_result op 0 → prefix ≡ 1 → AddsUp op count rule → Values op prefix ss sig x
+  grows : (op : Op) (prefix : ℕ) (ss : List Source) (sig : ℕ → Local) (rule : List Ins) (g : ℕ) (running : List ℕ) (x y : ℕ → List ℕ) → numbers.width g ≡ size_of_result op 0 → prefix ≡ 1 → AddsUp op count rule → Values None op prefix ss sig x
       → y 0 ≡ x 0 → y 1 ≡ x 1 → ((b : ℕ) → b < 16 → get_or (y 2) b 0 ≡ get_or running b 0) → ((r : ℕ) → AreBytes (y r))
       → cut (8 * numbers.width g) (sum_of (numbers.width g) (after rule y 2)) ≡ cut (8 * numbers.width g) (sum_of (numbers.width g) running + amount op prefix ss sig)
   grows op prefix ss sig rule g running x y width one adds value e f bytes small =
@@ -778,7 +815,7 @@ module _ (n : ℕ) (base size : ℕ → ℕ) (P : ℕ → Type 0) (numbers : Num
   sum_low g l = omega (arith, ground.frame.low, ground.frame.few_sums, l)
 
   sum_line : (i : ℕ) (op : Op) (prefix : ℕ) (ss : List Source) (rule : List Ins) (g : ℕ) (c : Core) (first : Memory) (live : ℕ → ℕ) (sig : ℕ → Local) (totals : ℕ → ℕ) → g < numbers.sums → IsFramed numbers.last g → numbers.width g ≡ size_of_result op 0 → prefix ≡ 1 → AddsUp op count rule → i + count ≤ n
-      → c.gpr 4 ≡ rsp → Lanes n base size P i count c.memory sig → Framed numbers rsp c totals → Standing live sig c → Values op prefix ss sig c.xmm → Bounded c → Each IsIns (load_sum g ∷ []) → Rest i first c.memory → Keeps i c.gpr first
+      → c.gpr 4 ≡ rsp → Lanes n base size P i count c.memory sig → Framed numbers rsp c totals → Standing live sig c → Values None op prefix ss sig c.xmm → Bounded c → Each IsIns (load_sum g ∷ []) → Rest i first c.memory → Keeps i c.gpr first
       → (d : Core) × Line Q (load_sum g ∷ (rule ++ store_sum g ∷ [])) c d × Wrote i op prefix (ToSum g ∷ []) (λ q. packed op prefix (made op (sig q) ss)) live sig totals first c d
   sum_line i op prefix ss rule g c first live sig totals lg slot width one adds w stack h framed stand value bound ins o keeps =
       let stays = stay i c c.gpr first (λ r ne. refl) o keeps in
@@ -816,7 +853,7 @@ module _ (n : ℕ) (base size : ℕ → ℕ) (P : ℕ → Type 0) (numbers : Num
 
   -- a running sum that stands in a register: the rule adds to it there
   resident_line : (i : ℕ) (op : Op) (prefix : ℕ) (ss : List Source) (rule : List Ins) (g : ℕ) (c : Core) (first : Memory) (live : ℕ → ℕ) (sig : ℕ → Local) (totals : ℕ → ℕ) → g < numbers.sums → IsResident numbers.last g → numbers.width g ≡ size_of_result op 0 → prefix ≡ 1 → AddsUp op count rule
-      → Lanes n base size P i count c.memory sig → Framed numbers rsp c totals → Standing live sig c → Values op prefix ss sig c.xmm → Bounded c → Rest i first c.memory → Keeps i c.gpr first
+      → Lanes n base size P i count c.memory sig → Framed numbers rsp c totals → Standing live sig c → Values None op prefix ss sig c.xmm → Bounded c → Rest i first c.memory → Keeps i c.gpr first
       → (d : Core) × Line Q (map (renamed (rule_register (ToResident g ∷ []))) rule) c d × Wrote i op prefix (ToResident g ∷ []) (λ q. packed op prefix (made op (sig q) ss)) live sig totals first c d
   resident_line i op prefix ss rule g c first live sig totals lg register width one adds h framed stand value bound o keeps =
       let list = map (renamed (adding_register g)) rule in
@@ -847,11 +884,15 @@ module _ (n : ℕ) (base size : ℕ → ℕ) (P : ℕ → Type 0) (numbers : Num
 
   -- ---- an action
 
-  abbrev Known : Op → ℕ → List Source → List Target → (ℕ → Local) → (ℕ → List ℕ) → Type 0
-  Known op prefix ss ts sig y = (x : ℕ → List ℕ) → x 0 ≡ y (first_register ts) → x 1 ≡ y (second_register ts) → Values op prefix ss sig x
+  abbrev Known : Option ℕ → Op → ℕ → List Source → List Target → (ℕ → Local) → (ℕ → List ℕ) → Type 0
+  Known by op prefix ss ts sig y = (x : ℕ → List ℕ) → x 0 ≡ y (first_register ts) → x 1 ≡ y (second_register ts) → Values by op prefix ss sig x
 
-  in_rule : (op : Op) (prefix : ℕ) (ss : List Source) (ts : List Target) (sig : ℕ → Local) (y : ℕ → List ℕ) → first_register ts ≢ second_register ts → Known op prefix ss ts sig y → Values op prefix ss sig (λ r. y (rule_register ts r))
-  in_rule op prefix ss ts sig y apart value = value (λ r. y (rule_register ts r)) (ap y (register_0 ts)) (ap y (register_1 ts apart))
+  in_rule : (by : Option ℕ) (op : Op) (prefix : ℕ) (ss : List Source) (ts : List Target) (sig : ℕ → Local) (y : ℕ → List ℕ) → first_register ts ≢ second_register ts → Known by op prefix ss ts sig y → Values by op prefix ss sig (λ r. y (rule_register ts r))
+  in_rule by op prefix ss ts sig y apart value = value (λ r. y (rule_register ts r)) (ap y (register_0 ts)) (ap y (register_1 ts apart))
+
+  -- a rule that adds has no count in itself
+  in_registers : (by : Option ℕ) → by ≡ None → (op : Op) (prefix : ℕ) (ss : List Source) (sig : ℕ → Local) (x : ℕ → List ℕ) → Values by op prefix ss sig x → Values None op prefix ss sig x
+  in_registers by e op prefix ss sig x = subst (λ b. Values b op prefix ss sig x) e
 
   -- where a result is no running sum the rule's XMM2 keeps its name
   third_of : (bytes : ℕ) (t : Target) → IsMade n base size P numbers bytes t → sum_home t ≡ 2
@@ -862,57 +903,57 @@ module _ (n : ℕ) (base size : ℕ → ℕ) (P : ℕ → Type 0) (numbers : Num
   third_of bytes (ToSlot k) o = refl
 
   -- the rule, and the store of one result
-  one_finish : (i : ℕ) (op : Op) (prefix : ℕ) (ss : List Source) (rule : List Ins) (t : Target) (c : Core) (first : Memory) (live : ℕ → ℕ) (sig : ℕ → Local) (totals : ℕ → ℕ) → AreMade n base size P numbers op prefix (t ∷ []) → Meets op rule → made_in 0 t ≢ 1 → IsClear numbers.last (t ∷ []) → IsMovedTo count size t → Fits op prefix
-      → i + count ≤ n → Points i c.gpr → c.gpr 4 ≡ rsp → Lanes n base size P i count c.memory sig → Framed numbers rsp c totals → Remains (t ∷ []) live sig c → Known op prefix ss (t ∷ []) sig c.xmm → Bounded c → Rest i first c.memory → Keeps i c.gpr first
+  one_finish : (i : ℕ) (by : Option ℕ) (op : Op) (prefix : ℕ) (ss : List Source) (rule : List Ins) (t : Target) (c : Core) (first : Memory) (live : ℕ → ℕ) (sig : ℕ → Local) (totals : ℕ → ℕ) → AreMade n base size P numbers op prefix (t ∷ []) → Meeting by op rule → made_in 0 t ≢ 1 → IsClear numbers.last (t ∷ []) → IsMovedTo count size t → Fits op prefix
+      → i + count ≤ n → Points i c.gpr → c.gpr 4 ≡ rsp → Lanes n base size P i count c.memory sig → Framed numbers rsp c totals → Remains (t ∷ []) live sig c → Known by op prefix ss (t ∷ []) sig c.xmm → Bounded c → Rest i first c.memory → Keeps i c.gpr first
       → (d : Core) × Line Q (map (renamed (rule_register (t ∷ []))) rule ++ result_far_code count size far aligned 0 t) c d × Wrote i op prefix (t ∷ []) (λ q. packed op prefix (made op (sig q) ss)) live sig totals first c d
-  one_finish i op prefix ss rule t c first live sig totals known meets apart clear wide fits w at stack h framed remains value bound o keeps =
+  one_finish i by op prefix ss rule t c first live sig totals known meets apart clear wide fits w at stack h framed remains value bound o keeps =
       let ts = t ∷ [] in
       let list = map (renamed (rule_register ts)) rule in
-      let x = computed_line op prefix ss ts rule c live sig meets apart (third_of (size_of_result op 0 * prefix) t known.0) clear fits (in_rule op prefix ss ts sig c.xmm apart value) bound (stay i c c.gpr first (λ r ne. refl) o keeps) remains in
+      let x = computed_line by op prefix ss ts rule c live sig meets apart (third_of (size_of_result op 0 * prefix) t known.0) clear fits (in_rule by op prefix ss ts sig c.xmm apart value) bound (stay i c c.gpr first (λ r ne. refl) o keeps) remains in
       let u : Core = with_lanes c (after list c.xmm) in
       let s = one_result_line i op prefix (λ q. made op (sig q) ss) t u first live sig totals known.0 wide w at stack h (framed_same numbers rsp ground.frame c u totals (λ y l m. refl) x.3 framed) x.1 x.2 o keeps in
       (s.0, line_append Q list (result_far_code count size far aligned 0 t) c u s.0 x.0 s.1, record { gpr = s.2.gpr; lanes = s.2.lanes; standing = s.2.standing; framed = s.2.framed; others = s.2.others })
 
   -- the same with two
-  two_finish : (i : ℕ) (op : Op) (prefix : ℕ) (ss : List Source) (rule : List Ins) (t u : Target) (more : List Target) (c : Core) (first : Memory) (live : ℕ → ℕ) (sig : ℕ → Local) (totals : ℕ → ℕ) → AreMade n base size P numbers op prefix (t ∷ u ∷ more) → Meets op rule → made_in 0 t ≢ made_in 1 u → IsClear numbers.last (t ∷ u ∷ more)
-      → IsMovedTo count size t → IsMovedTo count size u → Fits op prefix → i + count ≤ n → Points i c.gpr → c.gpr 4 ≡ rsp → Lanes n base size P i count c.memory sig → Framed numbers rsp c totals → Remains (t ∷ u ∷ more) live sig c → Known op prefix ss (t ∷ u ∷ more) sig c.xmm → Bounded c → Rest i first c.memory → Keeps i c.gpr first
+  two_finish : (i : ℕ) (by : Option ℕ) (op : Op) (prefix : ℕ) (ss : List Source) (rule : List Ins) (t u : Target) (more : List Target) (c : Core) (first : Memory) (live : ℕ → ℕ) (sig : ℕ → Local) (totals : ℕ → ℕ) → AreMade n base size P numbers op prefix (t ∷ u ∷ more) → Meeting by op rule → made_in 0 t ≢ made_in 1 u → IsClear numbers.last (t ∷ u ∷ more)
+      → IsMovedTo count size t → IsMovedTo count size u → Fits op prefix → i + count ≤ n → Points i c.gpr → c.gpr 4 ≡ rsp → Lanes n base size P i count c.memory sig → Framed numbers rsp c totals → Remains (t ∷ u ∷ more) live sig c → Known by op prefix ss (t ∷ u ∷ more) sig c.xmm → Bounded c → Rest i first c.memory → Keeps i c.gpr first
       → (d : Core) × Line Q (map (renamed (rule_register (t ∷ u ∷ more))) rule ++ (result_far_code count size far aligned 0 t ++ result_far_code count size far aligned 1 u)) c d × Wrote i op prefix (t ∷ u ∷ more) (λ q. packed op prefix (made op (sig q) ss)) live sig totals first c d
-  two_finish i op prefix ss rule t u more c first live sig totals known meets apart clear wide wide' fits w at stack h framed remains value bound o keeps =
+  two_finish i by op prefix ss rule t u more c first live sig totals known meets apart clear wide wide' fits w at stack h framed remains value bound o keeps =
       let ts = t ∷ u ∷ more in
       let list = map (renamed (rule_register ts)) rule in
       let stores = result_far_code count size far aligned 0 t ++ result_far_code count size far aligned 1 u in
-      let x = computed_line op prefix ss ts rule c live sig meets apart (third_of (size_of_result op 0 * prefix) t known.0) clear fits (in_rule op prefix ss ts sig c.xmm apart value) bound (stay i c c.gpr first (λ r ne. refl) o keeps) remains in
+      let x = computed_line by op prefix ss ts rule c live sig meets apart (third_of (size_of_result op 0 * prefix) t known.0) clear fits (in_rule by op prefix ss ts sig c.xmm apart value) bound (stay i c c.gpr first (λ r ne. refl) o keeps) remains in
       let v : Core = with_lanes c (after list c.xmm) in
       let s = two_results_line i op prefix (λ q. made op (sig q) ss) t u more v first live sig totals known.0 known.2 wide wide' w at stack h (framed_same numbers rsp ground.frame c v totals (λ y l m. refl) x.3 framed) x.1 x.2 o keeps in
       (s.0, line_append Q list stores c v s.0 x.0 s.1, record { gpr = s.2.gpr; lanes = s.2.lanes; standing = s.2.standing; framed = s.2.framed; others = s.2.others })
 
-  finish_line : (i : ℕ) (op : Op) (prefix : ℕ) (ss : List Source) (rule : List Ins) (ts : List Target) (c : Core) (first : Memory) (live : ℕ → ℕ) (sig : ℕ → Local) (totals : ℕ → ℕ) → AreTo n base size P numbers op prefix ts → IsRule count op rule → first_register ts ≢ second_register ts → Each (TargetWithin numbers.last) ts → Each (IsMovedTo count size) ts → Fits op prefix
+  finish_line : (i : ℕ) (by : Option ℕ) (op : Op) (prefix : ℕ) (ss : List Source) (rule : List Ins) (ts : List Target) (c : Core) (first : Memory) (live : ℕ → ℕ) (sig : ℕ → Local) (totals : ℕ → ℕ) → AreTo n base size P numbers op prefix ts → IsRule count op by rule → first_register ts ≢ second_register ts → Each (TargetWithin numbers.last) ts → Each (IsMovedTo count size) ts → Fits op prefix
       → Each IsIns (sum_code ts) → i + count ≤ n → Points i c.gpr → c.gpr 4 ≡ rsp → Lanes n base size P i count c.memory sig → Framed numbers rsp c totals → Remains ts live sig c
-      → ((x : ℕ → List ℕ) → x 0 ≡ c.xmm (first_register ts) → x 1 ≡ c.xmm (second_register ts) → Values op prefix ss sig x) → Bounded c → Rest i first c.memory → Keeps i c.gpr first
+      → ((x : ℕ → List ℕ) → x 0 ≡ c.xmm (first_register ts) → x 1 ≡ c.xmm (second_register ts) → Values by op prefix ss sig x) → Bounded c → Rest i first c.memory → Keeps i c.gpr first
       → (d : Core) × Line Q (sum_code ts ++ (map (renamed (rule_register ts)) rule ++ results_far_code count size far aligned ts)) c d × Wrote i op prefix ts (λ q. packed op prefix (made op (sig q) ss)) live sig totals first c d
-  finish_line i op prefix ss rule [] c first live sig totals known is apart within wide fits ins w at stack h framed remains value bound o keeps = absurd known
-  finish_line i op prefix ss rule (ToSum g ∷ []) c first live sig totals known is apart within wide fits ins w at stack h framed remains value bound o keeps =
-      sum_line i op prefix ss (map (renamed (rule_register (ToSum g ∷ []))) rule) g c first live sig totals known.0 within.0 known.2 known.3 (adds_renamed g op count rule (is.adds known.1)) w stack h framed (λ p l. remains p l (λ e. omega (arith, e)) (λ e. omega (arith, e))) (value c.xmm refl refl) bound ins o keeps
-  finish_line i op prefix ss rule (ToResident g ∷ []) c first live sig totals known is apart within wide fits ins w at stack h framed remains value bound o keeps =
-      resident_end g (resident_line i op prefix ss rule g c first live sig totals known.0 within.0 known.2 known.3 (is.adds known.1) h framed (λ p l. remains p l (λ e. omega (arith, e)) (λ e. omega (arith, e))) (value c.xmm refl refl) bound o keeps)
+  finish_line i by op prefix ss rule [] c first live sig totals known is apart within wide fits ins w at stack h framed remains value bound o keeps = absurd known
+  finish_line i by op prefix ss rule (ToSum g ∷ []) c first live sig totals known is apart within wide fits ins w at stack h framed remains value bound o keeps =
+      sum_line i op prefix ss (map (renamed (rule_register (ToSum g ∷ []))) rule) g c first live sig totals known.0 within.0 known.2 known.3 (adds_renamed g op count rule (is.adds known.1).1) w stack h framed (λ p l. remains p l (λ e. omega (arith, e)) (λ e. omega (arith, e))) (in_registers by (is.adds known.1).0 op prefix ss sig c.xmm (value c.xmm refl refl)) bound ins o keeps
+  finish_line i by op prefix ss rule (ToResident g ∷ []) c first live sig totals known is apart within wide fits ins w at stack h framed remains value bound o keeps =
+      resident_end g (resident_line i op prefix ss rule g c first live sig totals known.0 within.0 known.2 known.3 (is.adds known.1).1 h framed (λ p l. remains p l (λ e. omega (arith, e)) (λ e. omega (arith, e))) (in_registers by (is.adds known.1).0 op prefix ss sig c.xmm (value c.xmm refl refl)) bound o keeps)
     where
       resident_end : (g : ℕ) → (d : Core) × Line Q (map (renamed (rule_register (ToResident g ∷ []))) rule) c d × Wrote i op prefix (ToResident g ∷ []) (λ q. packed op prefix (made op (sig q) ss)) live sig totals first c d
           → (d : Core) × Line Q (map (renamed (rule_register (ToResident g ∷ []))) rule ++ []) c d × Wrote i op prefix (ToResident g ∷ []) (λ q. packed op prefix (made op (sig q) ss)) live sig totals first c d
       resident_end g x = (x.0, subst (λ l. Line Q l c x.0) (sym (append-nil (map (renamed (rule_register (ToResident g ∷ []))) rule))) x.1, x.2)
-  finish_line i op prefix ss rule (ToArray k ∷ []) c first live sig totals known is apart within wide fits ins w at stack h framed remains value bound o keeps =
-      one_finish i op prefix ss rule (ToArray k) c first live sig totals known (is.meets known.1) apart (clear_of numbers.last (ToArray k ∷ []) within) wide.0 fits w at stack h framed remains value bound o keeps
-  finish_line i op prefix ss rule (ToPlace p ∷ []) c first live sig totals known is apart within wide fits ins w at stack h framed remains value bound o keeps =
-      one_finish i op prefix ss rule (ToPlace p) c first live sig totals known (is.meets known.1) apart (clear_of numbers.last (ToPlace p ∷ []) within) wide.0 fits w at stack h framed remains value bound o keeps
-  finish_line i op prefix ss rule (ToSlot k ∷ []) c first live sig totals known is apart within wide fits ins w at stack h framed remains value bound o keeps =
-      one_finish i op prefix ss rule (ToSlot k) c first live sig totals known (is.meets known.1) apart (clear_of numbers.last (ToSlot k ∷ []) within) wide.0 fits w at stack h framed remains value bound o keeps
-  finish_line i op prefix ss rule (ToSum g ∷ t ∷ more) c first live sig totals known is apart within wide fits ins w at stack h framed remains value bound o keeps = absurd known.0
-  finish_line i op prefix ss rule (ToResident g ∷ t ∷ more) c first live sig totals known is apart within wide fits ins w at stack h framed remains value bound o keeps = absurd known.0
-  finish_line i op prefix ss rule (ToArray k ∷ u ∷ more) c first live sig totals known is apart within wide fits ins w at stack h framed remains value bound o keeps =
-      two_finish i op prefix ss rule (ToArray k) u more c first live sig totals known (is.meets known.1) apart (clear_of numbers.last (ToArray k ∷ u ∷ more) within) wide.0 wide.1.0 fits w at stack h framed remains value bound o keeps
-  finish_line i op prefix ss rule (ToPlace p ∷ u ∷ more) c first live sig totals known is apart within wide fits ins w at stack h framed remains value bound o keeps =
-      two_finish i op prefix ss rule (ToPlace p) u more c first live sig totals known (is.meets known.1) apart (clear_of numbers.last (ToPlace p ∷ u ∷ more) within) wide.0 wide.1.0 fits w at stack h framed remains value bound o keeps
-  finish_line i op prefix ss rule (ToSlot k ∷ u ∷ more) c first live sig totals known is apart within wide fits ins w at stack h framed remains value bound o keeps =
-      two_finish i op prefix ss rule (ToSlot k) u more c first live sig totals known (is.meets known.1) apart (clear_of numbers.last (ToSlot k ∷ u ∷ more) within) wide.0 wide.1.0 fits w at stack h framed remains value bound o keeps
+  finish_line i by op prefix ss rule (ToArray k ∷ []) c first live sig totals known is apart within wide fits ins w at stack h framed remains value bound o keeps =
+      one_finish i by op prefix ss rule (ToArray k) c first live sig totals known (meeting by op rule (is.meets known.1)) apart (clear_of numbers.last (ToArray k ∷ []) within) wide.0 fits w at stack h framed remains value bound o keeps
+  finish_line i by op prefix ss rule (ToPlace p ∷ []) c first live sig totals known is apart within wide fits ins w at stack h framed remains value bound o keeps =
+      one_finish i by op prefix ss rule (ToPlace p) c first live sig totals known (meeting by op rule (is.meets known.1)) apart (clear_of numbers.last (ToPlace p ∷ []) within) wide.0 fits w at stack h framed remains value bound o keeps
+  finish_line i by op prefix ss rule (ToSlot k ∷ []) c first live sig totals known is apart within wide fits ins w at stack h framed remains value bound o keeps =
+      one_finish i by op prefix ss rule (ToSlot k) c first live sig totals known (meeting by op rule (is.meets known.1)) apart (clear_of numbers.last (ToSlot k ∷ []) within) wide.0 fits w at stack h framed remains value bound o keeps
+  finish_line i by op prefix ss rule (ToSum g ∷ t ∷ more) c first live sig totals known is apart within wide fits ins w at stack h framed remains value bound o keeps = absurd known.0
+  finish_line i by op prefix ss rule (ToResident g ∷ t ∷ more) c first live sig totals known is apart within wide fits ins w at stack h framed remains value bound o keeps = absurd known.0
+  finish_line i by op prefix ss rule (ToArray k ∷ u ∷ more) c first live sig totals known is apart within wide fits ins w at stack h framed remains value bound o keeps =
+      two_finish i by op prefix ss rule (ToArray k) u more c first live sig totals known (meeting by op rule (is.meets known.1)) apart (clear_of numbers.last (ToArray k ∷ u ∷ more) within) wide.0 wide.1.0 fits w at stack h framed remains value bound o keeps
+  finish_line i by op prefix ss rule (ToPlace p ∷ u ∷ more) c first live sig totals known is apart within wide fits ins w at stack h framed remains value bound o keeps =
+      two_finish i by op prefix ss rule (ToPlace p) u more c first live sig totals known (meeting by op rule (is.meets known.1)) apart (clear_of numbers.last (ToPlace p ∷ u ∷ more) within) wide.0 wide.1.0 fits w at stack h framed remains value bound o keeps
+  finish_line i by op prefix ss rule (ToSlot k ∷ u ∷ more) c first live sig totals known is apart within wide fits ins w at stack h framed remains value bound o keeps =
+      two_finish i by op prefix ss rule (ToSlot k) u more c first live sig totals known (meeting by op rule (is.meets known.1)) apart (clear_of numbers.last (ToSlot k ∷ u ∷ more) within) wide.0 wide.1.0 fits w at stack h framed remains value bound o keeps
 
   -- what an action adds to the totals
   abbrev pub Grown : List Action → (ℕ → Local) → (ℕ → ℕ) → ℕ → ℕ
@@ -934,15 +975,15 @@ module _ (n : ℕ) (base size : ℕ → ℕ) (P : ℕ → Type 0) (numbers : Num
       → Lanes n base size P i count c.memory sig → Framed numbers rsp c totals → AreAt a.takes_first a.takes_second a.op a.prefix live sig a.to c a.sources → Remains a.to less sig c
       → Bounded c → Rest i first c.memory → Keeps i c.gpr first → (d : Core) × Line Q (action_far_code count size far aligned a) c d × After i c d first (live_act less a) (λ q. local_act n base size P numbers a (sig q)) (GrownBy a sig totals)
   action_line i a c first live less sig totals known fit ins_a w at stack h framed there remains bound o keeps =
-      let loads = sources_far_code a.takes_first a.takes_second count size far (first_register a.to) (second_register a.to) a.sources in
+      let loads = sources_far_code a.takes_first (spares_second a) count size far (first_register a.to) (second_register a.to) a.sources in
       let rest = sum_code a.to ++ (rule_code a ++ results_far_code count size far aligned a.to) in
       let stays = stay i c c.gpr first (λ r ne. refl) o keeps in
       let fits : Fits a.op a.prefix = λ q l p lp. lane_fits (q * a.prefix + p) (count * a.prefix) (widest a.op) (byte_within q count a.prefix p l lp) fit.lanes in
       let clear = clear_of numbers.last a.to known.to_within in
-      let x = sources_line a.takes_first a.takes_second i a.op a.prefix a.sources a.to c live sig totals known.sources known.kept known.apart clear fits (room_of a fit.lanes) fit.sources (each_front IsIns loads rest ins_a) w at stack h framed there bound stays in
+      let x = sources_line_by a.by a.takes_first a.takes_second i a.op a.prefix a.sources a.to c live sig totals known.counted known.sources known.kept known.apart clear fits (room_of a fit.lanes) fit.sources (each_front IsIns loads rest ins_a) w at stack h framed there bound stays in
       let e = x.0 in
       let g = x.2 in
-      let s = finish_line i a.op a.prefix a.sources a.rule a.to e first less sig totals known.to fit.rule known.apart known.to_within fit.to fits
+      let s = finish_line i a.by a.op a.prefix a.sources a.rule a.to e first less sig totals known.to fit.rule known.apart known.to_within fit.to fits
       (each_front IsIns (sum_code a.to) (rule_code a ++ results_far_code count size far aligned a.to) (each_back IsIns loads rest ins_a)) w (λ k hk t. (ap (λ y. y + far k) (g.gpr (pointer k) (not_0 k)) ∙ (at k hk t).0, (at k hk t).1)) (g.gpr 4 (λ z. omega (arith, z)) ∙ stack)
       (λ k hk q l r lr. ap (λ f. f (base k + (i + q) * size k + r)) g.memory ∙ h k hk q l r lr) (framed_same numbers rsp ground.frame c e totals (λ y l u. ap (λ f. f y) g.memory) (λ k l. g.others (resident_register k) (λ z. (clear k l).0 (sym z)) (λ z. (clear k l).1 (sym z))) framed)
       (λ p l nf ns. still_there less sig c e p l (g.others (place_register p) (λ z. nf (sym z)) (λ z. ns (sym z))) (λ x a u. ap (λ f. f x) g.memory) (remains p l nf ns)) g.value g.bounded

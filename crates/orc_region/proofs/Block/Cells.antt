@@ -1,5 +1,5 @@
 -- Several elements at once: what is done to whole registers is what is done element by element.
-use Rattle.std.proofs.Common.{◌≡◌, ◌≢◌, ℕ, zero, suc, ◌+◌, ◌-◌, ◌*◌, ◌^◌, ◌<◌, ◌≤◌, ◌==◌, true, false, if◌then◌else◌, List, [], ◌∷◌, Some, sym, ap, ◌∙◌, subst, arith, ◌⊎◌, inl, inr, ⊎_elim}
+use Rattle.std.proofs.Common.{◌≡◌, ◌≢◌, ℕ, zero, suc, ◌+◌, ◌-◌, ◌*◌, ◌^◌, ◌<◌, ◌≤◌, ◌==◌, true, false, if◌then◌else◌, List, [], ◌∷◌, Option, None, Some, sym, ap, ◌∙◌, subst, arith, ◌⊎◌, inl, inr, ⊎_elim}
 use Rattle.std.proofs.lemmas.Bool.{cases_lt}
 use Rattle.orc_bits.specs.Lanes.{change}
 use Rattle.orc_bits.specs.Memory.{Memory}
@@ -176,6 +176,20 @@ module _ (n : ℕ) (base size : ℕ → ℕ) (P : ℕ → Type 0) where
     IsBeside op (FromPlace p) = is_shift (row op).kind ≡ false
     IsBeside op (FromSlot k) = is_shift (row op).kind ≡ false
 
+    -- a second source is the count that the rule has in itself
+    abbrev pub IsNumber : ℕ → Source → Type 0
+    IsNumber m (FromArray k) = ⊥
+    IsNumber m (FromPattern j) = numbers.number j ≡ m
+    IsNumber m (FromResident j g) = numbers.number j ≡ m
+    IsNumber m (FromPlace p) = ⊥
+    IsNumber m (FromSlot k) = ⊥
+
+    abbrev pub IsCounted : Option ℕ → List Source → Type 0
+    IsCounted None ss = Unit {0}
+    IsCounted (Some m) [] = ⊥
+    IsCounted (Some m) (s ∷ []) = ⊥
+    IsCounted (Some m) (s ∷ t ∷ more) = IsNumber m t
+
     -- one or two sources of the opcode's sizes
     abbrev pub AreFrom : (ℕ → ℕ) → Op → ℕ → List Source → Type 0
     AreFrom live op prefix [] = ⊥
@@ -222,6 +236,7 @@ module _ (n : ℕ) (base size : ℕ → ℕ) (P : ℕ → Type 0) where
       pub apart : first_register a.to ≢ second_register a.to
       pub to_within : Each (TargetWithin numbers.last) a.to
       pub from_within : Each (SourceWithin numbers.last) a.sources
+      pub counted : IsCounted a.by a.sources
 
     abbrev pub AllKnown : (ℕ → ℕ) → List Action → Type 0
     AllKnown live [] = Unit {0}

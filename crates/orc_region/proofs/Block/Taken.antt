@@ -184,6 +184,7 @@ module _ (n : ℕ) (base size : ℕ → ℕ) (P : ℕ → Type 0) (numbers : Num
     apart = k.apart;
     to_within = k.to_within;
     from_within = k.from_within;
+    counted = k.counted;
   }
 
   -- so it is where nothing is known any more of places that none of the actions reads

@@ -19,7 +19,7 @@ use Rattle.orc_frame.specs.Layout.{pattern_slot, sum_slot, frame_size, spill_slo
 use Rattle.orc_ops.specs.declared.opcode.Op.{Op}
 use Rattle.orc_ops.specs.Table.{size_of_result, size_of_source}
 use Rattle.orc_region.specs.Stores.{IsMovdquStore}
-use Rattle.orc_region.specs.Code.{Action, IsRule, Source, FromArray, FromPattern, FromResident, FromPlace, FromSlot, Target, ToArray, ToSum, ToResident, ToPlace, ToSlot, pointer, first_register, second_register, rule_register, rule_code, source_far_code, brought, sources_far_code, sum_code, result_far_code, results_far_code, own_names, action_names, action_far_code, named_code, actions_far_code}
+use Rattle.orc_region.specs.Code.{Action, spares_second, IsRule, Source, FromArray, FromPattern, FromResident, FromPlace, FromSlot, Target, ToArray, ToSum, ToResident, ToPlace, ToSlot, pointer, first_register, second_register, rule_register, rule_code, source_far_code, brought, sources_far_code, sum_code, result_far_code, results_far_code, own_names, action_names, action_far_code, named_code, actions_far_code}
 use Rattle.orc_region.proofs.Arithmetic.Digits.{byte_split, byte_further}
 use Rattle.orc_region.proofs.Block.Cells.{Numbers, Low, IsFrom, AreFrom, IsMade, AreTo, IsKnown, AllKnown, live_act}
 use Rattle.orc_region.proofs.Sizes.Bytes.{vectors_of, each_brought}
@@ -124,8 +124,8 @@ all_nowhere [] h = tt
 all_nowhere (i ∷ is) h = (let x = both (is_simd (simd i)) (all_simd is) h in (simd_nowhere i x.0, all_nowhere is x.1))
 
 -- so does a rule
-pub rule_nowhere : (count : ℕ) (a : Action) → IsRule count a.op a.rule → Each GoesNowhere (rule_code a)
-rule_nowhere count a is = all_nowhere (rule_code a) (simd_renamed (rule_register a.to) a.rule ∙ vectors_of count a.op a.rule is)
+pub rule_nowhere : (count : ℕ) (a : Action) → IsRule count a.op a.by a.rule → Each GoesNowhere (rule_code a)
+rule_nowhere count a is = all_nowhere (rule_code a) (simd_renamed (rule_register a.to) a.rule ∙ vectors_of count a.op a.by a.rule is)
 
 -- an instruction of a move of cells; Unaligned is what is known where it's a movdqu store
 abbrev IsMove : ℕ → ℕ → ℕ → Type 0 → Ins → Type 0
@@ -248,8 +248,8 @@ module _ (n : ℕ) (base size : ℕ → ℕ) (P : ℕ → Type 0) (numbers : Num
 
   action_goes : (live : ℕ → ℕ) (a : Action) → IsKnown n base size P numbers live a → IsFit count size a → Each Goes (action_far_code count size far aligned a)
   action_goes live a known fit =
-      each_both Goes (sources_far_code a.takes_first a.takes_second count size far (first_register a.to) (second_register a.to) a.sources) (sum_code a.to ++ (rule_code a ++ results_far_code count size far aligned a.to))
-      (sources_go a.takes_first a.takes_second live a.op a.prefix (first_register a.to) (second_register a.to) a.sources known.sources fit.sources)
+      each_both Goes (sources_far_code a.takes_first (spares_second a) count size far (first_register a.to) (second_register a.to) a.sources) (sum_code a.to ++ (rule_code a ++ results_far_code count size far aligned a.to))
+      (sources_go a.takes_first (spares_second a) live a.op a.prefix (first_register a.to) (second_register a.to) a.sources known.sources fit.sources)
       (finish_goes a.op a.prefix (rule_code a) a.to known.to fit.to (nowhere_goes (rule_code a) (rule_nowhere count a fit.rule)))
 
   goes_renamed : (f : ℕ → ℕ) (is : List Ins) → Each Goes is → Each Goes (map (renamed f) is)

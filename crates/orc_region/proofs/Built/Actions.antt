@@ -1,5 +1,5 @@
 -- Lists that grow by one instruction, by a rule or by an action.
-use Rattle.std.proofs.Common.{◌≡◌, ℕ, suc, ◌+◌, ◌-◌, ◌*◌, ◌<◌, ◌≤◌, Bool, true, false, pos, List, [], ◌∷◌, ◌++◌, length, map, take, drop, get_or, slice_index, Result, Ok, Err, OnOk, refl, sym, ap, ap₂, ◌∙◌, subst, arith, append_assoc}
+use Rattle.std.proofs.Common.{Option, None, is_some, ◌||◌, ◌≡◌, ℕ, suc, ◌+◌, ◌-◌, ◌*◌, ◌<◌, ◌≤◌, Bool, true, false, pos, List, [], ◌∷◌, ◌++◌, length, map, take, drop, get_or, slice_index, Result, Ok, Err, OnOk, refl, sym, ap, ap₂, ◌∙◌, subst, arith, append_assoc}
 use Rattle.std.proofs.lemmas.List.{take_all}
 use Rattle.x86_ins.specs.declared.ins.Addr.{Addr}
 use Rattle.x86_ins.specs.declared.ins.AluOp.TheVariants.{Add, Sub}
@@ -14,13 +14,13 @@ use Rattle.orc_ops.specs.declared.opcode.Op.{Op}
 use Rattle.orc_ops.specs.declared.target.Target.{Target as CodeTarget}
 use Rattle.orc_ops.specs.Table.{row}
 use Rattle.orc_ops.specs.Targets.{class_for}
-use Rattle.sse_laws.specs.Meets.{Meets, is_sum}
+use Rattle.sse_laws.specs.Meets.{is_sum}
 use Rattle.sse_laws.specs.Targets.{IsCodeFor}
 use Rattle.sse_acc.specs.Sums.{AddsUp}
 use Rattle.orc_plan.specs.declared.steps.Item.{Item}
 use Rattle.orc_plan.specs.declared.steps.Step.{Step}
 use Rattle.orc_region.specs.declared.span.Span.{Span}
-use Rattle.orc_region.specs.Code.{Action, Seats, loads_code, resident_load_code, Source, Target, AreBlocks, IsBlocksTurn, used_from, AddsRule, AddsAction, AddsNamed, is_first_taken, is_second_taken, source_names, action_names, named_code, pointer, far_by, aligned_first, source_of, target_of, first_register, second_register, third_register, exchange, rule_register, rule_code, sources_far_code, sum_code, results_far_code, action_far_code, advance_code}
+use Rattle.orc_region.specs.Code.{Action, MeetsBy, count_by, spares_second, Seats, loads_code, resident_load_code, Source, Target, AreBlocks, IsBlocksTurn, used_from, AddsRule, AddsAction, AddsNamed, is_first_taken, is_second_taken, source_names, action_names, named_code, pointer, far_by, aligned_first, source_of, target_of, first_register, second_register, third_register, exchange, rule_register, rule_code, sources_far_code, sum_code, results_far_code, action_far_code, advance_code}
 
 -- what follows from a fact of a success
 pub on_ok : {A E : Type 0} (r : Result A E) (P Q : Type 0) → (P → Q) → OnOk r P → OnOk r Q
@@ -104,26 +104,26 @@ module _ (size : ℕ → ℕ) (span : Span) where
 
   -- sources, a sum, a rule and results make an action
   pub action_added : (seats : Seats) (step : Step) (one two : Bool) (x y : ℕ) (base c1 c2 c3 c4 : List Ins) → x ≡ first_register (map (target_of seats.places) step.results.items) → y ≡ second_register (map (target_of seats.places) step.results.items)
-      → c1 ≡ base ++ sources_far_code one two span.count size (far_by span.first size) x y (map (source_of seats) step.sources.items) → c2 ≡ c1 ++ sum_code (map (target_of seats.places) step.results.items) → AddsRule span.target span.count step.op (map (target_of seats.places) step.results.items) c2 c3
+      → c1 ≡ base ++ sources_far_code one (is_some (count_by seats step.op step.sources.items) || two) span.count size (far_by span.first size) x y (map (source_of seats) step.sources.items) → c2 ≡ c1 ++ sum_code (map (target_of seats.places) step.results.items) → AddsRule span.target span.count step.op (count_by seats step.op step.sources.items) (map (target_of seats.places) step.results.items) c2 c3
       → c4 ≡ c3 ++ results_far_code span.count size (far_by span.first size) (aligned_first span.aligned) (map (target_of seats.places) step.results.items) → AddsAction seats size span step one two base c4
   action_added seats step one two x y base c1 c2 c3 c4 ex ey p q r t =
-      let a : Action = record { op = step.op; prefix = step.prefix; to = map (target_of seats.places) step.results.items; sources = map (source_of seats) step.sources.items; rule = r.0; takes_first = one; takes_second = two } in
-      let loads : c1 ≡ base ++ sources_far_code one two span.count size (far_by span.first size) (first_register a.to) (second_register a.to) a.sources = p ∙ ap₂ (λ x y. base ++ sources_far_code one two span.count size (far_by span.first size) x y a.sources) ex ey in (
+      let a : Action = record { op = step.op; prefix = step.prefix; to = map (target_of seats.places) step.results.items; sources = map (source_of seats) step.sources.items; by = count_by seats step.op step.sources.items; rule = r.0; takes_first = one; takes_second = two } in
+      let loads : c1 ≡ base ++ sources_far_code one (spares_second a) span.count size (far_by span.first size) (first_register a.to) (second_register a.to) a.sources = p ∙ ap₂ (λ x y. base ++ sources_far_code one (spares_second a) span.count size (far_by span.first size) x y a.sources) ex ey in (
         a,
-        record { op = refl; prefix = refl; to = refl; sources = refl; rule = r.1; few = r.2; for_target = r.3 },
+        record { op = refl; prefix = refl; to = refl; sources = refl; by = refl; rule = r.1; few = r.2; for_target = r.3 },
         refl,
         refl,
-        four base (sources_far_code one two span.count size (far_by span.first size) (first_register a.to) (second_register a.to) a.sources) (sum_code a.to) (rule_code a) (results_far_code span.count size (far_by span.first size) (aligned_first span.aligned) a.to) c1 c2 c3 c4 loads q r.4 t,
+        four base (sources_far_code one (spares_second a) span.count size (far_by span.first size) (first_register a.to) (second_register a.to) a.sources) (sum_code a.to) (rule_code a) (results_far_code span.count size (far_by span.first size) (aligned_first span.aligned) a.to) c1 c2 c3 c4 loads q r.4 t,
       )
 
   -- the same where operands are read as slices
-  pub action_of_slices : (seats : Seats) (step : Step) (one two : Bool) (rs ss : List Item) → rs ≡ step.results.items → ss ≡ step.sources.items → (x y : ℕ) (base c1 c2 c3 c4 : List Ins) → x ≡ first_register (map (target_of seats.places) rs) → y ≡ second_register (map (target_of seats.places) rs)
-      → c1 ≡ base ++ sources_far_code one two span.count size (far_by span.first size) x y (map (source_of seats) ss) → c2 ≡ c1 ++ sum_code (map (target_of seats.places) rs) → AddsRule span.target span.count step.op (map (target_of seats.places) rs) c2 c3
+  pub action_of_slices : (seats : Seats) (step : Step) (one two first second : Bool) (rs ss : List Item) → first ≡ one → second ≡ (is_some (count_by seats step.op step.sources.items) || two) → rs ≡ step.results.items → ss ≡ step.sources.items → (x y : ℕ) (base c1 c2 c3 c4 : List Ins) → x ≡ first_register (map (target_of seats.places) rs) → y ≡ second_register (map (target_of seats.places) rs)
+      → c1 ≡ base ++ sources_far_code first second span.count size (far_by span.first size) x y (map (source_of seats) ss) → c2 ≡ c1 ++ sum_code (map (target_of seats.places) rs) → AddsRule span.target span.count step.op (count_by seats step.op step.sources.items) (map (target_of seats.places) rs) c2 c3
       → c4 ≡ c3 ++ results_far_code span.count size (far_by span.first size) (aligned_first span.aligned) (map (target_of seats.places) rs) → AddsAction seats size span step one two base c4
-  action_of_slices seats step one two rs ss er es x y base c1 c2 c3 c4 ex ey p q r t =
+  action_of_slices seats step one two first second rs ss ef en er es x y base c1 c2 c3 c4 ex ey p q r t =
       let to : map (target_of seats.places) rs ≡ map (target_of seats.places) step.results.items = ap (map (target_of seats.places)) er in
-      action_added seats step one two x y base c1 c2 c3 c4 (ex ∙ ap first_register to) (ey ∙ ap second_register to) (p ∙ ap (λ xs. base ++ sources_far_code one two span.count size (far_by span.first size) x y (map (source_of seats) xs)) es)
-      (q ∙ ap (λ ts. c1 ++ sum_code ts) to) (subst (λ ts. AddsRule span.target span.count step.op ts c2 c3) to r) (t ∙ ap (λ ts. c3 ++ results_far_code span.count size (far_by span.first size) (aligned_first span.aligned) ts) to)
+      action_added seats step one two x y base c1 c2 c3 c4 (ex ∙ ap first_register to) (ey ∙ ap second_register to) (p ∙ ap (λ xs. base ++ sources_far_code first second span.count size (far_by span.first size) x y (map (source_of seats) xs)) es ∙ ap₂ (λ u v. base ++ sources_far_code u v span.count size (far_by span.first size) x y (map (source_of seats) step.sources.items)) ef en)
+      (q ∙ ap (λ ts. c1 ++ sum_code ts) to) (subst (λ ts. AddsRule span.target span.count step.op (count_by seats step.op step.sources.items) ts c2 c3) to r) (t ∙ ap (λ ts. c3 ++ results_far_code span.count size (far_by span.first size) (aligned_first span.aligned) ts) to)
 
 -- ---- a rule under other names
 
@@ -132,9 +132,9 @@ names_alike : (f g : ℕ → ℕ) → ((r : ℕ) → r < 16 → f r ≡ g r) →
 names_alike f g same [] h = refl
 names_alike f g same (i ∷ is) h = ap₂ (λ (x : Ins) (y : List Ins). x ∷ y) (renamed_alike f g same i h.0) (names_alike f g same is h.1)
 
-pub rule_added : (target : CodeTarget) (count : ℕ) (op : Op) (ts : List Target) (x y z : ℕ) (map_is : List ℕ) (list old new : List Ins) → x ≡ first_register ts → y ≡ second_register ts → z ≡ third_register ts → ((r : ℕ) → r < 16 → renaming map_is r ≡ exchange 0 x (exchange 1 y (exchange 2 z r)))
-    → (is_sum (row op).kind ≡ false → Meets op list) → (is_sum (row op).kind ≡ true → AddsUp op count list) → length list ≤ class_for op target → IsCodeFor target list → length list ≤ 100 → Each IsIns list → new ≡ old ++ map (renamed (renaming map_is)) list → AddsRule target count op ts old new
-rule_added target count op ts x y z map_is list old new ex ey ez is meets adds few mine short known e = (
+pub rule_added : (target : CodeTarget) (count : ℕ) (op : Op) (by : Option ℕ) (ts : List Target) (x y z : ℕ) (map_is : List ℕ) (list old new : List Ins) → x ≡ first_register ts → y ≡ second_register ts → z ≡ third_register ts → ((r : ℕ) → r < 16 → renaming map_is r ≡ exchange 0 x (exchange 1 y (exchange 2 z r)))
+    → (is_sum (row op).kind ≡ false → MeetsBy by op list) → (is_sum (row op).kind ≡ true → (by ≡ None) × AddsUp op count list) → length list ≤ class_for op target → IsCodeFor target list → length list ≤ 100 → Each IsIns list → new ≡ old ++ map (renamed (renaming map_is)) list → AddsRule target count op by ts old new
+rule_added target count op by ts x y z map_is list old new ex ey ez is meets adds few mine short known e = (
   list,
   record { meets = meets; adds = adds; short = short; known = known },
   few,
@@ -143,7 +143,7 @@ rule_added target count op ts x y z map_is list old new ex ey ez is meets adds f
 )
 
 -- the same where the list is read as a slice
-pub rule_of_slice : (target : CodeTarget) (count : ℕ) (op : Op) (ts : List Target) (x y z : ℕ) (map_is : List ℕ) (list slice old new : List Ins) → slice ≡ list → x ≡ first_register ts → y ≡ second_register ts → z ≡ third_register ts → ((r : ℕ) → r < 16 → renaming map_is r ≡ exchange 0 x (exchange 1 y (exchange 2 z r)))
-    → (is_sum (row op).kind ≡ false → Meets op list) → (is_sum (row op).kind ≡ true → AddsUp op count list) → length list ≤ class_for op target → IsCodeFor target list → length list ≤ 100 → Each IsIns slice → new ≡ old ++ map (renamed (renaming map_is)) slice → AddsRule target count op ts old new
-rule_of_slice target count op ts x y z map_is list slice old new same ex ey ez is meets adds few mine short known e =
-    rule_added target count op ts x y z map_is list old new ex ey ez is meets adds few mine short (subst (Each IsIns) same known) (e ∙ ap (λ l. old ++ map (renamed (renaming map_is)) l) same)
+pub rule_of_slice : (target : CodeTarget) (count : ℕ) (op : Op) (by : Option ℕ) (ts : List Target) (x y z : ℕ) (map_is : List ℕ) (list slice old new : List Ins) → slice ≡ list → x ≡ first_register ts → y ≡ second_register ts → z ≡ third_register ts → ((r : ℕ) → r < 16 → renaming map_is r ≡ exchange 0 x (exchange 1 y (exchange 2 z r)))
+    → (is_sum (row op).kind ≡ false → MeetsBy by op list) → (is_sum (row op).kind ≡ true → (by ≡ None) × AddsUp op count list) → length list ≤ class_for op target → IsCodeFor target list → length list ≤ 100 → Each IsIns slice → new ≡ old ++ map (renamed (renaming map_is)) slice → AddsRule target count op by ts old new
+rule_of_slice target count op by ts x y z map_is list slice old new same ex ey ez is meets adds few mine short known e =
+    rule_added target count op by ts x y z map_is list old new ex ey ez is meets adds few mine short (subst (Each IsIns) same known) (e ∙ ap (λ l. old ++ map (renamed (renaming map_is)) l) same)

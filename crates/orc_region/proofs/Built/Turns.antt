@@ -27,6 +27,8 @@ use Rattle.orc_plan.specs.Places.{GoodPlaces, PlacedValue}
 use Rattle.orc_frame.specs.declared.frame.Layout.{Layout}
 use Rattle.orc_frame.specs.Frame.{IsLayout}
 use Rattle.orc_frame.specs.Layout.{layout_of}
+use Rattle.orc_program.specs.declared.program.Pattern.{Pattern}
+use Rattle.orc_region.proofs.Checked.Layouts.{patterns_are}
 use Rattle.orc_region.specs.Code.{Seats, seats_with, seats_of, IsShare, IsPart, AreParts, ArePartsOf, AreByParts, IsReady, IsBlock, IsBlockBy, IsTurnBy, IsTurnOf, AreWholeTurns, used_from, Turns, AreFromFirst, AreFromBoundary, IsElements, span_of, shift_of, is_filled, fills, blocks_of, turns_flow, from_first, from_boundary, elements_flow, elements_of}
 use Rattle.orc_region.specs.Elements.{AreOf, DoesElements}
 use Rattle.orc_region.specs.Regions.{TurnParts, part_flow, parts_flow, aligned_row, whole_row, plain_row, tested_row, wide_loop, wide_loops}
@@ -92,8 +94,8 @@ ready_slices l count seats seats' sizes sizes' steps steps' a b c h =
 -- a layout's sums are the function's
 seats_are : (f : FunctionValue) (l : Layout) → l ≡ layout_of f → (at : List ℕ) → seats_with l at ≡ seats_of f at
 seats_are f l e at =
-    let behind : ℕ → Seats = λ n. record { places = at; sums = n } in
-    ap behind (ap (λ (y : Layout). length y.acc_sizes.items) e ∙ sums_count f)
+    let behind : ℕ → List Pattern → Seats = λ n patterns. record { places = at; sums = n; patterns = patterns } in
+    ap₂ behind (ap (λ (y : Layout). length y.acc_sizes.items) e ∙ sums_count f) (ap (λ (y : Layout). y.patterns.items) e ∙ patterns_are f)
 
 some_factor : (count s : ℕ) → count * s ≡ 16 → 0 < s
 some_factor count zero e = absurd (omega (arith, e))

@@ -1,5 +1,5 @@
 -- Actions of a function's steps with good places: what emulation, the turn and its code need of them.
-use Rattle.std.proofs.Common.{◌≡◌, ◌≢◌, ℕ, zero, suc, ◌*◌, ◌<◌, ◌≤◌, Bool, true, false, true≢false, if◌then◌else◌, ◌+◌, ◌||◌, ◌&&◌, List, [], ◌∷◌, ◌++◌, length, map, slice_index, get_or, refl, sym, ap, ◌∙◌, subst, arith, ⊎_elim}
+use Rattle.std.proofs.Common.{Option, None, Some, slice_get, ◌≡◌, ◌≢◌, ℕ, zero, suc, ◌*◌, ◌<◌, ◌≤◌, Bool, true, false, true≢false, if◌then◌else◌, ◌+◌, ◌||◌, ◌&&◌, List, [], ◌∷◌, ◌++◌, length, map, slice_index, get_or, refl, sym, ap, ◌∙◌, subst, arith, ⊎_elim}
 use Rattle.std.specs.List.{sum_by}
 use Rattle.std.proofs.lemmas.List.Sums.{sum_by-cons}
 use Rattle.orc_bits.specs.Lanes.{change}
@@ -25,12 +25,17 @@ use Rattle.x86_ins.specs.Way.{Each}
 use Rattle.sse_laws.specs.Meets.{is_sum, widest}
 use Rattle.orc_plan.specs.declared.steps.Step.{Step}
 use Rattle.orc_plan.specs.Lowered.{result_items, source_items, step_of, steps_after, steps_of, sizes_of}
-use Rattle.orc_frame.specs.Frame.{period}
+use Rattle.orc_frame.specs.Frame.{period, no_pattern}
+use Rattle.sse_shift.specs.Shifts.{has_shift}
+use Rattle.std.proofs.lemmas.Option.{get_or_from_slice_get}
+use Rattle.orc_bits.proofs.Memories.{none_some, some_one}
+use Rattle.orc_plan.specs.declared.steps.Item.{Item}
+use Rattle.orc_plan.specs.declared.steps.Item.TheVariants as item
 use Rattle.orc_frame.specs.Layout.{layout_of}
 use Rattle.orc_frame.proofs.Apart.{length-acc_sizes_of}
 use Rattle.orc_program.specs.declared.program.Pattern.{Pattern}
-use Rattle.orc_region.specs.Code.{Action, Source, FromArray, FromPattern, FromResident, FromPlace, FromSlot, Target, ToArray, ToSum, ToResident, ToPlace, ToSlot, slot_place, seats_of, source_of, target_of, IsAction, AreActions, IsLoaded, IsStored, IsReady, patterns_in, first_register, second_register, at_pointer, unaligned, action_code, IsMoved, last_place}
-use Rattle.orc_region.proofs.Block.Cells.{Numbers, IsOf, IsTo, IsFrom, IsBeside, AreFrom, IsMade, AreTo, IsKept, IsKnown, AllKnown, live_target, live_targets, live_act, no_values}
+use Rattle.orc_region.specs.Code.{Action, plain_number, known_number, known_second, count_by, Source, FromArray, FromPattern, FromResident, FromPlace, FromSlot, Target, ToArray, ToSum, ToResident, ToPlace, ToSlot, slot_place, seats_of, source_of, target_of, IsAction, AreActions, IsLoaded, IsStored, IsReady, patterns_in, first_register, second_register, at_pointer, unaligned, action_code, IsMoved, last_place}
+use Rattle.orc_region.proofs.Block.Cells.{Numbers, IsOf, IsTo, IsFrom, IsBeside, IsNumber, IsCounted, AreFrom, IsMade, AreTo, IsKept, IsKnown, AllKnown, live_target, live_targets, live_act, no_values}
 use Rattle.orc_region.proofs.Block.Emulated.{IsCells, IsSum, meant}
 use Rattle.orc_region.proofs.Block.Elements.{IsRead, AreRead, Follows, IsWritten, AreWritten, IsMeant, AreMeant}
 use Rattle.orc_program.proofs.Places.{before_less}
@@ -43,7 +48,7 @@ use Rattle.orc_region.proofs.Sizes.Counts.{IsFromSlot, IsToSlot, IsMovable}
 use Rattle.orc_region.proofs.Sizes.Bytes.{fine_action}
 use Rattle.orc_region.proofs.Checked.Sized.{HasPrefix, first_period, second_period}
 use Rattle.orc_region.proofs.Checked.Direct.{pattern_of, number_of, IsSourced, IsTargeted}
-use Rattle.orc_region.proofs.Block.Sums.{SourceWithin, TargetWithin, sources_within, targets_within}
+use Rattle.orc_region.proofs.Block.Sums.{by_pattern, SourceWithin, TargetWithin, sources_within, targets_within}
 use Rattle.orc_region.proofs.Checked.Acts.{AllPlaced, View, StandsIn, nothing_stands, place_in, AreSourced, AreTargeted, AreFollowed, IsClear, IsPlanned, ArePlanned, are_planned}
 use Rattle.orc_region.proofs.Checked.Layouts.{patterns_are, sizes_are}
 use Rattle.orc_region.proofs.Turn.SameSizes.{SameFrom, SameTo, SameFor}
@@ -277,10 +282,45 @@ module _ (f : FunctionValue) (at : List ℕ) (call : Call) (n : ℕ) (base : ℕ
   kept ts (FromPlace a ∷ ss) h = (h.0, kept ts ss h.1)
   kept ts (FromSlot k ∷ ss) h = (tt, kept ts ss h.1)
 
+  abbrev Counted : Option ℕ → List Source → Type 0
+  Counted = IsCounted n base (size_of_slot f.vars) P Of
+
+  -- a pattern whose number is known
+  number_is : (m : ℕ) (o : Operand) → plain_number o ≡ Some m → meant f call o ≡ m
+  number_is m (operand.Number k) e = some_one k m e
+  number_is m (operand.Var p) e = absurd (none_some e)
+
+  counted_pattern : (m j : ℕ) (p : Option Pattern) → slice_get (patterns_in f) j ≡ p → known_number p ≡ Some m → meant f call (number_of f j) ≡ m
+  counted_pattern m j None there e = absurd (none_some e)
+  counted_pattern m j (Some p) there e = ap (λ (p : Pattern). meant f call p.number) (get_or_from_slice_get (patterns_in f) j p no_pattern there) ∙ number_is m p.number e
+
+  -- a count that a rule has in itself is its second source
+  counted_second : (items : List Item) (m : ℕ) → known_second (patterns_in f) items ≡ Some m → Counted (Some m) (map (source_of (seats_of f at)) items)
+  counted_second [] m e = absurd (none_some e)
+  counted_second (s ∷ []) m e = absurd (none_some e)
+  counted_second (s ∷ item.Value v ∷ []) m e = absurd (none_some e)
+  counted_second (s ∷ item.Array k ∷ []) m e = absurd (none_some e)
+  counted_second (s ∷ item.Acc k w ∷ []) m e = absurd (none_some e)
+  counted_second (s ∷ item.Pattern j ∷ []) m e =
+      let is : meant f call (number_of f j) ≡ m = counted_pattern m j (slice_get (patterns_in f) j) refl e in
+      by_pattern (IsNumber n base (size_of_slot f.vars) P Of m) (seats_of f at) j (λ r. is) (λ r. is)
+  counted_second (s ∷ item.Value v ∷ u ∷ more) m e = absurd (none_some e)
+  counted_second (s ∷ item.Array k ∷ u ∷ more) m e = absurd (none_some e)
+  counted_second (s ∷ item.Acc k w ∷ u ∷ more) m e = absurd (none_some e)
+  counted_second (s ∷ item.Pattern j ∷ u ∷ more) m e = absurd (none_some e)
+
+  counted_at : (op : Op) (items : List Item) (by : Option ℕ) → by ≡ count_by (seats_of f at) op items → Counted by (map (source_of (seats_of f at)) items)
+  counted_at op items None e = tt
+  counted_at op items (Some m) e = go (has_shift op) (sym e)
+    where
+      go : (b : Bool) → (if b then known_second (patterns_in f) items else None) ≡ Some m → Counted (Some m) (map (source_of (seats_of f at)) items)
+      go true e = counted_second items m e
+      go false e = absurd (none_some e)
+
   -- an action of these targets and sources
-  known_with : (live : ℕ → ℕ) (a : Action) (op : Op) (prefix : ℕ) (ts : List Target) (ss : List Source) → a.op ≡ op → a.prefix ≡ prefix → a.to ≡ ts → a.sources ≡ ss
+  known_with : (live : ℕ → ℕ) (a : Action) (op : Op) (prefix : ℕ) (ts : List Target) (ss : List Source) → Counted a.by ss → a.op ≡ op → a.prefix ≡ prefix → a.to ≡ ts → a.sources ≡ ss
       → AreTo n base (size_of_slot f.vars) P Of op prefix ts → AreFrom n base (size_of_slot f.vars) P Of live op prefix ss → Each (IsClear ts) ss → first_register ts ≢ second_register ts → Each (TargetWithin (last_place at)) ts → Each (SourceWithin (last_place at)) ss → Known live a
-  known_with live a op prefix ts ss o k t s to from clear apart to_in from_in = record {
+  known_with live a op prefix ts ss counted o k t s to from clear apart to_in from_in = record {
     to = subst (λ o. AreTo n base (size_of_slot f.vars) P Of o a.prefix a.to) (sym o) (subst (λ k. AreTo n base (size_of_slot f.vars) P Of op k a.to) (sym k) (subst (AreTo n base (size_of_slot f.vars) P Of op prefix) (sym t) to));
     sources = subst (λ o. AreFrom n base (size_of_slot f.vars) P Of live o a.prefix a.sources) (sym o)
         (subst (λ k. AreFrom n base (size_of_slot f.vars) P Of live op k a.sources) (sym k) (subst (AreFrom n base (size_of_slot f.vars) P Of live op prefix) (sym s) from));
@@ -288,11 +328,12 @@ module _ (f : FunctionValue) (at : List ℕ) (call : Call) (n : ℕ) (base : ℕ
     apart = subst (λ (ts : List Target). first_register ts ≢ second_register ts) (sym t) apart;
     to_within = subst (Each (TargetWithin (last_place at))) (sym t) to_in;
     from_within = subst (Each (SourceWithin (last_place at))) (sym s) from_in;
+    counted = subst (Counted a.by) (sym s) counted;
   }
 
   known_one : {target : CodeTarget} (count : ℕ) (live : ℕ → ℕ) (temps : List ℕ) (insn : Insn) (rest : List Insn) (a : Action) → AreSized f (StandsIn at (temps, steps_from f temps (insn ∷ rest))) live → IsPlanned f at temps insn rest → IsAction target (seats_of f at) count (step_at f temps insn) a → Known live a
   known_one count live temps insn rest a sizes d is =
-      known_with live a insn.op insn.prefix (targets_at f at temps insn) (sources_at f at temps insn) is.op is.prefix is.to is.sources (are_to insn.op insn.prefix insn.results.items (targets_at f at temps insn) d.prefix d.to)
+      known_with live a insn.op insn.prefix (targets_at f at temps insn) (sources_at f at temps insn) (counted_at insn.op (source_items f.vars (patterns_in f) temps insn.op 0 insn.sources.items) a.by is.by) is.op is.prefix is.to is.sources (are_to insn.op insn.prefix insn.results.items (targets_at f at temps insn) d.prefix d.to)
       (are_from live temps (steps_from f temps (insn ∷ rest)) sizes insn.op insn.prefix insn.sources.items (sources_at f at temps insn) d.sources) d.clear d.apart
       (targets_within at (result_items f.vars (length temps) insn.results.items)) (sources_within (seats_of f at) (source_items f.vars (patterns_in f) temps insn.op 0 insn.sources.items))
 

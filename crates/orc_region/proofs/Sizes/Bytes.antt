@@ -1,5 +1,5 @@
 -- The code's instructions are allowed; its steps and bytes are few.
-use Rattle.std.proofs.Common.{◌≡◌, ℕ, zero, suc, ◌+◌, ◌*◌, ◌^◌, ◌<◌, ◌≤◌, Bool, true, false, pos, List, [], ◌∷◌, ◌++◌, length, map, suc-mul, refl, sym, subst, ◌∙◌, arith}
+use Rattle.std.proofs.Common.{Option, ◌≡◌, ℕ, zero, suc, ◌+◌, ◌*◌, ◌^◌, ◌<◌, ◌≤◌, Bool, true, false, pos, List, [], ◌∷◌, ◌++◌, length, map, suc-mul, refl, sym, subst, ◌∙◌, arith}
 use Rattle.std.proofs.Math.Nat.{mul-le-mul_right}
 use Rattle.x86_ins.specs.declared.ins.AluOp.TheVariants.{Add, Sub}
 use Rattle.x86_ins.specs.declared.ins.Ins.{Ins}
@@ -17,7 +17,8 @@ use Rattle.x86_ins.specs.Way.{Each}
 use Rattle.x86_flow.specs.Moves.{IsWidth, away, store_either_code}
 use Rattle.x86_flow.proofs.Spelled.{IsFine, fine_alu_imm, fits_up, each_both, fine_vec, fine_from_gpr, fine_to_gpr, fine_load_far, fine_store_far, fine_aligned_store, fine_vec_load, fine_vec_store}
 use Rattle.orc_frame.specs.Layout.{pattern_slot, sum_slot, spill_slot}
-use Rattle.orc_region.specs.Code.{Action, IsRule, Source, FromArray, FromPattern, FromResident, FromPlace, FromSlot, Target, ToArray, ToSum, ToResident, ToPlace, ToSlot, Plan, pointer, place_register, resident_register, made_in, sum_home, first_register, second_register, third_register, rule_register, rule_code, AreBlocks, IsBlocksTurn, far_by, source_far_code, brought, sources_far_code, sum_code, result_far_code, results_far_code, own_names, action_names, action_far_code, named_code, actions_far_code, advance_code}
+use Rattle.orc_region.proofs.Block.Meeting.{meeting}
+use Rattle.orc_region.specs.Code.{Action, spares_second, IsRule, Source, FromArray, FromPattern, FromResident, FromPlace, FromSlot, Target, ToArray, ToSum, ToResident, ToPlace, ToSlot, Plan, pointer, place_register, resident_register, made_in, sum_home, first_register, second_register, third_register, rule_register, rule_code, AreBlocks, IsBlocksTurn, far_by, source_far_code, brought, sources_far_code, sum_code, result_far_code, results_far_code, own_names, action_names, action_far_code, named_code, actions_far_code, advance_code}
 use Rattle.orc_frame.proofs.Counted.{fine_vec_imm, fine_shuffle}
 use Rattle.orc_region.proofs.Block.Keeping.{ins_of}
 use Rattle.orc_region.proofs.Block.Names.{IsSmall, own_permutes, source_permutes}
@@ -37,12 +38,12 @@ pub record Small (count : ℕ) (p : Plan) : Type 0 where
   pub few : length p.actions ≤ 100
 
 -- a rule is of vector instructions
-pub vectors_of : (count : ℕ) (op : Op) (rule : List Ins) → IsRule count op rule → all_simd rule ≡ true
-vectors_of count op rule is = go (is_sum (row op).kind) refl
+pub vectors_of : (count : ℕ) (op : Op) (by : Option ℕ) (rule : List Ins) → IsRule count op by rule → all_simd rule ≡ true
+vectors_of count op by rule is = go (is_sum (row op).kind) refl
   where
     go : (b : Bool) → is_sum (row op).kind ≡ b → all_simd rule ≡ true
-    go true e = (is.adds e).vectors
-    go false e = (is.meets e).vectors
+    go true e = (is.adds e).1.vectors
+    go false e = (meeting by op rule (is.meets e)).vectors
 
 pub each_renamed : (f : ℕ → ℕ) → ((r : ℕ) → r < 16 → f r < 16) → (is : List Ins) → Each IsIns is → Each IsIns (map (renamed f) is)
 each_renamed f small [] h = tt
@@ -141,14 +142,14 @@ module _ (count : ℕ) (size far : ℕ → ℕ) (aligned : ℕ → Bool) (near :
   fine_renamed : (a : Action) → IsMovable count size a → Each IsFine (rule_code a)
   fine_renamed a h =
       let f : ℕ → ℕ = rule_register a.to in
-      fine_rule (rule_code a) (simd_renamed f a.rule ∙ vectors_of count a.op a.rule h.rule) (each_renamed f (register_small a.to (first_small a.to h.to) (second_small a.to h.to) (third_small a.to h.to)) a.rule h.rule.known)
+      fine_rule (rule_code a) (simd_renamed f a.rule ∙ vectors_of count a.op a.by a.rule h.rule) (each_renamed f (register_small a.to (first_small a.to h.to) (second_small a.to h.to) (third_small a.to h.to)) a.rule h.rule.known)
 
   pub fine_action : (a : Action) → IsMovable count size a → Each IsFine (action_far_code count size far aligned a)
   fine_action a h =
       let stores = results_far_code count size far aligned a.to in
       let x = first_register a.to in
       let y = second_register a.to in
-      each_both IsFine (sources_far_code a.takes_first a.takes_second count size far x y a.sources) (sum_code a.to ++ (rule_code a ++ stores)) (fine_sources a.takes_first a.takes_second x y a.sources (first_small a.to h.to) (second_small a.to h.to) h.sources)
+      each_both IsFine (sources_far_code a.takes_first (spares_second a) count size far x y a.sources) (sum_code a.to ++ (rule_code a ++ stores)) (fine_sources a.takes_first (spares_second a) x y a.sources (first_small a.to h.to) (second_small a.to h.to) h.sources)
       (each_both IsFine (sum_code a.to) (rule_code a ++ stores) (fine_sum a.to h.to)
       (each_both IsFine (rule_code a) stores (fine_renamed a h) (fine_results a.to h.to)))
 

@@ -10,7 +10,7 @@ use Rattle.x86_flow.specs.Moves.{IsWidth, load_far_code, store_either_code}
 use Rattle.x86_flow.proofs.Moves.{each_width}
 use Rattle.orc_program.specs.Need.{registers}
 use Rattle.orc_frame.specs.Layout.{spill_slots}
-use Rattle.orc_region.specs.Code.{Action, IsRule, Source, FromArray, FromPattern, FromResident, FromPlace, FromSlot, Target, ToArray, ToSum, ToResident, ToPlace, ToSlot, AreBlocks, IsBlocksTurn, pointer, far_by, first_register, second_register, rule_register, rule_code, source_far_code, brought, sources_far_code, sum_code, result_far_code, results_far_code, own_names, action_names, action_far_code, named_code, actions_far_code, advance_code}
+use Rattle.orc_region.specs.Code.{Action, spares_second, IsRule, Source, FromArray, FromPattern, FromResident, FromPlace, FromSlot, Target, ToArray, ToSum, ToResident, ToPlace, ToSlot, AreBlocks, IsBlocksTurn, pointer, far_by, first_register, second_register, rule_register, rule_code, source_far_code, brought, sources_far_code, sum_code, result_far_code, results_far_code, own_names, action_names, action_far_code, named_code, actions_far_code, advance_code}
 use Rattle.orc_region.proofs.Sizes.Cost.{from_weight, from_weights, to_weight, to_weights, weight, weights}
 
 -- a slot of an array whose elements can be moved so many at once, one of the frame, or a place's register
@@ -34,7 +34,7 @@ pub record IsMovable (count : ℕ) (size : ℕ → ℕ) (a : Action) : Type 0 wh
   pub sources : Each (IsFromSlot count size) a.sources
   pub few : length a.sources ≤ 2
   pub few_to : length a.to ≤ 2
-  pub rule : IsRule count a.op a.rule
+  pub rule : IsRule count a.op a.by a.rule
 
 load_count : (width x r far : ℕ) → IsWidth width → length (load_far_code width x r far) ≤ 2
 load_count width x r far is = each_width (λ w. length (load_far_code w x r far) ≤ 2) (omega arith) (omega arith) (omega arith) (omega arith) (omega arith) width is
@@ -88,7 +88,7 @@ module _ (count : ℕ) (size far : ℕ → ℕ) (aligned : ℕ → Bool) where
 
   action_count : (a : Action) → IsMovable count size a → length (action_far_code count size far aligned a) ≤ weight a
   action_count a h =
-      let loads = sources_far_code a.takes_first a.takes_second count size far (first_register a.to) (second_register a.to) a.sources in
+      let loads = sources_far_code a.takes_first (spares_second a) count size far (first_register a.to) (second_register a.to) a.sources in
       let stores = results_far_code count size far aligned a.to in
       omega (
         arith,
@@ -96,7 +96,7 @@ module _ (count : ℕ) (size far : ℕ → ℕ) (aligned : ℕ → Bool) where
         length-append (sum_code a.to) (rule_code a ++ stores),
         length-append (rule_code a) stores,
         length-map a.rule (renamed (rule_register a.to)),
-        sources_length a.takes_first a.takes_second (first_register a.to) (second_register a.to) a.sources h.sources,
+        sources_length a.takes_first (spares_second a) (first_register a.to) (second_register a.to) a.sources h.sources,
         results_length a.to h.to,
       )
 

@@ -16,7 +16,7 @@ use Rattle.orc_program.specs.Slots.{size_of_slot}
 use Rattle.orc_frame.specs.Layout.{pattern_slot, sum_slot}
 use Rattle.sse_laws.specs.Targets.{IsCodeFor}
 use Rattle.sse_laws.proofs.Targeted.{behind_for, either_for, renamed_for}
-use Rattle.orc_region.specs.Code.{Action, Source, FromArray, FromPattern, FromResident, FromPlace, FromSlot, Target, ToArray, ToSum, ToResident, ToPlace, ToSlot, AreActions, AreBlocks, IsBlocksTurn, IsBlock, IsTurnOf, pointer, far_by, aligned_first, first_register, second_register, rule_register, rule_code, source_far_code, brought, sources_far_code, sum_code, result_far_code, results_far_code, own_names, action_names, action_far_code, named_code, actions_far_code, advance_code, Seats, seats_of, last_place, is_resident, resident_register, resident_load_code, loads_code, resident_loads_code, sum_store_code, sum_stores_code}
+use Rattle.orc_region.specs.Code.{Action, Source, FromArray, FromPattern, FromResident, FromPlace, FromSlot, Target, ToArray, ToSum, ToResident, ToPlace, ToSlot, AreActions, AreBlocks, IsBlocksTurn, IsBlock, IsTurnOf, pointer, far_by, aligned_first, first_register, second_register, rule_register, rule_code, source_far_code, brought, sources_far_code, sum_code, result_far_code, results_far_code, own_names, spares_second, action_names, action_far_code, named_code, actions_far_code, advance_code, Seats, seats_of, last_place, is_resident, resident_register, resident_load_code, loads_code, resident_loads_code, sum_store_code, sum_stores_code}
 
 module _ (t : CodeTarget) where
   -- ---- one action
@@ -85,9 +85,9 @@ module _ (t : CodeTarget) where
 
     action_for : (a : Action) → IsCodeFor t a.rule → IsCodeFor t (action_far_code count size far aligned a)
     action_for a h =
-        let loads = sources_far_code a.takes_first a.takes_second count size far (first_register a.to) (second_register a.to) a.sources in
+        let loads = sources_far_code a.takes_first (spares_second a) count size far (first_register a.to) (second_register a.to) a.sources in
         let stores = results_far_code count size far aligned a.to in
-        behind_for t loads (sum_code a.to ++ (rule_code a ++ stores)) (sources_for a.takes_first a.takes_second (first_register a.to) (second_register a.to) a.sources)
+        behind_for t loads (sum_code a.to ++ (rule_code a ++ stores)) (sources_for a.takes_first (spares_second a) (first_register a.to) (second_register a.to) a.sources)
         (behind_for t (sum_code a.to) (rule_code a ++ stores) (sum_for a.to)
         (behind_for t (rule_code a) stores (renamed_for t (rule_register a.to) a.rule h) (results_for a.to)))
 

@@ -6,7 +6,7 @@ use Rattle.x86_ins.specs.declared.ins.Ins.TheVariants.{AluImm}
 use Rattle.x86_ins.specs.Renaming.{renamed, renaming}
 use Rattle.x86_ins.specs.Way.{Each}
 use Rattle.x86_flow.specs.Moves.{load_far_code, store_either_code}
-use Rattle.orc_region.specs.Code.{Action, Source, FromArray, FromPattern, FromResident, FromPlace, FromSlot, Target, ToArray, ToSum, ToResident, ToPlace, ToSlot, pointer, first_register, second_register, rule_code, source_far_code, brought, sources_far_code, sum_code, result_far_code, results_far_code, own_names, action_names, named_code, actions_far_code, advance_code}
+use Rattle.orc_region.specs.Code.{Action, spares_second, Source, FromArray, FromPattern, FromResident, FromPlace, FromSlot, Target, ToArray, ToSum, ToResident, ToPlace, ToSlot, pointer, first_register, second_register, rule_code, source_far_code, brought, sources_far_code, sum_code, result_far_code, results_far_code, own_names, action_names, named_code, actions_far_code, advance_code}
 
 module _ (size other : ℕ → ℕ) where
   abbrev pub SameFrom : Source → Type 0
@@ -54,7 +54,7 @@ module _ (size other : ℕ → ℕ) where
     same_named : (names : List ℕ) (actions : List Action) → Each SameFor actions → named_code names count size far aligned actions ≡ named_code names count other away aligned actions
     same_named names [] h = refl
     same_named names (a ∷ rest) h = ap₂ (λ (x y : List Ins). map (renamed (renaming (action_names a names))) x ++ y)
-        (ap₂ (λ (x y : List Ins). x ++ (sum_code a.to ++ (rule_code a ++ y))) (same_sources a.takes_first a.takes_second (first_register a.to) (second_register a.to) a.sources h.0.0) (same_results a.to h.0.1))
+        (ap₂ (λ (x y : List Ins). x ++ (sum_code a.to ++ (rule_code a ++ y))) (same_sources a.takes_first (spares_second a) (first_register a.to) (second_register a.to) a.sources h.0.0) (same_results a.to h.0.1))
         (same_named (action_names a names) rest h.1)
 
     pub same_actions : (actions : List Action) → Each SameFor actions → actions_far_code count size far aligned actions ≡ actions_far_code count other away aligned actions

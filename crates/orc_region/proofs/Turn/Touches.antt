@@ -9,7 +9,7 @@ use Rattle.x86_flow.specs.Moves.{IsWidth, store_either_code}
 use Rattle.x86_flow.specs.Touching.{weight_by, touch_weight}
 use Rattle.x86_flow.proofs.Plans.{weigh, weigh_append}
 use Rattle.x86_flow.proofs.Moves.{load_weight, store_weight, aligned_store_weight}
-use Rattle.orc_region.specs.Code.{Action, IsRule, Source, FromArray, FromPattern, FromResident, FromPlace, FromSlot, Target, ToArray, ToSum, ToResident, ToPlace, ToSlot, AreBlocks, IsBlocksTurn, pointer, far_by, first_register, second_register, rule_code, source_far_code, brought, sources_far_code, sum_code, result_far_code, results_far_code, own_names, action_names, action_far_code, named_code, actions_far_code, advance_code}
+use Rattle.orc_region.specs.Code.{Action, spares_second, IsRule, Source, FromArray, FromPattern, FromResident, FromPlace, FromSlot, Target, ToArray, ToSum, ToResident, ToPlace, ToSlot, AreBlocks, IsBlocksTurn, pointer, far_by, first_register, second_register, rule_code, source_far_code, brought, sources_far_code, sum_code, result_far_code, results_far_code, own_names, action_names, action_far_code, named_code, actions_far_code, advance_code}
 use Rattle.orc_region.proofs.Block.Touched.{GoesNowhere, rule_nowhere, base_renamed}
 use Rattle.orc_region.proofs.Block.Actions.{IsMovedFrom, IsMovedTo, IsFit}
 
@@ -65,7 +65,7 @@ module _ (by : ℕ → Bool) (by_stack : by 4 ≡ false) where
   nowhere_free [] h = refl
   nowhere_free (i ∷ is) h = (let e : v i ≡ 0 = ap (weight_by by) h.0.0 in omega (arith, e, nowhere_free is h.1))
 
-  rule_free : (count : ℕ) (a : Action) → IsRule count a.op a.rule → weigh v (rule_code a) ≡ 0
+  rule_free : (count : ℕ) (a : Action) → IsRule count a.op a.by a.rule → weigh v (rule_code a) ≡ 0
   rule_free count a is = nowhere_free (rule_code a) (rule_nowhere count a is)
 
   -- ---- blocks
@@ -121,14 +121,14 @@ module _ (by : ℕ → Bool) (by_stack : by 4 ≡ false) where
 
     action_few : (a : Action) → IsFit count size a → weigh v (action_far_code count size far aligned a) ≤ from_arrays a.sources + to_arrays a.to
     action_few a h =
-        let loads = sources_far_code a.takes_first a.takes_second count size far (first_register a.to) (second_register a.to) a.sources in
+        let loads = sources_far_code a.takes_first (spares_second a) count size far (first_register a.to) (second_register a.to) a.sources in
         let stores = results_far_code count size far aligned a.to in
         omega (
           arith,
           weigh_append v loads (sum_code a.to ++ (rule_code a ++ stores)),
           weigh_append v (sum_code a.to) (rule_code a ++ stores),
           weigh_append v (rule_code a) stores,
-          sources_few a.takes_first a.takes_second (first_register a.to) (second_register a.to) a.sources h.sources,
+          sources_few a.takes_first (spares_second a) (first_register a.to) (second_register a.to) a.sources h.sources,
           sum_free a.to,
           rule_free count a h.rule,
           results_few a.to h.to,
