@@ -4,11 +4,11 @@ ghost use Rattle.std.specs.Prelude.{◌≡◌, ◌≤◌, ◌<◌, ◌+◌, ◌-
 ghost use Rattle.std.specs.Int.{int_shr};
 ghost use Rattle.orc_bits.specs.Numbers as numbers;
 ghost use Rattle.orc_ops.specs.Far.{far_size, far_blend, scalar, place, fraction, mixed, mixed_bytes};
-ghost use Rattle.orc_resample.specs.Reach.{reach};
+ghost use Rattle.orc_ops.specs.Reach.{reach};
 
 use crate::elements::Reach;
+use crate::far::Far;
 use orc_bits::signed;
-use orc_ops::Far;
 
 /// The low 32 bits, read as a signed number.
 fn scalar(p: u64) -> i64
