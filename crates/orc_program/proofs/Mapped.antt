@@ -1,5 +1,5 @@
 -- A call whose cells are all mapped has no gap.
-use Rattle.std.proofs.Common.{◌≡◌, ℕ, zero, suc, ◌*◌, ◌<◌, ◌≤◌, ◌==◌, true, List, [], ◌∷◌, Option, Some, None, Bool, false, not, ◌&&◌, ◌||◌, is_some, inl, inr, ℤ, Result, Ok, Err, refl, sym, ap, ◌∙◌, subst, arith, length, true≢false}
+use Rattle.std.proofs.Common.{◌≡◌, ℕ, zero, suc, ◌*◌, ◌<◌, ◌≤◌, ◌==◌, true, List, [], ◌∷◌, Option, Some, None, false, not, ◌&&◌, ◌||◌, is_some, inl, inr, ℤ, Result, Ok, Err, refl, sym, ap, ◌∙◌, subst, arith, length, true≢false}
 use Rattle.std.specs.Prelude.{Contains}
 use Rattle.std.specs.List.{list_any}
 use Rattle.orc_bits.specs.Numbers.{wrap}

@@ -1,5 +1,5 @@
 -- Functions without far loads, and which arrays have a cell for each element.
-use Rattle.std.proofs.Common.{◌≡◌, ℕ, zero, suc, ◌<◌, ◌==◌, Bool, true, false, not, ◌&&◌, ◌||◌, List, [], ◌∷◌, Option, Some, None, Result, is_some, refl, sym, ap, ◌∙◌, subst, arith, length, slice_index_or, true≢false, inl, inr, if◌then◌else◌}
+use Rattle.std.proofs.Common.{◌≡◌, ℕ, zero, suc, ◌<◌, Bool, true, false, not, ◌&&◌, ◌||◌, List, [], ◌∷◌, Option, Some, None, is_some, refl, sym, ap, ◌∙◌, subst, arith, length, slice_index_or, true≢false, inl, inr, if◌then◌else◌}
 use Rattle.std.specs.Prelude.{Contains}
 use Rattle.std.specs.List.{list_any}
 use Rattle.std.proofs.lemmas.Bool.{or_parts}
@@ -12,8 +12,8 @@ use Rattle.orc_program.specs.declared.program.Operand.TheVariants as operand
 use Rattle.orc_program.specs.declared.program.Insn.{Insn}
 use Rattle.orc_program.specs.declared.call.Call.{Call}
 use Rattle.orc_program.specs.Program.{FunctionValue, var_at, same_kind, is_of, is_array, is_place, is_far, has_far, far_array, far_line}
-use Rattle.orc_program.specs.Meaning.{State, Gap, act, act_as}
-use Rattle.orc_program.specs.Good.{HasCell, IsReached, is_near, reads_near, reads_far}
+use Rattle.orc_program.specs.Meaning.{State, act, act_as}
+use Rattle.orc_program.specs.Good.{HasCell, is_near, reads_near, reads_far}
 
 -- ---- lists of tests
 
@@ -101,11 +101,11 @@ line_or b line rest = if b then Some line else rest
 
 pub no_line : (insns : List Insn) → far_line insns ≡ None → list_any is_far insns ≡ false
 no_line [] e = refl
-no_line (insn ∷ insns) e = go (is_far insn) e
+no_line (insn ∷ insns) e = go (is_far insn) (no_line insns) e
   where
-    go : (b : Bool) → line_or b insn.line (far_line insns) ≡ None → b || list_any is_far insns ≡ false
-    go true h = absurd (let f : ⊥ = cc in f)
-    go false h = no_line insns h
+    go : (b : Bool) → (far_line insns ≡ None → list_any is_far insns ≡ false) → line_or b insn.line (far_line insns) ≡ None → b || list_any is_far insns ≡ false
+    go true rest h = absurd (let f : ⊥ = cc in f)
+    go false rest h = rest h
 
 pub line_none : (insns : List Insn) → list_any is_far insns ≡ false → far_line insns ≡ None
 line_none [] e = refl

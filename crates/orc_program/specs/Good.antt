@@ -1,5 +1,5 @@
 -- Good arrays.
-use Rattle.std.specs.Prelude.{◌≡◌, ◌≢◌, ℕ, ◌+◌, ◌%◌, ◌^◌, ◌<◌, ◌⊎◌, Bool, true, false, not, ◌&&◌, ◌||◌, length, Contains, ℤ, Option, Some}
+use Rattle.std.specs.Prelude.{◌≡◌, ◌≢◌, ℕ, ◌+◌, ◌%◌, ◌^◌, ◌<◌, ◌⊎◌, Bool, true, false, not, ◌&&◌, ◌||◌, length, Contains, ℤ, Some}
 use Rattle.std.specs.List.{list_any}
 use Rattle.orc_bits.specs.Numbers.{wrap}
 use Rattle.orc_bits.specs.Memory.{Memory, IsMapped}
