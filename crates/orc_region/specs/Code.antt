@@ -15,7 +15,7 @@ use Rattle.orc_ops.specs.Table.{row, size_of_result}
 use Rattle.orc_ops.specs.Targets.{class_for}
 use Rattle.orc_program.specs.declared.program.VarKind.TheVariants as kind
 use Rattle.orc_program.specs.declared.program.Pattern.{Pattern}
-use Rattle.orc_program.specs.Program.{FunctionValue, count_of}
+use Rattle.orc_program.specs.Program.{FunctionValue, count_of, has_far}
 use Rattle.orc_program.specs.Checks.{patterns_of}
 use Rattle.orc_program.specs.Need.{lanes, registers, has_whole_turns, begins_aligned}
 use Rattle.orc_program.specs.Slots.{size_of_slot}
@@ -492,9 +492,10 @@ fills f = is_filled (count_of kind.Dest f.vars) (lanes f) (size_of_slot f.vars 0
 abbrev pub IsSingle : FunctionValue → CodeTarget → List ℕ → List Ins → Type 0
 IsSingle f target at single = has_whole_turns f ≡ false → IsTurnOf f target at 1 false 1 single
 
--- the turns of a function's code by good places of its values
+-- the turns of a function's code by good places of its values; it has no far load
 pub record Turns (f : FunctionValue) (target : CodeTarget) (at : List ℕ) (single wide aligned large : List Ins) : Type 0 where
   pub good : GoodPlaces (steps_of f) at
+  pub near : has_far f ≡ false
   pub one : IsSingle f target at single
   pub more : IsTurnOf f target at (lanes f) false 1 wide
   pub stored : fills f ≡ true → IsTurnOf f target at (lanes f) true 1 aligned

@@ -12,7 +12,7 @@ use Rattle.x86_flow.proofs.Shapes.{loop_size, loop_fine}
 use Rattle.x86_flow.proofs.Spelled.{all_allowed}
 use Rattle.orc_ops.specs.declared.target.Target.{Target as CodeTarget}
 use Rattle.orc_program.specs.declared.program.VarKind.TheVariants as kind
-use Rattle.orc_program.specs.Program.{FunctionValue, count_of}
+use Rattle.orc_program.specs.Program.{FunctionValue, count_of, has_far}
 use Rattle.orc_program.specs.Kept.{is_function}
 use Rattle.orc_program.specs.declared.known.Facts.{Facts}
 use Rattle.orc_program.specs.Facts.{facts_of}
@@ -32,16 +32,17 @@ use Rattle.orc_region.proofs.Calls.Blocks.{does_elements}
 use Rattle.orc_region.proofs.Turn.Blocks.{block_is, block_spelled}
 use Rattle.orc_region.proofs.Checked.Fits.{slot_sized}
 use Rattle.orc_region.proofs.Sizes.Loops.{Fits, fits_whole, fits_tested, fits_plain, fits_aligned, fits_larges}
-use Rattle.orc_region.proofs.Checked.Several.{IsCount, one_count, lanes_count}
+use Rattle.orc_program.proofs.Lanes.{lanes_is}
+use Rattle.orc_region.proofs.Checked.Several.{IsCount, most_of, one_count, lanes_count}
 use Rattle.orc_region.proofs.Turn.Lists.{few_blocks, blocks_near, ready_is, turn_is, turn_fine, turn_spelled, turn_size}
 
 -- ---- how many elements a turn does
 
-pub count_is : (f : FunctionValue) → is_function f ≡ true → (count : ℕ) → (count ≡ 1) ⊎ (count ≡ lanes f) → IsCount f count
-count_is f h count which = ⊎_elim (λ e. subst (IsCount f) (sym e) (one_count f h)) (λ e. subst (IsCount f) (sym e) (lanes_count f h)) which
+pub count_is : (f : FunctionValue) → is_function f ≡ true → has_far f ≡ false → (count : ℕ) → (count ≡ 1) ⊎ (count ≡ lanes f) → IsCount f count
+count_is f h near count which = ⊎_elim (λ e. subst (IsCount f) (sym e) (one_count f h near)) (λ e. subst (IsCount f) (sym e) (lanes_count f h near)) which
 
 pub lanes_few : (f : FunctionValue) → is_function f ≡ true → (n : ℕ) → n ≡ lanes f → n ≤ 64
-lanes_few f h n e = (let few = (lanes_count f h).most in omega (arith, e, few))
+lanes_few f h n e = (let few = most_of (lanes f) (inr (lanes_is f h)) in omega (arith, e, few))
 
 -- ---- turns
 
@@ -57,12 +58,13 @@ some_factor count (suc s) e = omega arith
 -- what is known of a function where its turns are built
 pub record Lowered (f : FunctionValue) (at sizes : List ℕ) (steps : List Step) : Type 0 where
   pub kept : is_function f ≡ true
+  pub near : has_far f ≡ false
   pub sizes_are : sizes ≡ sizes_of f
   pub steps_are : steps ≡ steps_of f
   pub places : GoodPlaces steps at
 
 pub lowered : (f : FunctionValue) (p : PlacedValue) (l : Layout) → AreOf f p l → GoodPlaces p.core.steps p.places → Lowered f p.places p.core.sizes p.core.steps
-lowered f p l are good = record { kept = are.kept; sizes_are = are.sizes; steps_are = are.steps; places = good }
+lowered f p l are good = record { kept = are.kept; near = are.near; sizes_are = are.sizes; steps_are = are.steps; places = good }
 
 -- a layout is that of the function
 pub layout_is : (f : FunctionValue) (p : PlacedValue) (l : Layout) → AreOf f p l → IsLayout l
@@ -79,7 +81,7 @@ module _ (f : FunctionValue) (at sizes : List ℕ) (steps : List Step) (x : Lowe
 
   module _ (count : ℕ) (which : (count ≡ 1) ⊎ (count ≡ lanes f)) where
     several : IsCount f count
-    several = count_is f x.kept count which
+    several = count_is f x.kept x.near count which
 
     pub count_few : count ≤ 16
     count_few = several.most
@@ -250,7 +252,7 @@ module _ (target : CodeTarget) (f : FunctionValue) (at sizes : List ℕ) (steps 
           turn,
           [],
           w.0,
-          record { good = good f at sizes steps x; one = a.1; more = more_is; stored = λ y. absurd (true≢false (sym y ∙ empty)); many = λ l. subst (λ k. IsTurnOf f target at (lanes f) k (blocks_of (length turn)) w.0) (sym empty) (w.1 l) },
+          record { good = good f at sizes steps x; near = x.near; one = a.1; more = more_is; stored = λ y. absurd (true≢false (sym y ∙ empty)); many = λ l. subst (λ k. IsTurnOf f target at (lanes f) k (blocks_of (length turn)) w.0) (sym empty) (w.1 l) },
           a.2
               ∙ ap (λ z. flat (from_first whole (lanes f) a.0 (Plain z))) w.2
               ∙ flat_first whole (lanes f) a.0 (turns_flow (lanes f) (blocks_of (length turn)) w.0 turn)
@@ -270,6 +272,7 @@ module _ (target : CodeTarget) (f : FunctionValue) (at sizes : List ℕ) (steps 
       these : (single : List Ins) → (whole ≡ false → IsTurnOf f target at 1 false 1 single) → Turns f target at single turn list w.0
       these single one = record {
         good = good f at sizes steps x;
+        near = x.near;
         one = one;
         more = more_is;
         stored = λ y. subst (λ k. IsTurnOf f target at k true 1 list) n_is stored;
@@ -331,7 +334,7 @@ pub fits_elements : {target : CodeTarget} (f : FunctionValue) → is_function f 
 fits_elements {target} f h at single wide aligned large t = go (fills f) (begins_aligned f) refl
   where
     count : IsCount f (lanes f)
-    count = lanes_count f h
+    count = lanes_count f h t.near
 
     most : lanes f ≤ 64
     most = lanes_few f h (lanes f) refl
@@ -343,7 +346,7 @@ fits_elements {target} f h at single wide aligned large t = go (fills f) (begins
         record { allowed = all_allowed list (turn_fine f h at t.good count is_count target aligned b near list x); bytes = omega (arith, bytes, room) }
 
     fits_one : has_whole_turns f ≡ false → Fits 118943 single
-    fits_one e = fits_turn 1 (one_count f h) false 1 118943 (omega arith) (omega arith) single (t.one e)
+    fits_one e = fits_turn 1 (one_count f h t.near) false 1 118943 (omega arith) (omega arith) single (t.one e)
 
     fits_more : Fits 118943 wide
     fits_more = fits_turn (lanes f) count false 1 118943 (omega arith) (omega arith) wide t.more

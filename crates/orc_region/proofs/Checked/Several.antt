@@ -10,7 +10,7 @@ use Rattle.orc_program.specs.declared.program.Var.{Var}
 use Rattle.orc_program.specs.declared.program.Insn.{Insn}
 use Rattle.orc_program.specs.declared.program.VarKind.{VarKind}
 use Rattle.orc_program.specs.declared.program.VarKind.TheVariants as kind
-use Rattle.orc_program.specs.Program.{FunctionValue, var_at, no_var, is_array, is_array_kind, is_of, same_kind}
+use Rattle.orc_program.specs.Program.{FunctionValue, var_at, no_var, is_array, is_array_kind, is_of, same_kind, has_far}
 use Rattle.orc_program.specs.Checks.{insn_fault, operand_sizes}
 use Rattle.orc_program.specs.Kept.{is_function, all_pass, is_shaped, has_no_fault}
 use Rattle.orc_program.specs.Need.{largest, lanes}
@@ -32,6 +32,7 @@ IsPower count = (count ≡ 1) ⊎ ((count ≡ 2) ⊎ ((count ≡ 4) ⊎ ((count 
 
 -- what is asked of how many elements a turn does at once
 pub record IsCount (f : FunctionValue) (count : ℕ) : Type 0 where
+  pub near : has_far f ≡ false
   pub some : 0 < count
   pub most : count ≤ 16
   pub power : IsPower count
@@ -118,8 +119,9 @@ one_fits f earlier (insn ∷ insns) h =
     let few = (prefix_ok insn.op insn.prefix (checked f.vars earlier insn b.0).prefix).few in
     (omega (arith, few), one_fits f (earlier ++ insn ∷ []) insns b.1)
 
-pub one_count : (f : FunctionValue) → is_function f ≡ true → IsCount f 1
-one_count f h = record {
+pub one_count : (f : FunctionValue) → is_function f ≡ true → has_far f ≡ false → IsCount f 1
+one_count f h near = record {
+  near = near;
   some = omega arith;
   most = omega arith;
   power = inl refl;
@@ -142,14 +144,14 @@ array_declared kind.Param a = absurd (true≢false (sym a))
 array_declared kind.Const a = absurd (true≢false (sym a))
 array_declared kind.Accumulator a = absurd (true≢false (sym a))
 
-some_of : (count : ℕ) → IsPower count → 0 < count
+pub some_of : (count : ℕ) → IsPower count → 0 < count
 some_of count (inl e) = omega (arith, e)
 some_of count (inr (inl e)) = omega (arith, e)
 some_of count (inr (inr (inl e))) = omega (arith, e)
 some_of count (inr (inr (inr (inl e)))) = omega (arith, e)
 some_of count (inr (inr (inr (inr e)))) = omega (arith, e)
 
-most_of : (count : ℕ) → IsPower count → count ≤ 16
+pub most_of : (count : ℕ) → IsPower count → count ≤ 16
 most_of count (inl e) = omega (arith, e)
 most_of count (inr (inl e)) = omega (arith, e)
 most_of count (inr (inr (inl e))) = omega (arith, e)
@@ -165,11 +167,12 @@ all_fit_in count (insn ∷ insns) h = (
 )
 
 -- so many elements, where those of the variables' and of the instructions' sizes fit
-pub several_count : (f : FunctionValue) (count : ℕ) → (count ≡ 2) ⊎ ((count ≡ 4) ⊎ ((count ≡ 8) ⊎ (count ≡ 16)))
+pub several_count : (f : FunctionValue) → has_far f ≡ false → (count : ℕ) → (count ≡ 2) ⊎ ((count ≡ 4) ⊎ ((count ≡ 8) ⊎ (count ≡ 16)))
     → ((p : ℕ) → p < length f.vars → is_of kind.Param (var_at f.vars p) ≡ false → is_of kind.Const (var_at f.vars p) ≡ false → count * (var_at f.vars p).size ≤ 16)
     → ((earlier : List Insn) (insn : Insn) (rest : List Insn) → f.insns ≡ earlier ++ insn ∷ rest → count * (largest (operand_sizes insn.op) * insn.prefix) ≤ 16)
     → IsCount f count
-several_count f count power declared insns = record {
+several_count f near count power declared insns = record {
+  near = near;
   some = some_of count (inr power);
   most = most_of count (inr power);
   power = inr power;
@@ -178,5 +181,5 @@ several_count f count power declared insns = record {
 }
 
 -- the lanes of a function
-pub lanes_count : (f : FunctionValue) → is_function f ≡ true → IsCount f (lanes f)
-lanes_count f h = several_count f (lanes f) (lanes_is f h) (declared_fits f h) (insn_fits f h)
+pub lanes_count : (f : FunctionValue) → is_function f ≡ true → has_far f ≡ false → IsCount f (lanes f)
+lanes_count f h near = several_count f near (lanes f) (lanes_is f h) (declared_fits f h) (insn_fits f h)
