@@ -9,6 +9,5 @@ pub use assembly::gather;
 pub use orc_ops::{Reach, blend, reach};
 pub use plan::FarPlan;
 
-
 #[cfg(test)]
 mod tests;
