@@ -1,5 +1,5 @@
 -- What each instruction of a function keeps, as the code asks it.
-use Rattle.std.proofs.Common.{◌≡◌, ℕ, zero, suc, ◌+◌, ◌<◌, ◌≤◌, ◌^◌, ◌&&◌, ◌||◌, ◌==◌, ⊎_elim, nat_lt, Bool, true, false, if◌then◌else◌, List, [], ◌∷◌, ◌++◌, length, take, get_or, refl, sym, ap, ◌∙◌, subst, arith, append_assoc, append-nil}
+use Rattle.std.proofs.Common.{◌≡◌, ℕ, zero, suc, ◌+◌, ◌<◌, ◌≤◌, ◌^◌, ◌&&◌, ◌||◌, ◌==◌, ⊎_elim, nat_lt, Bool, true, false, if◌then◌else◌, List, [], ◌∷◌, ◌++◌, length, take, get_or, refl, sym, ap, ◌∙◌, subst, arith, append_assoc, append-nil, not}
 use Rattle.std.specs.List.{list_all}
 use Rattle.std.proofs.lemmas.Bool.Decides.{nat_tests}
 use Rattle.orc_ops.specs.declared.opcode.Op.{Op}
@@ -19,16 +19,12 @@ use Rattle.c_emit.specs.Body.{insn_body, body_of}
 same : (m n : ℕ) → (m == n) ≡ true → m ≡ n
 same m n e = grind (arith, nat_tests, e)
 
-second_size : (o : Op) → size_of_source o 1 == 0 || is_there (size_of_source o 1) ≡ true
+second_size : (o : Op) → not (nat_lt 1 (source_count o)) || is_there (size_of_source o 1) ≡ true
 second_size op.Absb = refl
 second_size o = refl
 
-one_or_none : (t : Bool) (b : ℕ) → b ≡ 0 → (if t then 0 else (if b == 0 then 1 else 2)) ≤ 1
-one_or_none true b e = omega arith
-one_or_none false b e = subst (λ b. (if b == 0 then 1 else 2) ≤ 1) (sym e) (omega arith)
-
 second_there : (o : Op) → 1 < source_count o → is_there (size_of_source o 1) ≡ true
-second_there o h = ⊎_elim (λ n. absurd (let l = one_or_none (size_of_source o 0 == 0) (size_of_source o 1) (same (size_of_source o 1) 0 n) in omega (arith, h, l))) (λ t. t) (either (size_of_source o 1 == 0) _ (second_size o))
+second_there o h = sym (ap (λ b. not b || is_there (size_of_source o 1)) (let t : nat_lt 1 (source_count o) ≡ true = grind (arith, nat_tests, h) in t)) ∙ second_size o
 
 fits_of : (vars : List Var) (insn : Insn) → is_shaped vars insn ≡ true → Fits vars insn
 fits_of vars insn shaped =

@@ -12,7 +12,7 @@ use Rattle.orc_program.specs.declared.program.Operand.{Operand}
 use Rattle.orc_program.specs.declared.program.Operand.TheVariants as operand
 use Rattle.orc_program.specs.declared.program.Insn.{Insn}
 use Rattle.orc_program.specs.declared.call.Call.{Call}
-use Rattle.orc_program.specs.Program.{FunctionValue, var_at, no_var, count_of, array_number}
+use Rattle.orc_program.specs.Program.{FunctionValue, var_at, no_var, count_of, array_number, has_far, is_far}
 use Rattle.orc_program.specs.Kept.{is_function, is_shaped, has_no_fault, all_pass}
 use Rattle.orc_program.specs.Checks.{is_set, insn_fault}
 use Rattle.orc_program.specs.Good.{GoodArrays}
@@ -22,6 +22,8 @@ use Rattle.orc_program.proofs.Sizes.{both, kept_of}
 use Rattle.orc_program.proofs.Steps.{go_on_ok, ok_same}
 use Rattle.orc_emul.specs.State.{HasCounts}
 use Rattle.orc_emul.proofs.Functions.{size_low}
+use Rattle.orc_program.proofs.Near.{near_parts}
+use Rattle.std.specs.List.{list_any}
 use Rattle.c_run.specs.declared.tree.CExpr.{CExpr}
 use Rattle.c_run.specs.declared.tree.CExpr.TheVariants.{V}
 use Rattle.c_run.specs.declared.tree.CStmt.{CStmt}
@@ -168,23 +170,24 @@ pub record Went (f : FunctionValue) (go : ℕ → CState → Result CState Stop)
   pub steps : Steps go n s state
   pub agrees : Agrees f none state e
 
-module _ (f : FunctionValue) (call : Call) (mem : Memory) (kept : is_function f ≡ true) (counts : HasCounts f call) (is : IsCall call) (good : GoodArrays f call mem) (c : CFunctionValue) (temps : c.temps ≡ variables_of (body_of f.vars f.insns)) (accs : c.accs ≡ count_of kind.Accumulator f.vars) where
-  insns_do : (r i : ℕ) → r < rows f call → i < call.n → (earlier insns : List Insn) (s : CState) (e e1 : State) → all_pass f.vars earlier insns ≡ true → variables_of (body_of f.vars insns) ≤ c.temps → Agrees f (λ p. is_set earlier p) s e → emulation.element f call r i insns e ≡ done e1 → HasDone f c call r i none (body_of f.vars insns) s e1
-  insns_do r i row low earlier [] s e e1 p room g h = record { state = s; does = does_none c call (record { row = r; element = i }) s; agrees = subst (λ e. Agrees f none s e) (ok_same e e1 h) (agrees_less none (λ p k n. absurd (true≢false (sym n))) g) }
-  insns_do r i row low earlier (insn ∷ insns) s e e1 p room g h =
+module _ (f : FunctionValue) (call : Call) (mem : Memory) (kept : is_function f ≡ true) (near : has_far f ≡ false) (counts : HasCounts f call) (is : IsCall call) (good : GoodArrays f call mem) (c : CFunctionValue) (temps : c.temps ≡ variables_of (body_of f.vars f.insns)) (accs : c.accs ≡ count_of kind.Accumulator f.vars) where
+  insns_do : (r i : ℕ) → r < rows f call → i < call.n → (earlier insns : List Insn) (s : CState) (e e1 : State) → list_any is_far insns ≡ false → all_pass f.vars earlier insns ≡ true → variables_of (body_of f.vars insns) ≤ c.temps → Agrees f (λ p. is_set earlier p) s e → emulation.element f call r i insns e ≡ done e1 → HasDone f c call r i none (body_of f.vars insns) s e1
+  insns_do r i row low earlier [] s e e1 far p room g h = record { state = s; does = does_none c call (record { row = r; element = i }) s; agrees = subst (λ e. Agrees f none s e) (ok_same e e1 h) (agrees_less none (λ p k n. absurd (true≢false (sym n))) g) }
+  insns_do r i row low earlier (insn ∷ insns) s e e1 far p room g h =
+      let n = near_parts insn insns far in
       let rooms = room_both (insn_body f.vars insn) (body_of f.vars insns) c.temps room in
       let a = both (is_shaped f.vars insn) (has_no_fault (insn_fault f.vars earlier insn) && all_pass f.vars (earlier ++ insn ∷ []) insns) p in
       let b = both (has_no_fault (insn_fault f.vars earlier insn)) (all_pass f.vars (earlier ++ insn ∷ []) insns) a.1 in
       let u = go_on_ok (act f call r i insn e) (emulation.element f call r i insns) e1 h in
-      let x = insn_does f call mem kept counts is good c accs r i row low earlier insn s e u.0 (checked f.vars earlier insn a.0 b.0) rooms.0 g u.1 in
-      let y = insns_do r i row low (earlier ++ insn ∷ []) insns x.state u.0 e1 b.1 rooms.1 x.agrees u.2 in
+      let x = insn_does f call mem kept near counts is good c accs r i row low earlier insn s e u.0 (checked f.vars earlier insn n.0 a.0 b.0) rooms.0 g u.1 in
+      let y = insns_do r i row low (earlier ++ insn ∷ []) insns x.state u.0 e1 n.1 b.1 rooms.1 x.agrees u.2 in
       record { state = y.state; does = does_both x.does y.does; agrees = y.agrees }
 
   module _ (body : c.body ≡ body_of f.vars f.insns) where
     element_goes : (r i : ℕ) → r < rows f call → i < call.n → (s : CState) (e e1 : State) → Agrees f none s e → emulation.element f call r i f.insns e ≡ done e1 → Went f (λ budget. meaning.element c call budget r i) (1 + length c.body) s e1
     element_goes r i row low s e e1 g h =
         let t : Turn = record { row = r; element = i } in
-        let x = insns_do r i row low [] f.insns (counting s) e e1 (kept_of f kept).insns (omega (arith, temps)) (agrees_less (λ p. is_set [] p) (λ p k n. absurd (true≢false (sym n))) (agrees_count g)) h in
+        let x = insns_do r i row low [] f.insns (counting s) e e1 near (kept_of f kept).insns (omega (arith, temps)) (agrees_less (λ p. is_set [] p) (λ p k n. absurd (true≢false (sym n))) (agrees_count g)) h in
         let d : Does c call t c.body (counting s) x.state = subst (λ (b : List CStmt). Does c call t b (counting s) x.state) (sym body) x.does in
         let begin : Steps begin_turn 1 s (counting s) = steps_one (λ s. Some s) s s refl refl in
         let rest : Steps (λ budget. meaning.body_of c call budget t c.body) (length c.body) (counting s) x.state = record { runs = d.runs; done = d.done } in

@@ -1,12 +1,12 @@
 -- The function of C that is made means what emulation means.
-use Rattle.std.proofs.Common.{◌≡◌, ℕ, ◌+◌, ◌*◌, ◌≤◌, true, List, length, Result, Ok, Err, refl, sym, ap, ◌∙◌, subst, arith}
+use Rattle.std.proofs.Common.{◌≡◌, ℕ, ◌+◌, ◌*◌, ◌≤◌, true, List, length, Result, Ok, Err, refl, sym, ap, ◌∙◌, subst, arith, false}
 use Rattle.std.proofs.Math.Nat.{mul-le-mul_left}
 use Rattle.std.proofs.Math.Seq.{take-length}
 use Rattle.orc_bits.specs.Memory.{Memory}
 use Rattle.orc_program.specs.declared.program.Var.{Var}
 use Rattle.orc_program.specs.declared.program.VarKind.TheVariants as kind
 use Rattle.orc_program.specs.declared.call.Call.{Call}
-use Rattle.orc_program.specs.Program.{FunctionValue, count_of}
+use Rattle.orc_program.specs.Program.{FunctionValue, count_of, has_far}
 use Rattle.orc_program.specs.Kept.{is_function}
 use Rattle.orc_program.specs.Meaning as emulation
 use Rattle.orc_program.specs.Meaning.{State, Gap, rows, rows_of, sums_of, emulate, ended}
@@ -39,7 +39,7 @@ all_sums : (f : FunctionValue) (s : CState) (e : State) → Agrees f none s e �
 all_sums f s e g =
     subst (λ n. Steps (λ budget. times n (finish budget)) n s (stored f s e (length f.vars))) (ap (λ (vs : List Var). count_of kind.Accumulator vs) (take-length f.vars)) (stores_sums f s e g (length f.vars) (omega arith))
 
-module _ (f : FunctionValue) (kept : is_function f ≡ true) (call : Call) (mem : Memory) (counts : HasCounts f call) (is : IsCall call) (wide : HoldsBytes mem) (good : GoodArrays f call mem) where
+module _ (f : FunctionValue) (kept : is_function f ≡ true) (near : has_far f ≡ false) (call : Call) (mem : Memory) (counts : HasCounts f call) (is : IsCall call) (wide : HoldsBytes mem) (good : GoodArrays f call mem) where
   ends_as : EndsAs f (emitted f) call mem
   unfolding emitted
   ends_as =
@@ -47,7 +47,7 @@ module _ (f : FunctionValue) (kept : is_function f ≡ true) (call : Call) (mem 
       let u = go_on_ok (rows_of f call (rows f call) (emulation.start mem)) (ended f) y.0 y.1 in
       let n : ℕ = count_of kind.Accumulator f.vars in
       let first = clears n (meaning.start mem) in
-      let x = rows_go f call mem kept counts is good (emitted f) refl refl refl (rows f call) (omega arith) (cleared (meaning.start mem) n) (emulation.start mem) u.0 (agree_first f mem wide) u.1 in
+      let x = rows_go f call mem kept near counts is good (emitted f) refl refl refl (rows f call) (omega arith) (cleared (meaning.start mem) n) (emulation.start mem) u.0 (agree_first f mem wide) u.1 in
       let last = all_sums f x.state u.0 x.agrees in
       let whole = steps_both first (steps_both x.steps last) in
       let room = enough (rows f call) call.n (length f.insns) (length (body_of f.vars f.insns)) n (statements_few f kept) (limits_kept f kept).accumulators in
@@ -59,8 +59,8 @@ module _ (f : FunctionValue) (kept : is_function f ≡ true) (call : Call) (mem 
       }
 
 -- what is made means what emulation means
-pub emitted_as : (f : FunctionValue) → is_function f ≡ true → CAs f (emitted f)
-emitted_as f kept = record { ends = λ call mem counts is wide good alone. ends_as f kept call mem counts is wide good }
+pub emitted_as : (f : FunctionValue) → is_function f ≡ true → has_far f ≡ false → CAs f (emitted f)
+emitted_as f kept near = record { ends = λ call mem counts is wide good alone. ends_as f kept near call mem counts is wide good }
 
 pub emitted_shape : (f : FunctionValue) → HasShape f (emitted f)
 unfolding emitted

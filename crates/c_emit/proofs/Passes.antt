@@ -17,9 +17,9 @@ use Rattle.orc_program.specs.declared.program.Operand.TheVariants as operand
 use Rattle.orc_program.specs.declared.program.Insn.{Insn}
 use Rattle.orc_program.specs.declared.fault.Fault.{Fault}
 use Rattle.orc_program.specs.declared.fault.Fault.TheVariants as fault
-use Rattle.orc_program.specs.Program.{var_at, same_kind, operand_kind}
+use Rattle.orc_program.specs.Program.{var_at, same_kind, operand_kind, is_far}
 use Rattle.orc_program.specs.Kept.{is_shaped, is_in_range, has_no_fault, result_count, source_count}
-use Rattle.orc_program.specs.Checks.{insn_fault, check, or_else, first_of, is_bad_prefix, is_sum_kind, is_shift_kind, is_count, is_set, is_unset, is_wrong_size, operand_sizes, is_scalar, source_kind_fault, source_fault, sources_fault, result_kind_fault, result_fault, results_fault, is_too_many}
+use Rattle.orc_program.specs.Checks.{insn_fault, check, or_else, first_of, is_bad_prefix, takes_no_prefix, is_shift_kind, is_count, is_set, is_unset, is_wrong_size, operand_sizes, is_scalar, source_kind_fault, source_fault, sources_fault, result_kind_fault, result_fault, results_fault, is_too_many}
 use Rattle.orc_program.proofs.Sizes.{both}
 use Rattle.orc_emul.proofs.Functions as emulated
 use Rattle.c_emit.proofs.Opcodes.{has_lanes}
@@ -63,14 +63,14 @@ source_cases o k e = go (k == 1) refl e
     few : (n : ℕ) → nat_lt 8 n ≡ false → n ≤ 8
     few n e = grind (arith, nat_tests, e)
 
-    go : (t : Bool) → (k == 1) ≡ t → not t && (is_sum_kind (row o).kind || list_any (λ size. nat_lt 8 (size * k)) (operand_sizes o)) ≡ false → Sources o k
+    go : (t : Bool) → (k == 1) ≡ t → not t && (takes_no_prefix (row o).kind || list_any (λ size. nat_lt 8 (size * k)) (operand_sizes o)) ≡ false → Sources o k
     go true q e = let one : k ≡ 1 = grind (arith, nat_tests, q) in record { first = inl one; second = λ c. inl one }
     go false q e =
-        let a = or_parts (is_sum_kind (row o).kind) _ e in
+        let a = or_parts (takes_no_prefix (row o).kind) _ e in
         let r0 = or_parts (nat_lt 8 (size_of_result o 0 * k)) _ a.1 in
         let r1 = or_parts (nat_lt 8 (size_of_result o 1 * k)) _ r0.1 in
         let s0 = or_parts (nat_lt 8 (size_of_source o 0 * k)) _ r1.1 in
-        let s1 = or_parts (nat_lt 8 ((if is_count o 1 then 0 else size_of_source o 1) * k)) false s0.1 in
+        let s1 = or_parts (nat_lt 8 ((if is_count o 1 then 0 else size_of_source o 1) * k)) _ s0.1 in
         record {
           first = inr (few (size_of_source o 0 * k) s0.0);
           second = λ c. inr (few (size_of_source o 1 * k) (ap (λ b. nat_lt 8 ((if b then 0 else size_of_source o 1) * k)) (sym c) ∙ s1.0));
@@ -190,10 +190,11 @@ pub record IsChecked (vars : List Var) (earlier : List Insn) (insn : Insn) : Typ
   pub sizes : AreSized vars insn.op insn.prefix 0 insn.results.items
   pub reads : AreRead vars earlier insn.op insn.prefix insn.sources.items
   pub few : length insn.results.items ≤ 2
+  pub near : is_far insn ≡ false
 
-pub checked : (vars : List Var) (earlier : List Insn) (insn : Insn) → is_shaped vars insn ≡ true → has_no_fault (insn_fault vars earlier insn) ≡ true → IsChecked vars earlier insn
+pub checked : (vars : List Var) (earlier : List Insn) (insn : Insn) → is_far insn ≡ false → is_shaped vars insn ≡ true → has_no_fault (insn_fault vars earlier insn) ≡ true → IsChecked vars earlier insn
 unfolding insn_fault
-checked vars earlier insn shaped h =
+checked vars earlier insn near shaped h =
     let none = emulated.no_fault (insn_fault vars earlier insn) h in
     let fits = emulated.fits_of vars earlier insn shaped none in
     let a = both (insn.prefix == 1 || (insn.prefix == 2 || insn.prefix == 4)) (length insn.results.items == result_count insn.op && (length insn.sources.items == source_count insn.op && (list_all (is_in_range vars) insn.results.items && (list_all (is_in_range vars) insn.sources.items && nat_lt insn.line (2 ^ 32))))) shaped in
@@ -218,4 +219,5 @@ checked vars earlier insn shaped h =
       sizes = sized_all vars insn.op insn.prefix 0 insn.results.items d.0;
       reads = read_all vars earlier insn.op insn.prefix (source_cases insn.op insn.prefix (unchecked (is_bad_prefix insn.op insn.prefix) fault.BadPrefix c.0)) insn.sources.items fits.sources e.0;
       few = (let t = two_at_most (size_of_result insn.op 0 == 0) (size_of_result insn.op 1 == 0) in omega (arith, many, t));
+      near = near;
     }

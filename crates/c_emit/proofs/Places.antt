@@ -11,7 +11,7 @@ use Rattle.orc_program.specs.declared.program.VarKind.{VarKind}
 use Rattle.orc_program.specs.declared.program.VarKind.TheVariants as kind
 use Rattle.orc_program.specs.declared.call.Call.{Call}
 use Rattle.orc_program.specs.declared.call.Place.{Place}
-use Rattle.orc_program.specs.Program.{FunctionValue, var_at, is_of, is_array, is_array_kind, same_kind, count_of, count_before, array_count, array_number}
+use Rattle.orc_program.specs.Program.{FunctionValue, var_at, is_of, is_array, is_array_kind, same_kind, count_of, count_before, array_count, array_number, has_far}
 use Rattle.orc_program.specs.Kept.{is_function}
 use Rattle.orc_program.specs.Meaning.{no_place, place_at, cell, rows}
 use Rattle.orc_program.specs.Good.{IsArray, GoodArrays}
@@ -19,6 +19,7 @@ use Rattle.orc_program.proofs.Apart.{IsSize}
 use Rattle.orc_program.proofs.Sizes.{size_kept}
 use Rattle.orc_emul.specs.State.{HasCounts}
 use Rattle.orc_emul.proofs.Functions.{before_all}
+use Rattle.orc_program.proofs.Near.{has_cell}
 use Rattle.c_run.specs.Meaning.{Turn, address, index_by, byte_address}
 use Rattle.c_emit.specs.Body.{index_of}
 use Rattle.c_emit.specs.CAs.{IsCall}
@@ -89,7 +90,7 @@ at_stride base (negsuc n) m r i size j b f low l e o whole d =
 
 -- ---- each cell
 
-module _ (f : FunctionValue) (call : Call) (mem : Memory) (kept : is_function f ≡ true) (counts : HasCounts f call) (is : IsCall call) (good : GoodArrays f call mem) where
+module _ (f : FunctionValue) (call : Call) (mem : Memory) (kept : is_function f ≡ true) (near : has_far f ≡ false) (counts : HasCounts f call) (is : IsCall call) (good : GoodArrays f call mem) where
   place_there : (p : ℕ) → IsArray f p → slice_get call.arrays.items (array_number f.vars p) ≡ Some (place_at f call p)
   place_there p a = slice_get-get_or call.arrays.items (array_number f.vars p) no_place (let n = number_below f.vars p a.0 a.1 in let c = counts.arrays in omega (arith, n, c))
 
@@ -98,7 +99,7 @@ module _ (f : FunctionValue) (call : Call) (mem : Memory) (kept : is_function f 
 
   row_low : (p i : ℕ) → IsArray f p → i < call.n → (r : ℕ) → r < rows f call → ((place_at f call p).base + r * cast_unsigned w64 (place_at f call p).stride) % 2 ^ 64 < 2 ^ 47
   row_low p i a e r l =
-      let low = good.low p r 0 0 (record { array = a; row = l; element = omega (arith, e); inside = (size_at p a).0 }) in
+      let low = good.low p r 0 0 (record { array = a; row = l; element = has_cell f call near p 0 (omega (arith, e)); inside = (size_at p a).0 }) in
       omega (arith, low)
 
   -- the address in C of a byte of a cell
@@ -112,4 +113,4 @@ module _ (f : FunctionValue) (call : Call) (mem : Memory) (kept : is_function f 
           let g = good.elements in
           ap (λ (o : Option Place). bind o (λ p1. bind (bind o (index_by t (index_of f.vars p j))) (λ z. address (pos p1.base +ℤ z)))) (place_there p a)
           ∙ at_stride (place_at f call p).base (place_at f call p).stride (rows f call) r i (var_at f.vars p).size j (is.bases (array_number f.vars p)) (is.strides (array_number f.vars p)) (row_low p i a e) l
-          (distance_of i (var_at f.vars p).size (omega (arith, e, g)) z.1) (omega (arith, k, z)) (good.low p r i j (record { array = a; row = l; element = e; inside = k })) (array_number f.vars p)
+          (distance_of i (var_at f.vars p).size (omega (arith, e, g)) z.1) (omega (arith, k, z)) (good.low p r i j (record { array = a; row = l; element = has_cell f call near p i e; inside = k })) (array_number f.vars p)

@@ -14,7 +14,7 @@ use Rattle.orc_program.specs.declared.program.Operand.{Operand}
 use Rattle.orc_program.specs.declared.program.Operand.TheVariants as operand
 use Rattle.orc_program.specs.declared.program.Insn.{Insn}
 use Rattle.orc_program.specs.declared.call.Call.{Call}
-use Rattle.orc_program.specs.Program.{FunctionValue, var_at, is_array_kind, same_kind, count_before}
+use Rattle.orc_program.specs.Program.{FunctionValue, var_at, is_array_kind, same_kind, count_before, has_far}
 use Rattle.orc_program.specs.Kept.{is_function}
 use Rattle.orc_program.specs.Checks.{is_set}
 use Rattle.orc_program.specs.Good.{IsArray, GoodArrays}
@@ -107,7 +107,7 @@ room_both (x ∷ xs) ys n h = let r = room_both xs ys n (omega (arith, h)) in (l
 abbrev pub is_summed : Insn → Bool
 is_summed insn = has_sum (row insn.op).stem
 
-module _ (f : FunctionValue) (call : Call) (mem : Memory) (kept : is_function f ≡ true) (counts : HasCounts f call) (is : IsCall call) (good : GoodArrays f call mem) (c : CFunctionValue) (r i : ℕ) (row : r < rows f call) (low : i < call.n) where
+module _ (f : FunctionValue) (call : Call) (mem : Memory) (kept : is_function f ≡ true) (near : has_far f ≡ false) (counts : HasCounts f call) (is : IsCall call) (good : GoodArrays f call mem) (c : CFunctionValue) (r i : ℕ) (row : r < rows f call) (low : i < call.n) where
   -- ---- reads
 
   -- the bytes of a cell give its number
@@ -115,14 +115,14 @@ module _ (f : FunctionValue) (call : Call) (mem : Memory) (kept : is_function f 
   cell_gives made s e p v a g h =
       let size : ℕ = (var_at f.vars p).size in
       let at : ℕ = cell f call p r i in
-      let z = size_at f call mem kept counts is good p a in
+      let z = size_at f call mem kept near counts is good p a in
       let h1 : value size e.memory at ≡ Some v = or_gap_ok (value size e.memory at) (gap_at f call r i p e) v h in
       let b = bind_some (read size e.memory at) (λ bs. let n : Option ℕ = Some (number bs) in n) v h1 in
       let n : size ≡ suc (size - 1) = omega (arith, z) in
       let h2 : read (suc (size - 1)) s.memory (at + 0) ≡ Some b.0 =
       ap (λ (m : Memory). read (suc (size - 1)) m (at + 0)) g.memory ∙ ap (λ n. read n e.memory (at + 0)) (sym n) ∙ ap (λ n. read size e.memory n) (let q : at + 0 ≡ at = omega arith in q) ∙ b.1 in
       let wide : Bytewide s.memory = subst Bytewide (sym g.memory) g.bytes in
-      let gives = bytes_give call (record { row = r; element = i }) s f.vars p at (is_at f call mem kept counts is good p r i a row low) wide (size - 1) 0 b.0 (omega (arith, n)) (omega (arith, n, z)) h2 in
+      let gives = bytes_give call (record { row = r; element = i }) s f.vars p at (is_at f call mem kept near counts is good p r i a row low) wide (size - 1) 0 b.0 (omega (arith, n)) (omega (arith, n, z)) h2 in
       (same v gives (some_one (number b.0) v b.2), subst (λ n. v < n) (pow256 size) (value_small size e.memory at v g.bytes h1))
 
   read_nothing : (made : ℕ → Bool) (s : CState) (e : State) (d p : ℕ) → Agrees f made s e → is_array_kind (var_at f.vars p).kind ≡ false → HasRead f c call r i made d (operand.Var p) [] s e

@@ -16,7 +16,7 @@ use Rattle.orc_program.specs.declared.program.Operand.{Operand}
 use Rattle.orc_program.specs.declared.program.Operand.TheVariants as operand
 use Rattle.orc_program.specs.declared.program.Insn.{Insn}
 use Rattle.orc_program.specs.declared.call.Call.{Call}
-use Rattle.orc_program.specs.Program.{FunctionValue, var_at, is_array_kind, same_kind, count_of, count_before, array_number, is_place}
+use Rattle.orc_program.specs.Program.{FunctionValue, var_at, is_array_kind, same_kind, count_of, count_before, array_number, is_place, has_far}
 use Rattle.orc_program.specs.Kept.{is_function, is_in_range}
 use Rattle.orc_program.specs.Checks.{is_set}
 use Rattle.orc_program.specs.Good.{IsArray, GoodArrays}
@@ -26,6 +26,7 @@ use Rattle.orc_program.proofs.Steps.{go_on_ok, or_gap_ok, ok_same}
 use Rattle.orc_emul.specs.State.{HasCounts}
 use Rattle.orc_emul.proofs.Functions.{before_all, size_low}
 use Rattle.orc_emul.proofs.Cells.{all_at}
+use Rattle.orc_program.proofs.Near.{act_near}
 use Rattle.c_run.specs.declared.tree.COp.TheVariants.{Add}
 use Rattle.c_run.specs.declared.tree.CExpr.{CExpr}
 use Rattle.c_run.specs.declared.tree.CExpr.TheVariants.{V, W, Two}
@@ -80,7 +81,7 @@ not_here p q h = grind (arith, nat_tests, h)
 other_kind : (k : VarKind) → k ≡ kind.Temp → same_kind kind.Temp k ≡ false → ⊥
 other_kind k e h = true≢false (sym (ap (same_kind kind.Temp) e) ∙ h)
 
-module _ (f : FunctionValue) (call : Call) (mem : Memory) (kept : is_function f ≡ true) (counts : HasCounts f call) (is : IsCall call) (good : GoodArrays f call mem) (c : CFunctionValue) (accs : c.accs ≡ count_of kind.Accumulator f.vars) (r i : ℕ) (row : r < rows f call) (low_i : i < call.n) where
+module _ (f : FunctionValue) (call : Call) (mem : Memory) (kept : is_function f ≡ true) (near : has_far f ≡ false) (counts : HasCounts f call) (is : IsCall call) (good : GoodArrays f call mem) (c : CFunctionValue) (accs : c.accs ≡ count_of kind.Accumulator f.vars) (r i : ℕ) (row : r < rows f call) (low_i : i < call.n) where
   -- a place that is no temp's makes no temp
   no_temp : (made : ℕ → Bool) (p : ℕ) → same_kind kind.Temp (var_at f.vars p).kind ≡ false → (q : ℕ) → (var_at f.vars q).kind ≡ kind.Temp → made q || is_place q (operand.Var p) ≡ true → made q ≡ true
   no_temp made p n q k h = made_before (made q) (q == p) h (not_here q p (λ e. other_kind (var_at f.vars q).kind k (ap (λ p. same_kind kind.Temp (var_at f.vars p).kind) e ∙ n)))
@@ -127,9 +128,9 @@ module _ (f : FunctionValue) (call : Call) (mem : Memory) (kept : is_function f 
   write_array : (made : ℕ → Bool) (s : CState) (e : State) (d p k v : ℕ) → (var_at f.vars p).kind ≡ kind.Dest → p < length f.vars → s.v k ≡ Some v → Agrees f made s e → (e1 : State) → go_on (write_cell f call r i p v e) (λ mem. done (record e { memory = mem })) ≡ done e1
       → HasWritten f c call r i (λ q. made q || is_place q (operand.Var p)) d (stores f.vars p k (var_at f.vars p).size) s e1
   write_array made s e d p k v n l sv g e1 h =
-      let z = size_at f call mem kept counts is good p (l, ap is_array_kind n) in
+      let z = size_at f call mem kept near counts is good p (l, ap is_array_kind n) in
       write_filled made s e d p v (stores f.vars p k (var_at f.vars p).size) n l
-      (λ there. stores_do c call (record { row = r; element = i }) s f.vars p (cell f call p r i) k v (var_at f.vars p).size (is_at f call mem kept counts is good p r i (l, ap is_array_kind n) row low_i) (omega arith) z.1 there sv) g e1 h
+      (λ there. stores_do c call (record { row = r; element = i }) s f.vars p (cell f call p r i) k v (var_at f.vars p).size (is_at f call mem kept near counts is good p r i (l, ap is_array_kind n) row low_i) (omega arith) z.1 there sv) g e1 h
 
   -- from any expression
   write_dest : (made : ℕ → Bool) (s : CState) (e : State) (d p v : ℕ) (x : CExpr) → (var_at f.vars p).kind ≡ kind.Dest → p < length f.vars → first_free f.vars ≤ d → variables_of (stores_by f.vars d p x (variable_of x)) ≤ c.temps → Gives (scene call (record { row = r; element = i }) s) x v → Agrees f made s e → (e1 : State)
@@ -149,7 +150,7 @@ module _ (f : FunctionValue) (call : Call) (mem : Memory) (kept : is_function f 
       one q =
           write_filled made s e d p v (SetByte (array_number f.vars p) (index_of f.vars p 0) x ∷ []) n l
           (λ there. subst (λ k. Does c call t (SetByte (array_number f.vars p) (index_of f.vars p 0) x ∷ []) s (filled s (cell f call p r i) v k)) (sym q)
-          (store_one c call t s f.vars p (cell f call p r i) v x (is_at f call mem kept counts is good p r i (l, ap is_array_kind n) row low_i) (omega (arith, q)) (there 0 (omega (arith, q))) gives)) g e1 h
+          (store_one c call t s f.vars p (cell f call p r i) v x (is_at f call mem kept near counts is good p r i (l, ap is_array_kind n) row low_i) (omega (arith, q)) (there 0 (omega (arith, q))) gives)) g e1 h
 
       many : variables_of (SetV d x ∷ stores f.vars p d size) ≤ c.temps → HasWritten f c call r i now d (SetV d x ∷ stores f.vars p d size) s e1
       many room =
@@ -300,7 +301,7 @@ module _ (f : FunctionValue) (call : Call) (mem : Memory) (kept : is_function f 
       agrees = subst (λ e. Agrees f (λ q. made q || false) s e) (ok_same e e1 h) (agrees_less (λ q. made q || false) (λ q k h. made_before (made q) false h refl) g);
     }
     writes_do s (x ∷ []) l two n sized room g held sums h =
-        let gives = first_gives f call mem kept counts is good c r i row low_i earlier insn ok e a b read s g held sums in
+        let gives = first_gives f call mem kept near counts is good c r i row low_i earlier insn ok e a b read s g held sums in
         let w = write_operand made s e free v.0 (size_of_result insn.op 0 * insn.prefix) (first_of f.vars insn) x (both (is_in_range f.vars x) true n).0 (omega arith) room gives sized.0 small g e1 h in
         record { state = w.state; does = w.does; agrees = agrees_less (λ q. made q || (is_place q x || false)) (λ q k h. or_assoc (made q) (is_place q x) false (or_one (made q) (is_place q x) h)) (agrees_less (λ q. (made q || is_place q x) || false) (λ q k h. made_before (made q || is_place q x) false h refl) w.agrees) }
     writes_do s (x ∷ y ∷ []) l two n sized room g held sums h =
@@ -309,13 +310,13 @@ module _ (f : FunctionValue) (call : Call) (mem : Memory) (kept : is_function f 
         let rooms = set_room d c.temps (second_of f.vars insn) (writes_one f.vars (d + 1) (first_of f.vars insn) x ++ writes_one f.vars (d + 1) (V d) y) room in
         let both_rooms = room_both (writes_one f.vars (d + 1) (first_of f.vars insn) x) (writes_one f.vars (d + 1) (V d) y) c.temps rooms.1 in
         let m = both (is_in_range f.vars x) (is_in_range f.vars y && true) n in
-        let last = second_gives f call mem kept counts is good c r i row low_i earlier insn ok e a b read s (two (omega arith)) g held in
+        let last = second_gives f call mem kept near counts is good c r i row low_i earlier insn ok e a b read s (two (omega arith)) g held in
         let s1 : CState = counting (with_v s d v.1) in
         let one = does_v c call t s d v.1 (second_of f.vars insn) rooms.0 last in
         let g1 : Agrees f made s1 e = agrees_v d v.1 (omega arith) g in
         let held1 : AreHeld f call r i s1 e (first_free f.vars) insn.sources.items = are_held_still f call r i s s1 e (first_free f.vars) insn.sources.items (λ k m. change_other s.v d k (Some v.1) (λ z. omega (arith, m, z))) held in
-        let sums1 : AreSummed f s1 insn a b = λ q m t. change_other s.v d (sums_from f.vars insn + q) (Some v.1) (λ z. let k = count_is f call mem kept counts is good c r i row low_i earlier insn ok e a b read t in omega (arith, m, z, k)) ∙ sums q m t in
-        let gives = first_gives f call mem kept counts is good c r i row low_i earlier insn ok e a b read s1 g1 held1 sums1 in
+        let sums1 : AreSummed f s1 insn a b = λ q m t. change_other s.v d (sums_from f.vars insn + q) (Some v.1) (λ z. let k = count_is f call mem kept near counts is good c r i row low_i earlier insn ok e a b read t in omega (arith, m, z, k)) ∙ sums q m t in
+        let gives = first_gives f call mem kept near counts is good c r i row low_i earlier insn ok e a b read s1 g1 held1 sums1 in
         let u = go_on_ok (write_result f call r i v.0 e x) (λ t. write_result f call r i v.1 t y) e1 h in
         let w = write_operand made s1 e (d + 1) v.0 (size_of_result insn.op 0 * insn.prefix) (first_of f.vars insn) x m.0 (omega arith) both_rooms.0 gives sized.0 small g1 u.0 u.1 in
         let kept_last : w.state.v d ≡ Some v.1 = w.other d (omega arith) (λ z. omega (arith, z)) ∙ change_same s.v d (Some v.1) in
@@ -326,16 +327,16 @@ module _ (f : FunctionValue) (call : Call) (mem : Memory) (kept : is_function f 
   -- ---- one instruction
 
   pub insn_does : (earlier : List Insn) (insn : Insn) (s : CState) (e e1 : State) → IsChecked f.vars earlier insn → variables_of (insn_body f.vars insn) ≤ c.temps → Agrees f (λ p. is_set earlier p) s e → act f call r i insn e ≡ done e1 → HasDone f c call r i (λ p. is_set (earlier ++ insn ∷ []) p) (insn_body f.vars insn) s e1
-  unfolding act insn_body
+  unfolding insn_body
   insn_does earlier insn s e e1 ok room g h =
       let d : ℕ = first_free f.vars in
       let d1 : ℕ = sums_from f.vars insn + sum_count insn in
       let rooms = room_both (reads f.vars d insn.sources.items) (sums f.vars insn (sum_count insn) ++ writes f.vars d1 insn insn.results.items) c.temps room in
       let later = room_both (sums f.vars insn (sum_count insn)) (writes f.vars d1 insn insn.results.items) c.temps rooms.1 in
-      let x = go_on_ok (read_sources f call r i insn.op e insn.sources.items) (λ x. write_results f call r i (lanewise insn.op insn.prefix x.0 x.1) e insn.results.items) e1 h in
-      let m = reads_do f call mem kept counts is good c r i row low_i (λ p. is_set earlier p) earlier insn.op insn.prefix s e insn.sources.items x.0.0 x.0.1 rooms.0 ok.reads g x.1 in
-      let n = all_sums_do f call mem kept counts is good c r i row low_i earlier insn ok e x.0.0 x.0.1 x.1 m.state later.0 m.agrees m.held in
-      let summed : AreSummed f n.state insn x.0.0 x.0.1 = λ q l t. n.sums q (let k = count_is f call mem kept counts is good c r i row low_i earlier insn ok e x.0.0 x.0.1 x.1 t in omega (arith, l, k)) in
+      let x = go_on_ok (read_sources f call r i insn.op e insn.sources.items) (λ x. write_results f call r i (lanewise insn.op insn.prefix x.0 x.1) e insn.results.items) e1 (sym (act_near f call r i insn e ok.near) ∙ h) in
+      let m = reads_do f call mem kept near counts is good c r i row low_i (λ p. is_set earlier p) earlier insn.op insn.prefix s e insn.sources.items x.0.0 x.0.1 rooms.0 ok.reads g x.1 in
+      let n = all_sums_do f call mem kept near counts is good c r i row low_i earlier insn ok e x.0.0 x.0.1 x.1 m.state later.0 m.agrees m.held in
+      let summed : AreSummed f n.state insn x.0.0 x.0.1 = λ q l t. n.sums q (let k = count_is f call mem kept near counts is good c r i row low_i earlier insn ok e x.0.0 x.0.1 x.1 t in omega (arith, l, k)) in
       let w = writes_do earlier insn ok e e1 x.0.0 x.0.1 x.1 n.state insn.results.items ok.few ok.second ok.results ok.sizes later.1 n.agrees n.held summed x.2 in
       record {
         state = w.state;

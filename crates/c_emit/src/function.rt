@@ -1,6 +1,7 @@
 //! A function of C from a function of the language.
 
-ghost use Rattle.std.specs.Prelude.{◌≡◌, ◌≤◌, IfOk, OnOk};
+ghost use Rattle.std.specs.Prelude.{◌≡◌, ◌≤◌, false, IfOk, OnOk};
+ghost use Rattle.orc_program.specs.Program.{has_far};
 ghost use Rattle.c_emit.specs.Body as body;
 ghost use Rattle.c_emit.specs.Body.{emitted};
 ghost use Rattle.c_emit.specs.CAs.{CAs, HasShape};
@@ -73,7 +74,7 @@ fn function_of(alloc: Global, f: &Function) -> Result<CFunction, AllocError>
     })
 }
 
-/// A function of C of the same meaning, with the function's name and with as many arrays, parameters and accumulators.
+/// A function of C of the same meaning as a function without far loads, with the function's name and with as many arrays, parameters and accumulators.
 ///
 /// For a good call, on a memory of its cells alone, `8 + m * (4 + n * (8 + 32 * instructions))` statements are enough,
 /// with 1 for m where the function has no rows.
@@ -82,6 +83,7 @@ fn function_of(alloc: Global, f: &Function) -> Result<CFunction, AllocError>
 ///
 /// Where memory is wanting.
 pub fn emit(alloc: Global, f: &Function) -> Result<CFunction, AllocError>
+    requires near { has_far f.now ≡ false }
     ensures shape { IfOk result (λ c. HasShape f.now c) }
     ensures means { IfOk result (λ c. CAs f.now c) }
 {

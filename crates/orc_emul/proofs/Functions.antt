@@ -1,15 +1,12 @@
 -- What the type of functions keeps, as the code asks it.
-use Rattle.std.proofs.Common.{◌≡◌, ◌≢◌, ℕ, zero, suc, ◌+◌, ◌-◌, ◌*◌, ◌%◌, ◌^◌, ◌<◌, ◌≤◌, ◌&&◌, ◌||◌, ◌==◌, ◌⊎◌, inl, inr, ⊎_elim, nat_le, nat_lt, not, Bool, true, false, cond, if◌then◌else◌, List, [], ◌∷◌, ◌++◌, length, map, filter, take, get_or, append-nil, length-append, Option, Some, None, refl, sym, ap, ap₂, ◌∙◌, subst, arith, true≢false}
+use Rattle.std.proofs.Common.{◌≡◌, ℕ, zero, suc, ◌+◌, ◌*◌, ◌^◌, ◌<◌, ◌≤◌, ◌&&◌, ◌||◌, ◌==◌, ◌⊎◌, inl, inr, nat_le, nat_lt, not, Bool, true, false, List, [], ◌∷◌, ◌++◌, length, map, filter, get_or, Option, Some, None, refl, sym, ap, ap₂, ◌∙◌, subst, arith, true≢false}
 use Rattle.std.specs.List.{list_all, list_any, range_with_len}
 use Rattle.std.proofs.lemmas.List.{map-append}
-use Rattle.std.proofs.lemmas.List.Elements.{filter-append}
-use Rattle.std.proofs.lemmas.Bool.{cases_lt}
 use Rattle.std.proofs.lemmas.Bool.Decides.{nat_tests}
 use Rattle.std.proofs.lemmas.List.{get_or_read}
-use Rattle.std.proofs.lemmas.List.Sums.{sum_by-cons, count_by_more_yes, count_by_more_no}
 use Rattle.orc_ops.specs.declared.opcode.Op.{Op}
 use Rattle.orc_ops.specs.declared.opcode.Op.TheVariants as op
-use Rattle.orc_ops.specs.Table.{row, size_of_result, size_of_source}
+use Rattle.orc_ops.specs.Table.{row, size_of_result}
 use Rattle.orc_program.specs.declared.program.Var.{Var}
 use Rattle.orc_program.specs.declared.program.VarKind.{VarKind}
 use Rattle.orc_program.specs.declared.program.VarKind.TheVariants as kind
@@ -17,14 +14,15 @@ use Rattle.orc_program.specs.declared.program.Insn.{Insn}
 use Rattle.orc_program.specs.declared.fault.Fault.{Fault}
 use Rattle.orc_program.specs.declared.fault.Fault.TheVariants as fault
 use Rattle.orc_program.specs.Program.{FunctionValue, same_kind, is_of, var_at, no_var, count_of, count_before}
-use Rattle.orc_program.specs.Kept.{is_function, keeps_limits, has_few, most_of, all_pass, is_shaped, is_in_range, has_no_fault, result_count, source_count}
-use Rattle.orc_program.specs.Checks.{insn_fault, is_bad_prefix, is_sum_kind, is_count, operand_sizes, or_else, check, results_fault, sources_fault, is_too_many}
+use Rattle.orc_program.specs.Kept.{is_function, all_pass, is_shaped, is_in_range, has_no_fault, result_count, source_count}
+use Rattle.orc_program.specs.Checks.{insn_fault, is_bad_prefix, takes_no_prefix, operand_sizes, or_else, check}
 use Rattle.orc_program.proofs.Apart.{IsSize}
 use Rattle.orc_program.proofs.Sizes.{both, kept_of, size_kept}
 use Rattle.orc_program.proofs.Counts.{few_vars, vars_few}
 use Rattle.orc_program.proofs.Places as lower
 use Rattle.orc_program.proofs.Places.{before_less}
 use Rattle.orc_emul.specs.State.{Fits}
+use Rattle.orc_emul.proofs.FarLoads.{element_size}
 
 -- ---- few variables
 
@@ -82,9 +80,9 @@ fits_within r s k lr ls (inr h) = (omega (arith, h), omega (arith, h))
 prefix_cases : (o : Op) (k : ℕ) → is_bad_prefix o k ≡ false → (k ≡ 1) ⊎ ((size_of_result o 0 * k ≤ 8) × (size_of_result o 1 * k ≤ 8))
 prefix_cases o k e = go (k == 1) refl e
   where
-    go : (t : Bool) → (k == 1) ≡ t → not t && (is_sum_kind (row o).kind || list_any (λ size. nat_lt 8 (size * k)) (operand_sizes o)) ≡ false → (k ≡ 1) ⊎ ((size_of_result o 0 * k ≤ 8) × (size_of_result o 1 * k ≤ 8))
+    go : (t : Bool) → (k == 1) ≡ t → not t && (takes_no_prefix (row o).kind || list_any (λ size. nat_lt 8 (size * k)) (operand_sizes o)) ≡ false → (k ≡ 1) ⊎ ((size_of_result o 0 * k ≤ 8) × (size_of_result o 1 * k ≤ 8))
     go true q e = inl (grind (arith, nat_tests, q))
-    go false q e = inr (sizes (is_sum_kind (row o).kind) (nat_lt 8 (size_of_result o 0 * k)) (nat_lt 8 (size_of_result o 1 * k)) _ refl refl e)
+    go false q e = inr (sizes (takes_no_prefix (row o).kind) (nat_lt 8 (size_of_result o 0 * k)) (nat_lt 8 (size_of_result o 1 * k)) _ refl refl e)
       where
         sizes : (a b c rest : Bool) → nat_lt 8 (size_of_result o 0 * k) ≡ b → nat_lt 8 (size_of_result o 1 * k) ≡ c → a || (b || (c || rest)) ≡ false → (size_of_result o 0 * k ≤ 8) × (size_of_result o 1 * k ≤ 8)
         sizes true b c rest p q e = absurd (true≢false e)
@@ -101,7 +99,7 @@ fits_of vars earlier insn shaped passes =
     let e = both (list_all (is_in_range vars) insn.sources.items) (nat_lt insn.line (2 ^ 32)) d.1 in
     let low = both (nat_le (size_of_result insn.op 0) 8) (nat_le (size_of_result insn.op 1) 8) (low_results insn.op) in
     let w = fits_within (size_of_result insn.op 0) (size_of_result insn.op 1) insn.prefix (grind (arith, nat_tests, low.0)) (grind (arith, nat_tests, low.1)) (prefix_cases insn.op insn.prefix (good_prefix vars earlier insn passes)) in
-    record { first = w.0; second = w.1; results = d.0; sources = e.0 }
+    record { first = w.0; second = w.1; results = d.0; sources = e.0; element = element_size vars earlier insn passes (good_prefix vars earlier insn passes) }
 
 all_fit : (vars : List Var) (earlier insns : List Insn) (k : ℕ) (d : Insn) → all_pass vars earlier insns ≡ true → k < length insns → Fits vars (get_or insns k d)
 all_fit vars earlier [] k d h l = absurd (omega (arith, l))

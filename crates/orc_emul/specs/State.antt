@@ -1,15 +1,17 @@
 -- The state that the code has, and what its steps answer, in the words of the meaning.
-use Rattle.std.specs.Prelude.{◌≡◌, ℕ, ◌*◌, ◌≤◌, ◌<◌, ◌^◌, true, List, Option, Some, None, Result, Ok, Err, length, slice_index}
+use Rattle.std.specs.Prelude.{◌≡◌, ℕ, ◌*◌, ◌≤◌, true, List, Some, Result, Ok, Err, length, slice_index}
 use Rattle.std.specs.List.{list_all}
 use Rattle.orc_bits.specs.Memory.{Memory}
 use Rattle.orc_bits.specs.declared.parts.Part.{Part}
 use Rattle.orc_ops.specs.declared.opcode.Op.{Op}
 use Rattle.orc_ops.specs.Table.{size_of_result, size_of_source}
+use Rattle.orc_ops.specs.declared.far.Far.{Far}
+use Rattle.orc_ops.specs.Far.{far_of, far_size}
 use Rattle.orc_program.specs.declared.program.Var.{Var}
 use Rattle.orc_program.specs.declared.program.VarKind.TheVariants as kind
 use Rattle.orc_program.specs.declared.program.Insn.{Insn}
 use Rattle.orc_program.specs.declared.call.Call.{Call}
-use Rattle.orc_program.specs.Program.{FunctionValue, array_count, count_of}
+use Rattle.orc_program.specs.Program.{FunctionValue, var_at, array_count, count_of, far_array}
 use Rattle.orc_program.specs.Kept.{is_in_range}
 use Rattle.orc_program.specs.Meaning.{State, Gap, sub_lane}
 use Rattle.orc_emul.specs.declared.state.Values.{Values}
@@ -29,6 +31,7 @@ pub record Fits (vars : List Var) (insn : Insn) : Type 0 where
   pub second : 8 * size_of_result insn.op 1 * insn.prefix ≤ 64
   pub results : list_all (is_in_range vars) insn.results.items ≡ true
   pub sources : list_all (is_in_range vars) insn.sources.items ≡ true
+  pub element : (far : Far) → far_of insn.op ≡ Some far → (p : ℕ) → far_array vars insn.sources.items ≡ Some p → (var_at vars p).size ≡ far_size far
 
 -- ---- the state
 

@@ -1,7 +1,8 @@
 //! One instruction on one element.
 
-ghost use Rattle.std.specs.Prelude.{◌≡◌, ◌<◌, ℕ, true, Ok, length};
+ghost use Rattle.std.specs.Prelude.{◌≡◌, ◌<◌, ℕ, true, None, Some, Ok, length};
 ghost use Rattle.std.specs.List.{list_all};
+ghost use Rattle.orc_ops.specs.Far.{far_of};
 ghost use Rattle.orc_program.specs.Program.{var_at, is_array};
 ghost use Rattle.orc_program.specs.Kept.{is_in_range};
 ghost use Rattle.orc_program.specs.Meaning as meaning;
@@ -9,11 +10,12 @@ ghost use Rattle.orc_bits.specs.Parts.{memory_of, layout};
 ghost use Rattle.orc_emul.specs.State.{HasCounts, Fits, state_of, number_or, memory_or, after, given_or, two_given_or};
 
 use crate::access::{read, write};
+use crate::far::load;
 use crate::lanes::{Given, lanewise, low_bits};
 use crate::places::{cell, param_at, variable};
 use crate::state::{Spot, Unmapped, Values};
 use crate::store::Store;
-use orc_ops::Op;
+use orc_ops::{Far, Op, far_of};
 use orc_program::{Call, Function, Insn, Operand, VarKind};
 
 /// The number in a cell.
@@ -215,7 +217,48 @@ fn write_results(
     }
 }
 
-/// Does one instruction: sources are read from the left, results are written, the first before the second.
+/// Does a far load: its value is loaded and written.
+fn act_far(
+    f: &Function,
+    call: &Call,
+    store: &mut Store,
+    values: &mut Values,
+    spot: Spot,
+    insn: &Insn,
+    far: Far,
+) -> Result<(), Unmapped>
+    requires far { far_of insn.now.op ≡ Some far }
+    requires fits { Fits f.now.vars insn.now }
+    requires counts { HasCounts f.now call.now }
+    ensures value { meaning.act_as f.now call.now spot.row spot.element insn.now (state_of store.old values.old) (Some far) ≡ after result store.new values.new }
+    ensures layout { layout store.new ≡ layout store.old }
+{
+    let v = load(f, call, store, spot, far, insn.sources.as_slice())?;
+    write_results(f, call, store, values, spot, insn.results.as_slice(), (v, 0))
+}
+
+/// Does an instruction that is no far load: sources are read from the left, results are written, the first before the second.
+fn act_near(
+    f: &Function,
+    call: &Call,
+    store: &mut Store,
+    values: &mut Values,
+    spot: Spot,
+    insn: &Insn,
+) -> Result<(), Unmapped>
+    requires near { far_of insn.now.op ≡ None }
+    requires fits { Fits f.now.vars insn.now }
+    requires counts { HasCounts f.now call.now }
+    ensures value { meaning.act_as f.now call.now spot.row spot.element insn.now (state_of store.old values.old) None ≡ after result store.new values.new }
+    ensures layout { layout store.new ≡ layout store.old }
+{
+    let sources = insn.sources.as_slice();
+    let given = read_sources(f, call, store, values, spot, insn.op, sources)?;
+    let v = lanewise(insn.op, insn.prefix, given.0, given.1);
+    write_results(f, call, store, values, spot, insn.results.as_slice(), v)
+}
+
+/// Does one instruction.
 pub fn act(
     f: &Function,
     call: &Call,
@@ -229,8 +272,8 @@ pub fn act(
     ensures value { meaning.act f.now call.now spot.row spot.element insn.now (state_of store.old values.old) ≡ after result store.new values.new }
     ensures layout { layout store.new ≡ layout store.old }
 {
-    let sources = insn.sources.as_slice();
-    let given = read_sources(f, call, store, values, spot, insn.op, sources)?;
-    let v = lanewise(insn.op, insn.prefix, given.0, given.1);
-    write_results(f, call, store, values, spot, insn.results.as_slice(), v)
+    match far_of(insn.op) {
+        Some(far) => act_far(f, call, store, values, spot, insn, far),
+        None => act_near(f, call, store, values, spot, insn),
+    }
 }

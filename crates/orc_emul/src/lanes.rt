@@ -1,7 +1,8 @@
 //! An opcode on adjacent sub-lanes.
 
-ghost use Rattle.std.specs.Prelude.{◌≡◌, ◌<◌, ◌≤◌, ◌+◌, ◌*◌, ◌%◌, ◌^◌};
+ghost use Rattle.std.specs.Prelude.{◌≡◌, ◌<◌, ◌≤◌, ◌+◌, ◌*◌, ◌%◌, ◌^◌, None};
 ghost use Rattle.orc_ops.specs.Table.{size_of_result, size_of_source};
+ghost use Rattle.orc_ops.specs.Far.{far_of};
 ghost use Rattle.orc_ops.specs.Formula.{formula};
 ghost use Rattle.orc_program.specs.Meaning as meaning;
 ghost use Rattle.orc_emul.specs.State.{given};
@@ -78,8 +79,9 @@ fn second_source(op: Op) -> u8
     sources(op)[1]
 }
 
-/// The results of an opcode on one sub-lane.
+/// The results of an opcode that is no far load on one sub-lane.
 fn results_at(op: Op, a: Given, b: Given, q: u8) -> (u64, u64)
+    requires near { far_of op ≡ None }
     ensures value { result ≡ formula op (given (8 * size_of_source op 0) a q) (given (8 * size_of_source op 1) b q) }
     ensures first { result.0 < 2 ^ (8 * size_of_result op 0) }
     ensures second { result.1 < 2 ^ (8 * size_of_result op 1) }
@@ -91,8 +93,9 @@ fn results_at(op: Op, a: Given, b: Given, q: u8) -> (u64, u64)
     )
 }
 
-/// The results of an opcode on so many adjacent sub-lanes.
+/// The results of an opcode that is no far load on so many adjacent sub-lanes.
 pub fn lanewise(op: Op, prefix: u8, a: Given, b: Given) -> (u64, u64)
+    requires near { far_of op ≡ None }
     requires first { 8 * size_of_result op 0 * prefix ≤ 64 }
     requires second { 8 * size_of_result op 1 * prefix ≤ 64 }
     ensures { result ≡ meaning.lanewise op prefix (given (8 * size_of_source op 0) a) (given (8 * size_of_source op 1) b) }

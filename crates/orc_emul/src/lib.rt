@@ -3,6 +3,7 @@
 
 mod access;
 mod act;
+mod far;
 mod lanes;
 mod places;
 mod run;

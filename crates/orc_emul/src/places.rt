@@ -60,6 +60,19 @@ fn place_at(f: &Function, call: &Call, p: u16) -> Place
     call.arrays.as_slice()[array_number(f, p)]
 }
 
+/// The address of element `k`, modulo 2^64, of a row of an array.
+pub fn address(f: &Function, call: &Call, p: u16, row: u32, k: u64) -> u64
+    requires inside { p < length f.now.vars }
+    requires array { is_array (var_at f.now.vars p) ≡ true }
+    requires counts { HasCounts f.now call.now }
+    ensures { result ≡ meaning.cell f.now call.now p row k }
+{
+    let place = place_at(f, call, p);
+    let start = u64::from(row).wrapping_mul(place.stride.cast_unsigned());
+    let element = k.wrapping_mul(u64::from(variable(f, p).size));
+    place.base.wrapping_add(start).wrapping_add(element)
+}
+
 /// The address of an array's cell.
 pub fn cell(f: &Function, call: &Call, p: u16, spot: Spot) -> u64
     requires inside { p < length f.now.vars }
@@ -67,10 +80,7 @@ pub fn cell(f: &Function, call: &Call, p: u16, spot: Spot) -> u64
     requires counts { HasCounts f.now call.now }
     ensures { result ≡ meaning.cell f.now call.now p spot.row spot.element }
 {
-    let place = place_at(f, call, p);
-    let row = u64::from(spot.row).wrapping_mul(place.stride.cast_unsigned());
-    let element = u64::from(spot.element) * u64::from(variable(f, p).size);
-    place.base.wrapping_add(row).wrapping_add(element)
+    address(f, call, p, spot.row, u64::from(spot.element))
 }
 
 /// The number of a parameter.

@@ -244,6 +244,89 @@ const ROWS: Case<'static> = Case {
     ..PLAIN
 };
 
+const LINEAR: Case<'static> = Case {
+    vars: list![(Dest, 1, 0), (Source, 1, 0)],
+    lines: list![(
+        Op::Ldreslinb,
+        1,
+        list![At(0)],
+        list![At(1), Number(0), Number(32768)]
+    )],
+    counts: (4, 1),
+    places: list![(4096, 0), (8192, 0)],
+    memory: list![
+        (4096, list![0, 0, 0, 0]),
+        (8192, list![0x00, 0x64, 0xc8])
+    ],
+    ..PLAIN
+};
+
+const AVERAGES: Case<'static> = Case {
+    lines: list![(Op::Loadupib, 1, list![At(0)], list![At(1)])],
+    memory: list![
+        (4096, list![0, 0, 0, 0]),
+        (8192, list![0x10, 0x20, 0x30])
+    ],
+    ..LINEAR
+};
+
+const OFFSET: Case<'static> = Case {
+    lines: list![(
+        Op::Loadoffb,
+        1,
+        list![At(0)],
+        list![At(1), Number(0xffff_ffff)]
+    )],
+    counts: (2, 1),
+    memory: list![(4096, list![0, 0]), (8191, list![0x0a, 0x0b])],
+    ..LINEAR
+};
+
+const TWICE: Case<'static> = Case {
+    lines: list![(Op::Loadupdb, 1, list![At(0)], list![At(1)])],
+    memory: list![(4096, list![0, 0, 0, 0]), (8192, list![7])],
+    ..LINEAR
+};
+
+#[test]
+fn far_loads_on_memories(rt: HostRuntime) -> Result<(), AllocError> {
+    let at_two = Unmapped {
+        row: 0,
+        element: 2,
+        at: 8193,
+    };
+    let rows: [(&str, Case, Result<&[u64], Unmapped>, Table); 4] = [
+        (
+            "halves of places",
+            LINEAR,
+            Ok(list![]),
+            list![(4096, list![0x00, 0x32, 0x64, 0x96])],
+        ),
+        (
+            "averages",
+            AVERAGES,
+            Ok(list![]),
+            list![(4096, list![0x10, 0x18, 0x20, 0x28])],
+        ),
+        (
+            "an offset",
+            OFFSET,
+            Ok(list![]),
+            list![(4096, list![0x0a, 0x0b])],
+        ),
+        (
+            "one byte twice",
+            TWICE,
+            Err(at_two),
+            list![(4096, list![7, 7, 0, 0])],
+        ),
+    ];
+    for (name, case, want, after) in rows {
+        check(&rt, rt.alloc(), name, &case, want, after)?;
+    }
+    Ok(())
+}
+
 #[test]
 fn functions_on_memories(rt: HostRuntime) -> Result<(), AllocError> {
     let four = Case {

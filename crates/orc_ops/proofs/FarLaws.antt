@@ -1,13 +1,19 @@
 -- The lines of the table of far loads.
-use Rattle.std.proofs.Common.{◌≡◌, ℕ, zero, suc, ◌+◌, ◌-◌, ◌*◌, ◌/◌, ◌%◌, ◌^◌, ◌<◌, ◌≤◌, ◌==◌, ℤ, pos, negsuc, ◌+ℤ◌, if◌then◌else◌, Some, None, refl, sym, ap, ◌∙◌, arith, pow-suc, mul_comm}
+use Rattle.std.proofs.Common.{◌≡◌, ℕ, zero, suc, ◌+◌, ◌-◌, ◌*◌, ◌/◌, ◌%◌, ◌^◌, ◌<◌, ◌≤◌, ◌==◌, ℤ, pos, negsuc, ◌+ℤ◌, if◌then◌else◌, Option, Some, None, refl, sym, ap, subst, ◌∙◌, arith, pow-suc, mul_comm}
 use Rattle.std.specs.Prelude.{bit_and}
 use Rattle.std.specs.Int.{int_shr}
 use Rattle.std.proofs.lemmas.Nat.{and_mask}
 use Rattle.std.proofs.Math.Nat.{mul-le-mul_left, div-div-eq-div-mul}
 use Rattle.orc_bits.specs.Numbers.{wrap}
+use Rattle.orc_ops.specs.declared.opcode.Op.{Op}
+use Rattle.orc_ops.specs.declared.opcode.Op.TheVariants as op
+use Rattle.orc_ops.specs.declared.opcode.Kind.TheVariants as kind
+use Rattle.orc_ops.specs.declared.stem.Stem.TheVariants as stem
+use Rattle.orc_ops.specs.declared.far.Far.{Far}
 use Rattle.orc_ops.specs.declared.far.Far.TheVariants.{Loadupib}
-use Rattle.orc_ops.specs.Far.{far_value, other, place, fraction, mixed, mixed_bytes}
-use Rattle.orc_ops.specs.FarLines.{byte, AreLines}
+use Rattle.orc_ops.specs.Table.{row, row_of}
+use Rattle.orc_ops.specs.Far.{far_of, far_name, far_size, far_value, other, place, fraction, mixed, mixed_bytes}
+use Rattle.orc_ops.specs.FarLines.{byte, AreLines, scalar_size, HaveRows}
 
 -- ---- the fraction
 
@@ -85,3 +91,25 @@ lines = record {
   ldreslinl = λ a i p q. each_byte 4 (fraction i p q) (a (int_shr (place i p q) 16)) (a (int_shr (place i p q) 16 +ℤ pos 1)) (fraction_small i p q);
   share = share;
 }
+
+-- ---- the table of opcodes
+
+abbrev HasRow : Op → Option Far → Type 0
+HasRow o None = Unit {0}
+HasRow o (Some far) = row o ≡ row_of (far_name far) (far_size far) 0 (far_size far) (scalar_size far 1) (scalar_size far 2) kind.Far 0 stem.Copy
+
+-- computed at each opcode
+has_row : (o : Op) → HasRow o (far_of o)
+has_row op.Loadoffb = refl
+has_row op.Loadoffw = refl
+has_row op.Loadoffl = refl
+has_row op.Loadupdb = refl
+has_row op.Loadupib = refl
+has_row op.Ldresnearb = refl
+has_row op.Ldresnearl = refl
+has_row op.Ldreslinb = refl
+has_row op.Ldreslinl = refl
+has_row o = tt
+
+pub rows : HaveRows
+rows o far e = subst (HasRow o) e (has_row o)

@@ -1,5 +1,6 @@
 -- What holds of every row of the table.
-use Rattle.std.proofs.Common.{◌≡◌, ℕ, ◌+◌, ◌*◌, ◌%◌, ◌^◌, ◌<◌, ◌&&◌, ◌||◌, ◌==◌, ◌⊎◌, inl, inr, ⊎_elim, nat_lt, nat_le, ◌≤◌, Bool, true, false, refl, sym, subst, arith}
+use Rattle.std.proofs.Common.{◌≡◌, ℕ, ◌+◌, ◌*◌, ◌%◌, ◌^◌, ◌<◌, ◌&&◌, ◌||◌, ◌==◌, ◌⊎◌, inl, inr, ⊎_elim, nat_lt, nat_le, ◌≤◌, Bool, true, false, Option, Some, None, refl, sym, subst, arith}
+use Rattle.std.specs.Prelude.{is_some}
 use Rattle.std.proofs.lemmas.Nat.{pow_pos}
 use Rattle.std.proofs.lemmas.Bool.Decides.{nat_tests}
 use Rattle.std.proofs.Math.Nat.{mod-lt}
@@ -9,6 +10,8 @@ use Rattle.orc_ops.specs.declared.opcode.Op.TheVariants as op
 use Rattle.orc_ops.specs.declared.stem.Stem.{Stem}
 use Rattle.orc_ops.specs.declared.stem.Stem.TheVariants as stem
 use Rattle.orc_ops.specs.Table.{row, wide, to, size_of_source}
+use Rattle.orc_ops.specs.declared.far.Far.{Far}
+use Rattle.orc_ops.specs.Far.{far_of}
 use Rattle.orc_ops.specs.Widths.{Takes, TakesSecond, IsSize}
 use Rattle.orc_ops.specs.Formula.{source_of}
 
@@ -40,7 +43,7 @@ takes_second other n m = m == 0 || m == n
 abbrev fits : Op → Bool
 fits o =
     is_width (wide o) && (is_width (to o) && (is_size (size_of_source o 1) &&
-    (takes (row o).stem (wide o) (to o) && takes_second (row o).stem (size_of_source o 0) (size_of_source o 1))))
+    (takes (row o).stem (wide o) (to o) && (is_some (far_of o) || takes_second (row o).stem (size_of_source o 0) (size_of_source o 1)))))
 
 all_fit : (o : Op) → fits o ≡ true
 all_fit op.Absb = refl
@@ -109,7 +112,11 @@ pub record Fits (o : Op) : Type 0 where
   pub result : IsWidth (to o)
   pub size : IsSize (size_of_source o 1)
   pub takes : Takes (row o).stem (wide o) (to o)
-  pub second : (v : ℕ) → TakesSecond (row o).stem (wide o) (source_of o 1 v)
+  pub second : far_of o ≡ None → (v : ℕ) → TakesSecond (row o).stem (wide o) (source_of o 1 v)
+
+without_far : (f : Option Far) → f ≡ None → (b : Bool) → is_some f || b ≡ true → b ≡ true
+without_far None e b h = h
+without_far (Some far) e b h = absurd (let q : ⊥ = cc in q)
 
 pub row_fits : (o : Op) → Fits o
 row_fits o =
@@ -122,5 +129,5 @@ row_fits o =
       result = width_of_test (to o) b.0;
       size = size_of_test (size_of_source o 1) c.0;
       takes = takes_of_test (row o).stem (wide o) (to o) d.0;
-      second = λ v. second_of_test (row o).stem (size_of_source o 0) (size_of_source o 1) v d.1;
+      second = λ near v. second_of_test (row o).stem (size_of_source o 0) (size_of_source o 1) v (without_far (far_of o) near _ d.1);
     }

@@ -2,8 +2,23 @@
 use Rattle.std.specs.Prelude.{ℕ, zero, suc, ◌+◌, ◌-◌, ◌*◌, ◌/◌, ◌%◌, ◌^◌, ◌==◌, ℤ, pos, ◌+ℤ◌, ◌*ℤ◌, if◌then◌else◌, List, codes, Option, Some, None}
 use Rattle.std.specs.Int.{int_shr}
 use Rattle.orc_bits.specs.Numbers.{cut, signed, wrap}
+use Rattle.orc_ops.specs.declared.opcode.Op.{Op}
+use Rattle.orc_ops.specs.declared.opcode.Op.TheVariants as op
 use Rattle.orc_ops.specs.declared.far.Far.{Far}
 use Rattle.orc_ops.specs.declared.far.Far.TheVariants.{Loadoffb, Loadoffw, Loadoffl, Loadupdb, Loadupib, Ldresnearb, Ldresnearl, Ldreslinb, Ldreslinl}
+
+-- the far load that an opcode is, where it is one
+abbrev pub far_of : Op → Option Far
+far_of op.Loadoffb = Some Loadoffb
+far_of op.Loadoffw = Some Loadoffw
+far_of op.Loadoffl = Some Loadoffl
+far_of op.Loadupdb = Some Loadupdb
+far_of op.Loadupib = Some Loadupib
+far_of op.Ldresnearb = Some Ldresnearb
+far_of op.Ldresnearl = Some Ldresnearl
+far_of op.Ldreslinb = Some Ldreslinb
+far_of op.Ldreslinl = Some Ldreslinl
+far_of _ = None
 
 -- ---- the table's columns
 

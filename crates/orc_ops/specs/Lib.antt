@@ -4,5 +4,6 @@ pub mod Widths
 pub mod Formula
 pub mod Far
 pub mod FarLines
+pub mod Reach
 pub mod Names
 pub mod Targets

@@ -8,16 +8,14 @@ use Rattle.orc_ops.specs.declared.lookup.Found.{Found}
 use Rattle.orc_ops.specs.declared.lookup.Found.TheVariants as found
 use Rattle.orc_ops.specs.Table.{row}
 
--- names of the language that are known and not supported: floats, loads at an offset and loads that resample
+-- names of the language that are known and not supported: floats
 abbrev pub refused : List (List ℕ)
 refused =
     codes "addf" ∷ codes "subf" ∷ codes "mulf" ∷ codes "divf" ∷ codes "sqrtf" ∷ codes "maxf" ∷ codes "minf" ∷
     codes "cmpeqf" ∷ codes "cmpltf" ∷ codes "cmplef" ∷ codes "orf" ∷ codes "andf" ∷ codes "convfl" ∷
     codes "convlf" ∷ codes "convwf" ∷ codes "convfd" ∷ codes "convdf" ∷ codes "addd" ∷ codes "subd" ∷
     codes "muld" ∷ codes "divd" ∷ codes "sqrtd" ∷ codes "maxd" ∷ codes "mind" ∷ codes "cmpeqd" ∷
-    codes "cmpltd" ∷ codes "cmpled" ∷ codes "convdl" ∷ codes "convld" ∷ codes "loadoffb" ∷ codes "loadoffw" ∷
-    codes "loadoffl" ∷ codes "loadupdb" ∷ codes "loadupib" ∷ codes "ldresnearb" ∷ codes "ldresnearl" ∷
-    codes "ldreslinb" ∷ codes "ldreslinl" ∷ []
+    codes "cmpltd" ∷ codes "cmpled" ∷ codes "convdl" ∷ codes "convld" ∷ []
 
 -- every opcode, in the table's order
 abbrev pub all_opcodes : List Op
@@ -40,7 +38,9 @@ all_opcodes =
     op.Convsusql ∷ op.Convusswb ∷ op.Convusslw ∷ op.Convussql ∷ op.Convuuswb ∷ op.Convuuslw ∷ op.Convuusql ∷
     op.Mulsbw ∷ op.Mulswl ∷ op.Mulslq ∷ op.Mulubw ∷ op.Muluwl ∷ op.Mululq ∷ op.Mergebw ∷ op.Mergewl ∷
     op.Mergelq ∷ op.Splitwb ∷ op.Splitlw ∷ op.Splitql ∷ op.Swapw ∷ op.Swapl ∷ op.Swapq ∷ op.Swapwl ∷
-    op.Swaplq ∷ op.Div255w ∷ op.Divluw ∷ op.Accw ∷ op.Accl ∷ op.Accsadubl ∷ []
+    op.Swaplq ∷ op.Div255w ∷ op.Divluw ∷ op.Accw ∷ op.Accl ∷ op.Accsadubl ∷
+    op.Loadoffb ∷ op.Loadoffw ∷ op.Loadoffl ∷ op.Loadupdb ∷ op.Loadupib ∷ op.Ldresnearb ∷ op.Ldresnearl ∷
+    op.Ldreslinb ∷ op.Ldreslinl ∷ []
 
 -- the first of these opcodes that has the name
 abbrev pub find_among : List Op → List ℕ → Option Op

@@ -1,8 +1,9 @@
 //! The results of an opcode.
 
-ghost use Rattle.std.specs.Prelude.{◌≡◌, ◌<◌, ◌*◌, ◌^◌};
+ghost use Rattle.std.specs.Prelude.{◌≡◌, ◌<◌, ◌*◌, ◌^◌, None};
 ghost use Rattle.orc_bits.specs.Widths.{IsWidth};
 ghost use Rattle.orc_ops.specs.Table.{row, wide, to, size_of_result};
+ghost use Rattle.orc_ops.specs.Far.{far_of};
 ghost use Rattle.orc_ops.specs.Widths.{Takes, TakesSecond};
 ghost use Rattle.orc_ops.specs.Formula.{formula, source_of};
 
@@ -32,6 +33,7 @@ pub fn to_of(op: Op) -> u32
 /// The second source, cut to its width.
 #[tactic(auto, using(crate::proofs::Rows::row_fits))]
 fn second(op: Op, b: u64) -> u64
+    requires near { far_of op ≡ None }
     ensures value { result ≡ source_of op 1 b }
     ensures takes { TakesSecond (row op).stem (wide op) result }
 {
@@ -46,15 +48,17 @@ fn second(op: Op, b: u64) -> u64
 
 #[tactic(auto, unfolding(crate::specs::Formula::formula))]
 fn results_of(op: Op, a: u64, b: u64) -> (u64, u64)
+    requires near { far_of op ≡ None }
     ensures { result ≡ formula op a b }
 {
     let wide = wide_of(op);
     apply(stem_of(op), wide, to_of(op), cut(a, wide), second(op, b))
 }
 
-/// The first and second result of an opcode on two sources, each cut to its size; `b` isn't read where there is one source. The
+/// The first and second result of an opcode that is no far load on two sources, each cut to its size; `b` isn't read where there is one source. The
 /// second result is 0 where there is none. Of a `Sum` opcode the first is the number that is added.
 pub fn eval(op: Op, a: u64, b: u64) -> (u64, u64)
+    requires near { far_of op ≡ None }
     ensures value { result ≡ formula op a b }
     ensures first { result.0 < 2 ^ (8 * size_of_result op 0) }
     ensures second { result.1 < 2 ^ (8 * size_of_result op 1) }

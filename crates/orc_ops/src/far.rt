@@ -1,8 +1,10 @@
 //! The far loads, and what the table says of each.
 
 ghost use Rattle.std.specs.Prelude.{◌≡◌};
-ghost use Rattle.orc_ops.specs.Far.{far_name, far_size, far_scalars};
-ghost use Rattle.orc_ops.specs.FarLines.{AreLines};
+ghost use Rattle.orc_ops.specs.Far.{far_of, far_name, far_size, far_scalars};
+ghost use Rattle.orc_ops.specs.FarLines.{AreLines, HaveRows};
+
+use crate::opcode::Op;
 
 /// A load that reads elements other than the one at the place of its result. The letter at the end of a name tells the size of
 /// the array's elements and of the result: 1, 2 or 4 bytes.
@@ -22,6 +24,24 @@ pub enum Far {
     /// The elements before and behind such a place, mixed byte by byte.
     Ldreslinb,
     Ldreslinl,
+}
+
+/// The far load that an opcode is, where it is one.
+pub fn far_of(op: Op) -> Option<Far>
+    ensures { result ≡ far_of op }
+{
+    match op {
+        Op::Loadoffb => Some(Far::Loadoffb),
+        Op::Loadoffw => Some(Far::Loadoffw),
+        Op::Loadoffl => Some(Far::Loadoffl),
+        Op::Loadupdb => Some(Far::Loadupdb),
+        Op::Loadupib => Some(Far::Loadupib),
+        Op::Ldresnearb => Some(Far::Ldresnearb),
+        Op::Ldresnearl => Some(Far::Ldresnearl),
+        Op::Ldreslinb => Some(Far::Ldreslinb),
+        Op::Ldreslinl => Some(Far::Ldreslinl),
+        _ => None,
+    }
 }
 
 /// The name of a far load.
@@ -63,7 +83,8 @@ pub fn far_scalars(far: Far) -> u8
     }
 }
 
-/// The law that the values of far loads are those of the table's lines.
+/// The laws that the values of far loads are those of the table's lines, and that the table of opcodes has each far load.
 pub fn far_lines()
-    ensures { AreLines }
+    ensures lines { AreLines }
+    ensures rows { HaveRows }
 {}

@@ -14,52 +14,17 @@ use crate::opcode::{ALL, Op, name};
 pub enum Found {
     /// It is the name of this opcode.
     Yes(Op),
-    /// It is known and not supported: floats, loads at an offset and loads that resample.
+    /// It is known and not supported: floats.
     Unsupported,
     /// It is neither.
     Unknown,
 }
 
 /// The names that are known and not supported.
-static REFUSED: [&str; 38] = [
-    "addf",
-    "subf",
-    "mulf",
-    "divf",
-    "sqrtf",
-    "maxf",
-    "minf",
-    "cmpeqf",
-    "cmpltf",
-    "cmplef",
-    "orf",
-    "andf",
-    "convfl",
-    "convlf",
-    "convwf",
-    "convfd",
-    "convdf",
-    "addd",
-    "subd",
-    "muld",
-    "divd",
-    "sqrtd",
-    "maxd",
-    "mind",
-    "cmpeqd",
-    "cmpltd",
-    "cmpled",
-    "convdl",
-    "convld",
-    "loadoffb",
-    "loadoffw",
-    "loadoffl",
-    "loadupdb",
-    "loadupib",
-    "ldresnearb",
-    "ldresnearl",
-    "ldreslinb",
-    "ldreslinl",
+static REFUSED: [&str; 29] = [
+    "addf", "subf", "mulf", "divf", "sqrtf", "maxf", "minf", "cmpeqf", "cmpltf", "cmplef", "orf",
+    "andf", "convfl", "convlf", "convwf", "convfd", "convdf", "addd", "subd", "muld", "divd",
+    "sqrtd", "maxd", "mind", "cmpeqd", "cmpltd", "cmpled", "convdl", "convld",
 ];
 
 fn is_same(a: &[u8], b: &[u8]) -> bool

@@ -3,7 +3,7 @@ use Rattle.std.proofs.Common.{◌≡◌, ℕ, ◌+◌, ◌<◌, ◌^◌, Bool, t
 use Rattle.orc_bits.proofs.Memories.{value_small}
 use Rattle.orc_program.specs.declared.program.VarKind.{VarKind}
 use Rattle.orc_program.specs.declared.program.VarKind.TheVariants as kind
-use Rattle.orc_program.specs.Program.{FunctionValue, var_at, is_of, same_kind, count_of, count_before}
+use Rattle.orc_program.specs.Program.{FunctionValue, var_at, is_of, same_kind, count_of, count_before, has_far}
 use Rattle.orc_program.specs.Slots.{slot_of}
 use Rattle.orc_program.specs.Laws.{IsDestByte}
 use Rattle.orc_program.specs.Cut.{IsDestCell}
@@ -29,7 +29,7 @@ dest_of kind.Param h = absurd (true≢false (sym h))
 dest_of kind.Const h = absurd (true≢false (sym h))
 dest_of kind.Accumulator h = absurd (true≢false (sym h))
 
-module _ (f : FunctionValue) (few : Limits f) (args : Arguments) (words : (k : ℕ) → IsArray (subject_of f) k → args.stride k < 2 ^ 64) where
+module _ (f : FunctionValue) (few : Limits f) (near : has_far f ≡ false) (args : Arguments) (words : (k : ℕ) → IsArray (subject_of f) k → args.stride k < 2 ^ 64) where
   dest_slot : (p : ℕ) → p < length f.vars → is_of kind.Dest (var_at f.vars p) ≡ true → slot_of f.vars p < count_of kind.Dest f.vars
   dest_slot p l h =
       subst (λ x. x < count_of kind.Dest f.vars) (sym (ap (λ b. if b then count_before kind.Dest f.vars p else 4 + count_before kind.Source f.vars p) h)) (before_less kind.Dest f.vars p l h)
@@ -37,7 +37,7 @@ module _ (f : FunctionValue) (few : Limits f) (args : Arguments) (words : (k : �
   pub dest_by_slot : (a p r i j : ℕ) → IsDestByte f (call_with f args) a p r i j → InDests (subject_of f) args a
   dest_by_slot a p r i j d =
       let is : is_of kind.Dest (var_at f.vars p) ≡ true = ap (same_kind kind.Dest) d.dest in
-      (slot_of f.vars p, dest_slot p d.byte.array.0 is, subst (InArray (subject_of f) args (slot_of f.vars p)) (sym d.here) (in_slot f few args words p r i j d.byte))
+      (slot_of f.vars p, dest_slot p d.byte.array.0 is, subst (InArray (subject_of f) args (slot_of f.vars p)) (sym d.here) (in_slot f few near args words p r i j d.byte))
 
   -- the variable of a dest's slot is a dest
   is_dest : (k : ℕ) → k < count_of kind.Dest f.vars → (h : HasSlot f k) → is_of kind.Dest (var_at f.vars h.place) ≡ true
@@ -55,5 +55,5 @@ module _ (f : FunctionValue) (few : Limits f) (args : Arguments) (words : (k : �
   dest_by_variable a w =
       let h = has_slot f w.0 (inl w.1) in
       let x = subst (λ k. InArray (subject_of f) args k a) (sym h.slot) w.2 in
-      let b = of_variable f few args words h.place a h.array x in
+      let b = of_variable f few near args words h.place a h.array x in
       (h.place, x.0, x.2, x.4, record { byte = b.0; dest = dest_of (var_at f.vars h.place).kind (is_dest w.0 w.1 h); here = b.1 })

@@ -113,7 +113,7 @@ module _ {target : Target} (f : FunctionValue) (kept : is_function f ≡ true) (
   cell_mapped k l a c = subst (IsMapped (s.own k)) (sym c.5) ((s.begins k l).good.arrays.mapped c.0 c.1 c.2 c.3 c.4)
 
   dest_cell : (k : ℕ) → k < n → (a : ℕ) → InDests F (s.words k) a → IsDestCell f (call_with f (s.words k)) a
-  dest_cell k l a d = dest_by_variable f few (s.words k) (strides k l) a d
+  dest_cell k l a d = dest_by_variable f few s.near (s.words k) (strides k l) a d
 
   pub cell_of : (k a : ℕ) → IsDestCell f (call_with f (s.words k)) a → IsCell f (call_with f (s.words k)) a
   cell_of k a d = (d.0, d.1, d.2, d.3, d.4.byte, d.4.here)
@@ -167,7 +167,7 @@ module _ {target : Target} (f : FunctionValue) (kept : is_function f ≡ true) (
     cuts = s.cuts;
     parts = s.parts;
     apart = λ j k lj lk ne a p r i b q r2 i2 b2 d c e.
-        s.separate j k lj lk ne a (inl (dest_by_slot f few (s.words j) (strides j lj) a p r i b d)) (cell_mapped k lk a (q, r2, i2, b2, c, e));
+        s.separate j k lj lk ne a (inl (dest_by_slot f few s.near (s.words j) (strides j lj) a p r i b d)) (cell_mapped k lk a (q, r2, i2, b2, c, e));
   }
 
   pub common : (k : ℕ) → k < n → (a : ℕ) → IsCell f (part k) a → (s.own k a ≡ w.memory a) × IsMapped w.memory a
@@ -180,7 +180,7 @@ module _ {target : Target} (f : FunctionValue) (kept : is_function f ≡ true) (
   Whole = (whole : Memory × List ℕ) × (emulate f call w.memory ≡ Ok whole) × ((ends : ℕ → Memory × List ℕ) × ((k : ℕ) → k < n → emulate f (part k) (s.own k) ≡ Ok (ends k)) × AddsUp f n part w.memory whole ends)
 
   whole : Whole
-  whole = parts_add_up f call kept n (rect_at rects) part cut w.memory s.own (λ k l a c. (common k l a c).1) (λ k l a c. (common k l a c).0)
+  whole = parts_add_up f call kept s.near n (rect_at rects) part cut w.memory s.own (λ k l a c. (common k l a c).1) (λ k l a c. (common k l a c).0)
 
   abbrev as_end : Memory × List ℕ → End
   as_end e = record { memory = e.0; sums = slice_index e.1 }
@@ -221,7 +221,7 @@ module _ {target : Target} (f : FunctionValue) (kept : is_function f ≡ true) (
         let r = (chosen k l).0 in
         let o = out k l in
         let c = cell_of k a d in
-        written k l (e k l) a (inl (dest_by_slot f few (s.words k) (strides k l) a d.0 d.1 d.2 d.3 d.4))
+        written k l (e k l) a (inl (dest_by_slot f few s.near (s.words k) (strides k l) a d.0 d.1 d.2 d.3 d.4))
         ∙ r.same a (cell_mapped k l a c) o.2 (λ x. o.0 (sums_in_block k a x))
         ∙ ap (λ (x : End). x.memory a) (sym (means_so k r (ends k) (ended k l)))
         ∙ sym (adds.cells k l a c)

@@ -1,10 +1,10 @@
 -- One call that is cut among runners, and what every schedule of them does.
-use Rattle.std.specs.Prelude.{◌≡◌, ◌≢◌, ℕ, ◌+◌, ◌*◌, ◌%◌, ◌^◌, ◌<◌, ◌≤◌, ◌⊎◌, List, length, Some, None, Ok, slice_index}
+use Rattle.std.specs.Prelude.{◌≡◌, ◌≢◌, ℕ, ◌+◌, ◌*◌, ◌%◌, ◌^◌, ◌<◌, ◌≤◌, ◌⊎◌, List, length, Some, None, Ok, slice_index, false}
 use Rattle.orc_bits.specs.Memory.{Memory, IsMapped, word}
 use Rattle.orc_ops.specs.declared.target.Target.{Target}
 use Rattle.orc_program.specs.declared.call.Call.{Call}
 use Rattle.orc_program.specs.declared.rect.Rect.{Rect}
-use Rattle.orc_program.specs.Program.{FunctionValue}
+use Rattle.orc_program.specs.Program.{FunctionValue, has_far}
 use Rattle.orc_program.specs.Meaning.{emulate}
 use Rattle.orc_program.specs.Slots.{call_of}
 use Rattle.orc_program.specs.Need.{steps}
@@ -39,11 +39,12 @@ pub record Begins (f : FunctionValue) (target : Target) (w : Shared) (k : ℕ) (
   pub fresh : (stand_at w k).steps ≡ 0
   pub code : RunsQuietly f target (stand_at w k).code.bytes
 
--- The rectangles cut the call, one for each runner in order; each runner begins the call of its part; and what belongs to one runner's call is no byte of another's, whose bytes are those that are mapped in its own memory.
+-- The function has no far load; the rectangles cut the call, one for each runner in order; each runner begins the call of its part; and what belongs to one runner's call is no byte of another's, whose bytes are those that are mapped in its own memory.
 pub record Split (f : FunctionValue) (target : Target) (call : Call) (rects : List Rect) (w : Shared) : Type 0 where
   pub words : ℕ → Arguments
   pub own : ℕ → Memory
   pub back : ℕ → ℕ
+  pub near : has_far f ≡ false
   pub count : length rects ≡ length w.stands
   pub cuts : Cuts f call (length rects) (rect_at rects)
   pub parts : (k : ℕ) → k < length rects → IsPart f call (call_with f (words k)) (rect_at rects k)

@@ -18,7 +18,7 @@ fn check_kept(f: &Function)
 
 /// Plays a schedule of runners, each of which does its part of one call.
 ///
-/// The rectangles cut the call, one for each runner in order. Each runner stands at the start of a good call of its part, on
+/// The function has no far load. The rectangles cut the call, one for each runner in order. Each runner stands at the start of a good call of its part, on
 /// bytes of its own but for sources, which may be shared, with code that runs as the function means, within the steps of some
 /// target. Whatever the schedule, no turn traps and no runner takes more than its steps. Once all have ended, memory outside their blocks, return words and
 /// frames is that of emulation of the whole call, and their accumulators' words add up to its sums.

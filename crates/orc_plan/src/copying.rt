@@ -5,7 +5,7 @@ ghost use Rattle.std.specs.Prelude.{◌≡◌};
 use crate::steps::{Core, Item, Step};
 use arrayvec::ArrayVec;
 
-fn copy_of_items(items: &ArrayVec<Item, 2>) -> ArrayVec<Item, 2>
+fn copy_of_items<const N: usize>(items: &ArrayVec<Item, N>) -> ArrayVec<Item, N>
     ensures { result.items ≡ items.now.items }
 {
     let mut copy = ArrayVec::new();

@@ -47,6 +47,7 @@ fn operand_size(op: Op) -> u8
         .max(result_size(op, 1))
         .max(source_size(op, 0))
         .max(second_source)
+        .max(source_size(op, 2))
 }
 
 /// The size of an instruction's largest operand under its prefix, counts apart.
@@ -115,7 +116,7 @@ fn result_cost(spills: bool, vars: &[Var], operand: Operand) -> u32
 
 /// The cost of sources.
 fn sources_cost(vars: &[Var], operands: &[Operand]) -> u32
-    requires { length operands.now ≤ 2 }
+    requires { length operands.now ≤ 3 }
     ensures cost { result ≡ sum_by (source_cost vars.now) operands.now }
     ensures few { result ≤ 2 * length operands.now }
 {

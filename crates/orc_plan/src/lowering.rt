@@ -59,13 +59,13 @@ fn add_sources(
     op: Op,
     position: usize,
     operands: &[Operand],
-    items: &mut ArrayVec<Item, 2>,
+    items: &mut ArrayVec<Item, 3>,
 )
     requires vars { length vars.now ≤ 184 }
     requires known { length known.now ≤ 48 }
     requires temps { length temps.now ≤ 200 }
     requires place { position ≡ length items.old.items }
-    requires few { length items.old.items + length operands.now ≤ 2 }
+    requires few { length items.old.items + length operands.now ≤ 3 }
     ensures { items.new.items ≡ items.old.items ++ source_items vars.now known.now temps.now op position operands.now }
 {
     let [operand, rest @ ..] = operands else {
@@ -82,11 +82,11 @@ fn source_items(
     temps: &[u16],
     op: Op,
     operands: &[Operand],
-) -> ArrayVec<Item, 2>
+) -> ArrayVec<Item, 3>
     requires vars { length vars.now ≤ 184 }
     requires known { length known.now ≤ 48 }
     requires temps { length temps.now ≤ 200 }
-    requires few { length operands.now ≤ 2 }
+    requires few { length operands.now ≤ 3 }
     ensures { result.items ≡ source_items vars.now known.now temps.now op 0 operands.now }
 {
     let mut items = ArrayVec::new();

@@ -40,7 +40,7 @@ pub struct Step {
     /// The results, the first before the second.
     pub results: ArrayVec<Item, 2>,
     /// The sources, from the left.
-    pub sources: ArrayVec<Item, 2>,
+    pub sources: ArrayVec<Item, 3>,
 }
 
 /// A step without operands, which fills unused room.

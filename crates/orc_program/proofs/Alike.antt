@@ -20,12 +20,13 @@ use Rattle.orc_program.specs.declared.program.Insn.{Insn}
 use Rattle.orc_program.specs.declared.fault.Fault.{Fault}
 use Rattle.orc_program.specs.declared.fault.Fault.TheVariants as fault
 use Rattle.orc_program.specs.declared.call.Call.{Call}
-use Rattle.orc_program.specs.Program.{FunctionValue, var_at, same_kind, is_of, is_array, is_array_kind, is_place, operand_kind}
+use Rattle.orc_program.specs.Program.{FunctionValue, var_at, same_kind, is_of, is_array, is_array_kind, is_place, operand_kind, is_far}
 use Rattle.orc_program.specs.Checks.{check, or_else, is_set, is_unset, is_wrong_size, is_bad_prefix, is_too_many, source_kind_fault, source_fault, sources_fault, results_fault, insn_fault}
 use Rattle.orc_program.specs.Kept.{is_shaped, has_no_fault, all_pass, count_sizes, result_count}
 use Rattle.orc_program.specs.Meaning.{State, go_on, or_gap, cell, gap_at, param_at, sub_lane, lanewise, read_cell, read_var, read_source, read_sources, write_cell, write_var, write_result, write_results, act, element}
 use Rattle.orc_program.specs.Good.{byte_at}
 use Rattle.orc_program.proofs.Sizes.{both}
+use Rattle.orc_program.proofs.Near.{act_near, near_parts}
 use Rattle.orc_program.proofs.Steps.{go_on_ok, or_gap_ok, ok_same}
 
 -- ---- memories that agree at some bytes
@@ -403,16 +404,15 @@ module _ (f : FunctionValue) (call part : Call) (r i r2 i2 : ℕ) (C : ℕ → T
   abbrev Acts : List Insn → Insn → State → State → State → Type 0
   Acts earlier insn s t u = (x : State) × (act f part r2 i2 insn u ≡ Ok x) × Beside (Set (earlier ++ insn ∷ [])) s t u x
 
-  act_alike : (earlier : List Insn) (insn : Insn) (s t u : State) → is_shaped f.vars insn ≡ true → has_no_fault (insn_fault f.vars earlier insn) ≡ true → Agree C s.memory u.memory → SameTemps f (Set earlier) s u
+  act_alike : (earlier : List Insn) (insn : Insn) (s t u : State) → is_far insn ≡ false → is_shaped f.vars insn ≡ true → has_no_fault (insn_fault f.vars earlier insn) ≡ true → Agree C s.memory u.memory → SameTemps f (Set earlier) s u
       → act f call r i insn s ≡ Ok t → Acts earlier insn s t u
-  unfolding act
-  act_alike earlier insn s t u shaped pass h temps e =
-      let x = go_on_ok (read_sources f call r i insn.op s insn.sources.items) (λ x. write_results f call r i (lanewise insn.op insn.prefix x.0 x.1) s insn.results.items) t e in
+  act_alike earlier insn s t u near shaped pass h temps e =
+      let x = go_on_ok (read_sources f call r i insn.op s insn.sources.items) (λ x. write_results f call r i (lanewise insn.op insn.prefix x.0 x.1) s insn.results.items) t (sym (act_near f call r i insn s near) ∙ e) in
       let set = all_set f.vars earlier insn.op insn.prefix 0 insn.sources.items (sources_pass f.vars earlier insn pass) in
       let reads = read_sources_alike (Set earlier) s u h temps earlier (λ p q. q) insn.op insn.sources.items x.0 set x.1 in
       let w = write_results_alike (Set earlier) (lanewise insn.op insn.prefix x.0.0 x.0.1) insn.results.items s t u h temps (two_results f.vars insn shaped) x.2 in (
         w.0,
-        ap (λ o. go_on o (λ x. write_results f part r2 i2 (lanewise insn.op insn.prefix x.0 x.1) u insn.results.items)) reads ∙ w.1,
+        act_near f part r2 i2 insn u near ∙ ap (λ o. go_on o (λ x. write_results f part r2 i2 (lanewise insn.op insn.prefix x.0 x.1) u insn.results.items)) reads ∙ w.1,
         record { agree = w.2.agree; temps = λ q temp m. w.2.temps q temp (before q m); adds = w.2.adds; sums = w.2.sums },
       )
     where
@@ -424,21 +424,22 @@ module _ (f : FunctionValue) (call part : Call) (r i r2 i2 : ℕ) (C : ℕ → T
       before : (q : ℕ) → Set (earlier ++ insn ∷ []) q → Among (Set earlier) insn.results.items q
       before q m = only (is_set earlier q) (list_any (is_place q) insn.results.items) (sym (list_any-append (λ (n : Insn). list_any (is_place q) n.results.items) earlier (insn ∷ [])) ∙ m)
 
-  pub insns_alike : (earlier insns : List Insn) (s t u : State) → all_pass f.vars earlier insns ≡ true → Agree C s.memory u.memory → SameTemps f (Set earlier) s u
+  pub insns_alike : (earlier insns : List Insn) (s t u : State) → list_any is_far insns ≡ false → all_pass f.vars earlier insns ≡ true → Agree C s.memory u.memory → SameTemps f (Set earlier) s u
       → element f call r i insns s ≡ Ok t → (x : State) × (element f part r2 i2 insns u ≡ Ok x) × Beside (λ q. ⊥) s t u x
-  insns_alike earlier [] s t u pass h temps e =
+  insns_alike earlier [] s t u near pass h temps e =
       (u, refl, subst (λ x. Beside (λ q. ⊥) s x u u) (ok_same s t e) (record { agree = h; temps = λ q temp m. absurd m; adds = λ j. 0; sums = none_added (Set earlier) s u h temps }))
-  insns_alike earlier (insn ∷ insns) s t u pass h temps e =
+  insns_alike earlier (insn ∷ insns) s t u near pass h temps e =
+      let n = near_parts insn insns near in
       let a = both (is_shaped f.vars insn) (has_no_fault (insn_fault f.vars earlier insn) && all_pass f.vars (earlier ++ insn ∷ []) insns) pass in
       let b = both (has_no_fault (insn_fault f.vars earlier insn)) (all_pass f.vars (earlier ++ insn ∷ []) insns) a.1 in
       let x = go_on_ok (act f call r i insn s) (element f call r i insns) t e in
-      let one = act_alike earlier insn s x.0 u a.0 b.0 h temps x.1 in
-      let rest = insns_alike (earlier ++ insn ∷ []) insns x.0 t one.0 b.1 one.2.agree one.2.temps x.2 in (
+      let one = act_alike earlier insn s x.0 u n.0 a.0 b.0 h temps x.1 in
+      let rest = insns_alike (earlier ++ insn ∷ []) insns x.0 t one.0 n.1 b.1 one.2.agree one.2.temps x.2 in (
         rest.0,
         ap (λ o. go_on o (element f part r2 i2 insns)) one.1 ∙ rest.1,
         beside_more (Set (earlier ++ insn ∷ [])) (λ q. ⊥) s x.0 t u one.0 rest.0 one.2 rest.2,
       )
 
   -- all of an element, whatever the temps before it
-  pub element_alike : (insns : List Insn) (s t u : State) → all_pass f.vars [] insns ≡ true → Agree C s.memory u.memory → element f call r i insns s ≡ Ok t → (x : State) × (element f part r2 i2 insns u ≡ Ok x) × Beside (λ q. ⊥) s t u x
-  element_alike insns s t u pass h e = insns_alike [] insns s t u pass h (λ q temp m. absurd (true≢false (sym m))) e
+  pub element_alike : (insns : List Insn) (s t u : State) → list_any is_far insns ≡ false → all_pass f.vars [] insns ≡ true → Agree C s.memory u.memory → element f call r i insns s ≡ Ok t → (x : State) × (element f part r2 i2 insns u ≡ Ok x) × Beside (λ q. ⊥) s t u x
+  element_alike insns s t u near pass h e = insns_alike [] insns s t u near pass h (λ q temp m. absurd (true≢false (sym m))) e

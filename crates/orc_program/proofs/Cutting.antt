@@ -1,5 +1,5 @@
 -- Emulation of a call that is cut into parts is emulation of the parts.
-use Rattle.std.proofs.Common.{◌≡◌, ◌≢◌, ℕ, zero, suc, ◌+◌, ◌-◌, ◌*◌, ◌%◌, ◌^◌, ◌<◌, ◌≤◌, true, arith, List, [], ◌∷◌, length, get_or, map, Result, Ok, Err, refl, sym, ap, ap₂, ◌∙◌, subst, ⊎_elim, slice_index, None}
+use Rattle.std.proofs.Common.{◌≡◌, ◌≢◌, ℕ, zero, suc, ◌+◌, ◌-◌, ◌*◌, ◌%◌, ◌^◌, ◌<◌, ◌≤◌, true, false, arith, List, [], ◌∷◌, length, get_or, map, Result, Ok, Err, refl, sym, ap, ap₂, ◌∙◌, subst, ⊎_elim, slice_index, None}
 use Rattle.std.proofs.Math.Nat.{mod-add-mod, add-mod-mod, mod-eq_of_lt}
 use Rattle.std.proofs.lemmas.Nat.{pow_pos}
 use Rattle.std.proofs.lemmas.Bool.{cases_eq}
@@ -8,13 +8,14 @@ use Rattle.orc_bits.specs.Memory.{Memory, IsMapped}
 use Rattle.orc_program.specs.declared.program.VarKind.TheVariants as kind
 use Rattle.orc_program.specs.declared.call.Call.{Call}
 use Rattle.orc_program.specs.declared.rect.Rect.{Rect}
-use Rattle.orc_program.specs.Program.{FunctionValue, var_at, is_array, is_array_kind, places_of}
+use Rattle.orc_program.specs.Program.{FunctionValue, var_at, is_array, is_array_kind, places_of, has_far}
 use Rattle.orc_program.specs.Kept.{is_function}
 use Rattle.orc_program.specs.Meaning.{State, Gap, go_on, cell, rows, place_at, element, row_of, rows_of, start, sums_of, ended, emulate}
 use Rattle.orc_program.specs.Good.{IsArray, IsByte, byte_at}
 use Rattle.orc_program.specs.Laws.{IsDestByte}
 use Rattle.orc_program.specs.Cut.{Has, IsCut, IsPart, IsCell, IsDestCell, AddsUp, PartsAddUp, total, sum_size}
 use Rattle.orc_program.proofs.Sizes.{kept_of}
+use Rattle.orc_program.proofs.Near.{has_cell, element_of}
 use Rattle.orc_program.proofs.Steps.{go_on_ok, ok_same, IsOutside, element_keeps, emulate_keeps}
 use Rattle.orc_program.proofs.Mapped.{in_range, HasNoGap, AllMapped, emulate_fine}
 use Rattle.orc_program.proofs.Alike.{Agree, Beside, element_alike}
@@ -51,7 +52,7 @@ moved_cell b s z r r0 i i0 l k =
     let elements : i * z ≡ i0 * z + (i - i0) * z = ap (λ x. x * z) (let e : i ≡ i0 + (i - i0) = omega (arith, k) in e) ∙ (let e : (i0 + (i - i0)) * z ≡ i0 * z + (i - i0) * z = omega arith in e) in
     omega (arith, rows, elements)
 
-module _ (f : FunctionValue) (call : Call) (part : Call) (q : Rect) (is : IsPart f call part q) where
+module _ (f : FunctionValue) (near : has_far f ≡ false) (call : Call) (part : Call) (q : Rect) (is : IsPart f call part q) where
   same_cell : (p r i : ℕ) → IsArray f p → Has q r i → cell f call p r i ≡ cell f part p (r - q.row) (i - q.element)
   same_cell p r i a h =
       let b = (place_at f call p).base in
@@ -65,7 +66,7 @@ module _ (f : FunctionValue) (call : Call) (part : Call) (q : Rect) (is : IsPart
   part_byte p r i j a h l = record {
     array = a;
     row = subst (λ x. r - q.row < x) (sym is.m) (let e : r - q.row < q.rows = omega (arith, h.from_row, h.to_row) in e);
-    element = subst (λ x. i - q.element < x) (sym is.n) (let e : i - q.element < q.elements = omega (arith, h.from_element, h.to_element) in e);
+    element = has_cell f part near p (i - q.element) (subst (λ x. i - q.element < x) (sym is.n) (let e : i - q.element < q.elements = omega (arith, h.from_element, h.to_element) in e));
     inside = l;
   }
 
@@ -87,7 +88,7 @@ sum_in (Err g) p = 0
 abbrev modulus : FunctionValue → ℕ → ℕ
 modulus f p = 2 ^ (8 * (var_at f.vars p).size)
 
-module _ (f : FunctionValue) (kept : is_function f ≡ true) (call : Call) (n : ℕ) (rect : ℕ → Rect) (part : ℕ → Call) (cut : IsCut f call n rect part) (begin : ℕ → State) where
+module _ (f : FunctionValue) (kept : is_function f ≡ true) (near : has_far f ≡ false) (call : Call) (n : ℕ) (rect : ℕ → Rect) (part : ℕ → Call) (cut : IsCut f call n rect part) (begin : ℕ → State) where
   -- how far part k has come
   abbrev far : ℕ → ℕ → ℕ → Result State Gap
   far k r i = progress f (part k) (begin k) (rect k) r i
@@ -114,16 +115,16 @@ module _ (f : FunctionValue) (kept : is_function f ≡ true) (call : Call) (n : 
     C = IsCell f (part here)
 
     same : (p : ℕ) → is_array (var_at f.vars p) ≡ true → cell f call p r i ≡ cell f (part here) p r2 i2
-    same p a = same_cell f call (part here) (rect here) is p r i (in_range f.vars p a, a) has
+    same p a = same_cell f near call (part here) (rect here) is p r i (in_range f.vars p a, a) has
 
     within : (p j : ℕ) → is_array (var_at f.vars p) ≡ true → j < (var_at f.vars p).size → C (byte_at f call p r i j)
-    within p j a l = part_cell f call (part here) (rect here) is p r i j (in_range f.vars p a, a) has l
+    within p j a l = part_cell f near call (part here) (rect here) is p r i j (in_range f.vars p a, a) has l
 
     abbrev Did : State → State → Type 0
     Did u x = (element f (part here) r2 i2 f.insns u ≡ Ok x) × Beside f call (part here) r i r2 i2 C same is.params within (λ q. ⊥) s t u x
 
     does : (u : State) → Agree C s.memory u.memory → (x : State) × Did u x
-    does u h = let d = element_alike f call (part here) r i r2 i2 C same is.params within f.insns s t u (kept_of f kept).insns h e in (d.0, (d.1, d.2))
+    does u h = let d = element_alike f call (part here) r i r2 i2 C same is.params within f.insns s t u near (kept_of f kept).insns h e in (d.0, (d.1, d.2))
 
     -- it changes no cell of another part
     others_keep : (k : ℕ) → k < n → here ≢ k → (a : ℕ) → IsCell f (part k) a → t.memory a ≡ s.memory a
@@ -131,7 +132,7 @@ module _ (f : FunctionValue) (kept : is_function f ≡ true) (call : Call) (n : 
       where
         out : IsOutside f call r i a
         out p j d lj q =
-            let dest = part_dest f call (part here) (rect here) is p r i j d (dest_array f p d) has lj in
+            let dest = part_dest f near call (part here) (rect here) is p r i j d (dest_array f p d) has lj in
             cut.apart here k inside l ne (byte_at f call p r i j) p r2 i2 j c.0 c.1 c.2 c.3 dest c.4 (sym q ∙ c.5)
 
     module _ (unique : (j : ℕ) → j < n → Has (rect j) r i → j ≡ here) where
@@ -212,7 +213,7 @@ total_zero : (n : ℕ) → total n (λ k. 0) ≡ 0
 total_zero zero = refl
 total_zero (suc n) = let e = total_zero n in omega (arith, e)
 
-module _ (f : FunctionValue) (kept : is_function f ≡ true) (call : Call) (n : ℕ) (rect : ℕ → Rect) (part : ℕ → Call) (cut : IsCut f call n rect part) (mem : Memory) (own : ℕ → Memory)
+module _ (f : FunctionValue) (kept : is_function f ≡ true) (near : has_far f ≡ false) (call : Call) (n : ℕ) (rect : ℕ → Rect) (part : ℕ → Call) (cut : IsCut f call n rect part) (mem : Memory) (own : ℕ → Memory)
     (agree : (k : ℕ) → k < n → (a : ℕ) → IsCell f (part k) a → own k a ≡ mem a) where
   abbrev begin : ℕ → State
   begin k = start (own k)
@@ -223,7 +224,7 @@ module _ (f : FunctionValue) (kept : is_function f ≡ true) (call : Call) (n : 
   begun : (k : ℕ) → far_of k 0 0 ≡ Ok (begin k)
   begun k = progress_start f (part k) (begin k) (rect k)
 
-  joined_start : Joined f kept call n rect part cut begin (λ k. far_of k 0 0) (start mem)
+  joined_start : Joined f kept near call n rect part cut begin (λ k. far_of k 0 0) (start mem)
   joined_start = record {
     parts = λ k l. (begin k, begun k, λ a c. sym (agree k l a c));
     sums = λ p. ap (λ y. y % modulus f p) (sym (total_same n (λ k. 0) (λ k. sum_in (far_of k 0 0) p) (λ k l. ap (λ y. sum_in y p) (begun k)) ∙ total_zero n));
@@ -233,7 +234,7 @@ module _ (f : FunctionValue) (kept : is_function f ≡ true) (call : Call) (n : 
   abbrev ends : ℕ → Memory × List ℕ
   ends k = end_in f (far_of k (rows f call) 0)
 
-  module _ (u : State) (end : Memory × List ℕ) (at_end : (u.memory, sums_of f u) ≡ end) (j : Joined f kept call n rect part cut begin (λ k. far_of k (rows f call) 0) u) where
+  module _ (u : State) (end : Memory × List ℕ) (at_end : (u.memory, sums_of f u) ≡ end) (j : Joined f kept near call n rect part cut begin (λ k. far_of k (rows f call) 0) u) where
     end_of : (k : ℕ) → (l : k < n) → ends k ≡ ((j.parts k l).0.memory, sums_of f (j.parts k l).0)
     end_of k l = ap (end_in f) (j.parts k l).1
 
@@ -266,27 +267,27 @@ module _ (f : FunctionValue) (kept : is_function f ≡ true) (call : Call) (n : 
       outside : (r i : ℕ) → r < rows f call → i < call.n → IsOutside f call r i a
       outside r i row low p b d l here =
           let o = cut.cuts.once r i row low in
-          let byte = part_dest f call (part o.0) (rect o.0) (cut.parts o.0 o.1) p r i b d (dest_array f p d) o.2 l in
+          let byte = part_dest f near call (part o.0) (rect o.0) (cut.parts o.0 o.1) p r i b d (dest_array f p d) o.2 l in
           none o.0 o.1 (p, r - (rect o.0).row, i - (rect o.0).element, b, subst (λ x. IsDestByte f (part o.0) x p (r - (rect o.0).row) (i - (rect o.0).element) b) (sym here) byte)
 
   add_up : (end : Memory × List ℕ) → emulate f call mem ≡ Ok end → (ends : ℕ → Memory × List ℕ) × ((k : ℕ) → k < n → emulate f (part k) (own k) ≡ Ok (ends k)) × AddsUp f n part mem end ends
   add_up end e =
       let u = go_on_ok (rows_of f call (rows f call) (start mem)) (ended f) end e in
       let at_end = ok_same (u.0.memory, sums_of f u.0) end u.2 in
-      let j = joined_rows f kept call n rect part cut begin (rows f call) (omega arith) (start mem) u.0 joined_start u.1 in
+      let j = joined_rows f kept near call n rect part cut begin (rows f call) (omega arith) (start mem) u.0 joined_start u.1 in
       (ends, ended_so u.0 end at_end j, record { cells = cells u.0 end at_end j; others = others end e; sums = sums u.0 end at_end j })
 
   -- the whole's cells are the parts'
   all_mapped : ((k : ℕ) → k < n → (a : ℕ) → IsCell f (part k) a → IsMapped mem a) → AllMapped f call mem
   all_mapped mapped p r i j b =
-      let o = cut.cuts.once r i b.row b.element in
-      mapped o.0 o.1 (byte_at f call p r i j) (part_cell f call (part o.0) (rect o.0) (cut.parts o.0 o.1) p r i j b.array o.2 b.inside)
+      let o = cut.cuts.once r i b.row (element_of f call near p i b.element) in
+      mapped o.0 o.1 (byte_at f call p r i j) (part_cell f near call (part o.0) (rect o.0) (cut.parts o.0 o.1) p r i j b.array o.2 b.inside)
 
 okay_of : {A : Type 0} (x : Result A Gap) → HasNoGap x → (y : A) × (x ≡ Ok y)
 okay_of (Ok y) h = (y, refl)
 okay_of (Err g) h = absurd h
 
 pub parts_add_up : (f : FunctionValue) (call : Call) → PartsAddUp f call
-parts_add_up f call kept n rect part cut mem own mapped agree =
-    let end = okay_of (emulate f call mem) (emulate_fine f call mem (all_mapped f kept call n rect part cut mem own agree mapped)) in
-    (end.0, end.1, add_up f kept call n rect part cut mem own agree end.0 end.1)
+parts_add_up f call kept near n rect part cut mem own mapped agree =
+    let end = okay_of (emulate f call mem) (emulate_fine f call mem (all_mapped f kept near call n rect part cut mem own agree mapped)) in
+    (end.0, end.1, add_up f kept near call n rect part cut mem own agree end.0 end.1)

@@ -10,7 +10,7 @@ use Rattle.orc_program.specs.declared.program.Var.{Var}
 use Rattle.orc_program.specs.declared.program.VarKind.TheVariants as kind
 use Rattle.orc_program.specs.declared.program.Insn.{Insn}
 use Rattle.orc_program.specs.Program.{FunctionValue, is_of, var_at}
-use Rattle.orc_program.specs.Checks.{is_sum_kind, is_count, operand_sizes, is_bad_prefix, insn_fault}
+use Rattle.orc_program.specs.Checks.{takes_no_prefix, is_count, operand_sizes, is_bad_prefix, insn_fault}
 use Rattle.orc_program.specs.Kept.{is_function, is_var, is_size, is_shaped, has_no_fault, all_pass, is_in_range, result_count, source_count}
 use Rattle.orc_program.specs.Need.{largest, declared_size, insn_size, largest_size, lanes}
 use Rattle.orc_program.proofs.Apart.{IsSize}
@@ -109,9 +109,9 @@ op_size o = is_size_one (largest (operand_sizes o)) (size_table o)
 prefixed_most : (o : Op) (prefix : ℕ) → is_bad_prefix o prefix ≡ false → largest (operand_sizes o) * prefix ≤ 8
 prefixed_most o prefix h = go (prefix == 1) refl h
   where
-    go : (b : Bool) → (prefix == 1) ≡ b → (not b && (is_sum_kind (row o).kind || list_any (λ size. nat_lt 8 (size * prefix)) (operand_sizes o))) ≡ false → largest (operand_sizes o) * prefix ≤ 8
+    go : (b : Bool) → (prefix == 1) ≡ b → (not b && (takes_no_prefix (row o).kind || list_any (λ size. nat_lt 8 (size * prefix)) (operand_sizes o))) ≡ false → largest (operand_sizes o) * prefix ≤ 8
     go true e h = subst (λ k. largest (operand_sizes o) * k ≤ 8) (sym (eqb-true prefix 1 e)) (size_most (largest (operand_sizes o)) (op_size o))
-    go false e h = none_too_long 0 prefix (operand_sizes o) (omega arith) (or_parts (is_sum_kind (row o).kind) (list_any (λ size. nat_lt 8 (size * prefix)) (operand_sizes o)) h).1
+    go false e h = none_too_long 0 prefix (operand_sizes o) (omega arith) (or_parts (takes_no_prefix (row o).kind) (list_any (λ size. nat_lt 8 (size * prefix)) (operand_sizes o)) h).1
 
 prefix_one : (k : ℕ) → (k == 1 || (k == 2 || k == 4)) ≡ true → (k ≡ 1) ⊎ ((k ≡ 2) ⊎ (k ≡ 4))
 prefix_one k h = grind (arith, h)

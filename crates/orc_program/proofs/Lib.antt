@@ -1,4 +1,5 @@
 mod Examples
+pub mod Near
 pub mod Steps
 pub mod Mapped
 pub mod Apart

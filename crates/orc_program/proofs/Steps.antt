@@ -3,14 +3,16 @@ use Rattle.std.proofs.Common.{◌≡◌, ◌≢◌, ℕ, zero, suc, ◌+◌, ◌
 use Rattle.orc_bits.specs.Memory.{Memory, store, fill}
 use Rattle.orc_bits.specs.Lanes.{byte_of, change}
 use Rattle.orc_bits.proofs.Memories.{fill_other, store_fills}
+use Rattle.orc_ops.specs.declared.far.Far.{Far}
+use Rattle.orc_ops.specs.Far.{far_of}
 use Rattle.orc_program.specs.declared.program.VarKind.{VarKind}
 use Rattle.orc_program.specs.declared.program.VarKind.TheVariants as kind
 use Rattle.orc_program.specs.declared.program.Operand.{Operand}
 use Rattle.orc_program.specs.declared.program.Operand.TheVariants as operand
 use Rattle.orc_program.specs.declared.program.Insn.{Insn}
 use Rattle.orc_program.specs.declared.call.Call.{Call}
-use Rattle.orc_program.specs.Program.{FunctionValue, var_at}
-use Rattle.orc_program.specs.Meaning.{State, Gap, go_on, or_gap, cell, gap_at, lanewise, read_sources, write_cell, write_var, write_result, write_results, act, element, row_of, rows_of, rows, start, sums_of, ended, emulate}
+use Rattle.orc_program.specs.Program.{FunctionValue, var_at, far_array}
+use Rattle.orc_program.specs.Meaning.{State, Gap, go_on, or_gap, cell, gap_at, lanewise, read_sources, write_cell, write_var, write_result, write_results, load_far, reach_of, act, act_as, element, row_of, rows_of, rows, start, sums_of, ended, emulate}
 use Rattle.orc_program.specs.Good.{byte_at}
 
 -- ---- one more
@@ -83,11 +85,17 @@ module _ (f : FunctionValue) (call : Call) (r i a : ℕ) (out : IsOutside f call
       let u = go_on_ok (write_result f call r i v.0 s x) (λ t. write_result f call r i v.1 t y) t e in
       write_result_keeps v.1 u.0 t y u.2 ∙ write_result_keeps v.0 s u.0 x u.1
 
-  pub act_keeps : (insn : Insn) (s t : State) → act f call r i insn s ≡ Ok t → t.memory a ≡ s.memory a
-  unfolding act
-  act_keeps insn s t e =
+  act_as_keeps : (insn : Insn) (s t : State) (o : Option Far) → act_as f call r i insn s o ≡ Ok t → t.memory a ≡ s.memory a
+  act_as_keeps insn s t None e =
       let x = go_on_ok (read_sources f call r i insn.op s insn.sources.items) (λ x. write_results f call r i (lanewise insn.op insn.prefix x.0 x.1) s insn.results.items) t e in
       write_results_keep (lanewise insn.op insn.prefix x.0.0 x.0.1) s t insn.results.items x.2
+  act_as_keeps insn s t (Some far) e =
+      let x = go_on_ok (load_far f call r i far (reach_of f call far insn.sources.items i) s (far_array f.vars insn.sources.items)) (λ v. write_results f call r i (v, 0) s insn.results.items) t e in
+      write_results_keep (x.0, 0) s t insn.results.items x.2
+
+  pub act_keeps : (insn : Insn) (s t : State) → act f call r i insn s ≡ Ok t → t.memory a ≡ s.memory a
+  unfolding act
+  act_keeps insn s t e = act_as_keeps insn s t (far_of insn.op) e
 
   pub element_keeps : (insns : List Insn) (s t : State) → element f call r i insns s ≡ Ok t → t.memory a ≡ s.memory a
   element_keeps [] s t e = ap (λ (u : State). u.memory a) (sym (ok_same s t e))

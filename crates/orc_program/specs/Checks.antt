@@ -44,17 +44,23 @@ abbrev pub is_shift_kind : Kind → Bool
 is_shift_kind ops.Shift = true
 is_shift_kind k = false
 
+-- an opcode that takes no prefix: one that adds to an accumulator, or a far load
+abbrev pub takes_no_prefix : Kind → Bool
+takes_no_prefix ops.Sum = true
+takes_no_prefix ops.Far = true
+takes_no_prefix k = false
+
 -- the count of a shift
 abbrev pub is_count : Op → ℕ → Bool
 is_count op k = is_shift_kind (row op).kind && k == 1
 
 -- the sizes of an opcode's operands, counts apart, with 0 for one that isn't there
 abbrev pub operand_sizes : Op → List ℕ
-operand_sizes op = size_of_result op 0 ∷ size_of_result op 1 ∷ size_of_source op 0 ∷ (if is_count op 1 then 0 else size_of_source op 1) ∷ []
+operand_sizes op = size_of_result op 0 ∷ size_of_result op 1 ∷ size_of_source op 0 ∷ (if is_count op 1 then 0 else size_of_source op 1) ∷ size_of_source op 2 ∷ []
 
--- a prefix before a sum, or one that makes an operand longer than 8 bytes
+-- a prefix before a sum or a far load, or one that makes an operand longer than 8 bytes
 abbrev pub is_bad_prefix : Op → ℕ → Bool
-is_bad_prefix op prefix = not (prefix == 1) && (is_sum_kind (row op).kind || list_any (λ size. nat_lt 8 (size * prefix)) (operand_sizes op))
+is_bad_prefix op prefix = not (prefix == 1) && (takes_no_prefix (row op).kind || list_any (λ size. nat_lt 8 (size * prefix)) (operand_sizes op))
 
 -- ---- kinds; a number has none
 
@@ -79,6 +85,7 @@ abbrev pub source_kind_fault : Kind → ℕ → Option VarKind → Option Fault
 source_kind_fault ops.Load position k = check (not (is_kind kind.Source k || is_kind kind.Dest k)) fault.NotArray
 source_kind_fault ops.LoadParam position k = check (not (is_scalar k)) fault.NotScalar
 source_kind_fault ops.Shift position k = if position == 1 then check (not (is_scalar k)) fault.NotScalar else check (is_kind kind.Accumulator k) fault.NotReadable
+source_kind_fault ops.Far position k = if position == 0 then check (not (is_kind kind.Source k)) fault.NotArray else check (not (is_scalar k)) fault.NotScalar
 source_kind_fault other position k = check (is_kind kind.Accumulator k) fault.NotReadable
 
 -- ---- sizes; parameters, constants and numbers are exempt

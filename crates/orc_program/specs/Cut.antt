@@ -4,7 +4,7 @@ use Rattle.orc_bits.specs.Memory.{Memory, IsMapped}
 use Rattle.orc_program.specs.declared.program.VarKind.TheVariants as kind
 use Rattle.orc_program.specs.declared.call.Call.{Call}
 use Rattle.orc_program.specs.declared.rect.Rect.{Rect}
-use Rattle.orc_program.specs.Program.{FunctionValue, var_at, places_of}
+use Rattle.orc_program.specs.Program.{FunctionValue, var_at, places_of, has_far}
 use Rattle.orc_program.specs.Kept.{is_function}
 use Rattle.orc_program.specs.Meaning.{cell, rows, place_at, param_at, emulate}
 use Rattle.orc_program.specs.Good.{IsArray, IsByte, byte_at}
@@ -75,8 +75,8 @@ pub record AddsUp (f : FunctionValue) (n : ℕ) (part : ℕ → Call) (mem : Mem
   pub others : (a : ℕ) → ((k : ℕ) → k < n → IsDestCell f (part k) a → ⊥) → end.0 a ≡ mem a
   pub sums : (g : ℕ) → g < length end.1 → slice_index end.1 g ≡ total n (λ k. slice_index (ends k).1 g) % 2 ^ (8 * sum_size f g)
 
--- Emulation of a whole call is emulation of its parts, each by itself, on a memory that has the parts' cells, and for each part on one that agrees with it there: whole and parts end, and the parts' ends add up to the whole's. So the parts' order is of no account.
+-- Of a function without far loads: emulation of a whole call is emulation of its parts, each by itself, on a memory that has the parts' cells, and for each part on one that agrees with it there: whole and parts end, and the parts' ends add up to the whole's. So the parts' order is of no account.
 abbrev pub PartsAddUp : FunctionValue → Call → Type 0
-PartsAddUp f call = is_function f ≡ true → (n : ℕ) (rect : ℕ → Rect) (part : ℕ → Call) → IsCut f call n rect part → (mem : Memory) (own : ℕ → Memory)
+PartsAddUp f call = is_function f ≡ true → has_far f ≡ false → (n : ℕ) (rect : ℕ → Rect) (part : ℕ → Call) → IsCut f call n rect part → (mem : Memory) (own : ℕ → Memory)
     → ((k : ℕ) → k < n → (a : ℕ) → IsCell f (part k) a → IsMapped mem a) → ((k : ℕ) → k < n → (a : ℕ) → IsCell f (part k) a → own k a ≡ mem a)
     → (end : Memory × List ℕ) × (emulate f call mem ≡ Ok end) × ((ends : ℕ → Memory × List ℕ) × ((k : ℕ) → k < n → emulate f (part k) (own k) ≡ Ok (ends k)) × AddsUp f n part mem end ends)

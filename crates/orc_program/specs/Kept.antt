@@ -98,7 +98,7 @@ result_count op = count_sizes (size_of_result op 0) (size_of_result op 1)
 
 -- the number of an opcode's sources
 abbrev pub source_count : Op → ℕ
-source_count op = count_sizes (size_of_source op 0) (size_of_source op 1)
+source_count op = if size_of_source op 2 == 0 then count_sizes (size_of_source op 0) (size_of_source op 1) else 3
 
 -- an instruction as `check_insn` needs it
 abbrev pub is_shaped : List Var → Insn → Bool

@@ -1,5 +1,5 @@
 -- Laws of a program's meaning that hold for every function and every call.
-use Rattle.std.specs.Prelude.{◌≡◌, true, ℕ, suc, not, List, [], ◌∷◌, filter, Ok, IsOk}
+use Rattle.std.specs.Prelude.{◌≡◌, ◌<◌, true, ℕ, suc, not, List, [], ◌∷◌, filter, Ok, IsOk}
 use Rattle.std.specs.List.{flat_map}
 use Rattle.orc_bits.specs.Memory.{Memory}
 use Rattle.orc_program.specs.declared.program.Var.{Var}
@@ -32,9 +32,9 @@ pub record IsDestByte (f : FunctionValue) (call : Call) (a p r i j : ℕ) : Type
 abbrev pub ChangesOnlyDests : FunctionValue → Call → Type 0
 ChangesOnlyDests f call = (mem : Memory) (end : Memory × List ℕ) → emulate f call mem ≡ Ok end → (a : ℕ) → ((p r i j : ℕ) → ¬ IsDestByte f call a p r i j) → end.0 a ≡ mem a
 
--- In one row of a good call two bytes of cells stand at one address only where they are the same byte of the very same cell.
+-- In one row of a good call two bytes of cells of its elements stand at one address only where they are the same byte of the very same cell.
 abbrev pub CellsMeet : FunctionValue → Call → Type 0
-CellsMeet f call = is_function f ≡ true → (mem : Memory) → GoodArrays f call mem → (p q r i j i2 j2 : ℕ) → IsByte f call p r i j → IsByte f call q r i2 j2 → byte_at f call p r i j ≡ byte_at f call q r i2 j2
+CellsMeet f call = is_function f ≡ true → (mem : Memory) → GoodArrays f call mem → (p q r i j i2 j2 : ℕ) → IsByte f call p r i j → IsByte f call q r i2 j2 → i < call.n → i2 < call.n → byte_at f call p r i j ≡ byte_at f call q r i2 j2
     → (cell f call p r i ≡ cell f call q r i2) × (i ≡ i2) × (j ≡ j2)
 
 -- the uses of numbers by instructions, by instruction and then by source from the left

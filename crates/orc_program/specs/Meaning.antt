@@ -1,11 +1,16 @@
 -- What a function does on a memory, row by row, element by element and instruction by instruction.
-use Rattle.std.specs.Prelude.{ℕ, zero, suc, ◌+◌, ◌*◌, ◌/◌, ◌%◌, ◌^◌, List, [], ◌∷◌, Option, Some, None, Result, Ok, Err, if◌then◌else◌, map, slice_index, slice_index_or, pos}
+use Rattle.std.specs.Prelude.{ℕ, zero, suc, ◌+◌, ◌*◌, ◌/◌, ◌%◌, ◌^◌, List, [], ◌∷◌, Option, Some, None, Result, Ok, Err, if◌then◌else◌, map, slice_index, slice_index_or, ℤ, pos}
 use Rattle.std.specs.Int.{cast_unsigned, w64}
+use Rattle.orc_bits.specs.Numbers.{wrap}
 use Rattle.orc_bits.specs.Memory.{Memory, value, store, missing}
 use Rattle.orc_bits.specs.Lanes.{byte_of, change}
 use Rattle.orc_ops.specs.declared.opcode.Op.{Op}
 use Rattle.orc_ops.specs.Table.{size_of_result, size_of_source}
 use Rattle.orc_ops.specs.Formula.{formula}
+use Rattle.orc_ops.specs.declared.far.Far.{Far}
+use Rattle.orc_ops.specs.declared.elements.Reach.{Reach}
+use Rattle.orc_ops.specs.Far.{far_of, far_blend}
+use Rattle.orc_ops.specs.Reach.{reach}
 use Rattle.orc_program.specs.declared.program.VarKind.{VarKind}
 use Rattle.orc_program.specs.declared.program.VarKind.TheVariants as kind
 use Rattle.orc_program.specs.declared.program.Operand.{Operand}
@@ -13,7 +18,7 @@ use Rattle.orc_program.specs.declared.program.Operand.TheVariants as operand
 use Rattle.orc_program.specs.declared.program.Insn.{Insn}
 use Rattle.orc_program.specs.declared.call.Call.{Call}
 use Rattle.orc_program.specs.declared.call.Place.{Place}
-use Rattle.orc_program.specs.Program.{FunctionValue, var_at, count_before, places_of, array_number}
+use Rattle.orc_program.specs.Program.{FunctionValue, var_at, count_before, places_of, array_number, far_array}
 
 -- ---- prefixes: an opcode on k adjacent sub-lanes
 
@@ -43,6 +48,10 @@ place_at f call p = slice_index_or call.arrays.items (array_number f.vars p) no_
 -- the address of the cell of the array at place p of the variables, at row r and element i: base + r * stride + i * size, modulo 2 ^ 64
 abbrev pub cell : FunctionValue → Call → ℕ → ℕ → ℕ → ℕ
 cell f call p r i = ((place_at f call p).base + r * cast_unsigned w64 (place_at f call p).stride + i * (var_at f.vars p).size) % 2 ^ 64
+
+-- the same for any whole number of the element
+abbrev pub cell_at : FunctionValue → Call → ℕ → ℕ → ℤ → ℕ
+cell_at f call p r k = cell f call p r (wrap 64 k)
 
 -- the rows of a call
 abbrev pub rows : FunctionValue → Call → ℕ
@@ -89,7 +98,7 @@ read_cell f call r i p s = or_gap (value (var_at f.vars p).size s.memory (cell f
 abbrev pub write_cell : FunctionValue → Call → ℕ → ℕ → ℕ → ℕ → State → Result Memory Gap
 write_cell f call r i p v s = or_gap (store (var_at f.vars p).size s.memory (cell f call p r i) (byte_of (var_at f.vars p).size v)) (gap_at f call r i p s)
 
--- ---- one instruction
+-- ---- sources and results
 
 -- what a source of w bits gives to each sub-lane
 abbrev pub read_var : FunctionValue → Call → ℕ → ℕ → ℕ → State → ℕ → VarKind → Result (ℕ → ℕ) Gap
@@ -131,9 +140,52 @@ write_results f call r i v s [] = Ok s
 write_results f call r i v s (x ∷ []) = write_result f call r i v.0 s x
 write_results f call r i v s (x ∷ y ∷ more) = go_on (write_result f call r i v.0 s x) (λ t. write_result f call r i v.1 t y)
 
--- One instruction on one element: it reads its sources, works on each sub-lane, and writes its results.
+-- ---- far loads
+
+-- the number of a scalar: a parameter's, a constant's, or its own
+abbrev pub scalar_var : FunctionValue → Call → ℕ → VarKind → ℕ
+scalar_var f call p kind.Param = param_at f call p
+scalar_var f call p kind.Const = (var_at f.vars p).number
+scalar_var f call p k = 0
+
+abbrev pub scalar_number : FunctionValue → Call → Operand → ℕ
+scalar_number f call (operand.Var p) = scalar_var f call p (var_at f.vars p).kind
+scalar_number f call (operand.Number n) = n
+
+-- the number of source k, and 0 of one that isn't there
+abbrev pub scalar_of : FunctionValue → Call → List Operand → ℕ → ℕ
+scalar_of f call [] k = 0
+scalar_of f call (o ∷ os) zero = scalar_number f call o
+scalar_of f call (o ∷ os) (suc k) = scalar_of f call os k
+
+-- the elements that a far load with these sources reads for element i
+abbrev pub reach_of : FunctionValue → Call → Far → List Operand → ℕ → Reach
+reach_of f call far os i = reach far i (scalar_of f call os 1) (scalar_of f call os 2)
+
+-- element k of a row of the array at place p, read for element i
+abbrev pub read_far : FunctionValue → Call → ℕ → ℕ → ℕ → State → ℤ → Result ℕ Gap
+read_far f call r i p s k = or_gap (value (var_at f.vars p).size s.memory (cell_at f call p r k)) (record { row = r; element = i; at = missing (var_at f.vars p).size s.memory (cell_at f call p r k); memory = s.memory })
+
+-- the second element where there is one, else the first again
+abbrev pub read_second : FunctionValue → Call → ℕ → ℕ → ℕ → State → ℕ → Option ℤ → Result ℕ Gap
+read_second f call r i p s x None = Ok x
+read_second f call r i p s x (Some k) = read_far f call r i p s k
+
+-- the value of a far load of an array, which reads the lower element first
+abbrev pub load_far : FunctionValue → Call → ℕ → ℕ → Far → Reach → State → Option ℕ → Result ℕ Gap
+load_far f call r i far at s (Some p) = go_on (read_far f call r i p s at.first) (λ x. go_on (read_second f call r i p s x at.second) (λ y. Ok (far_blend far x y at.part)))
+load_far f call r i far at s None = Ok 0
+
+-- ---- one instruction
+
+-- an opcode with a formula, or a far load
+abbrev pub act_as : FunctionValue → Call → ℕ → ℕ → Insn → State → Option Far → Result State Gap
+act_as f call r i insn s None = go_on (read_sources f call r i insn.op s insn.sources.items) (λ x. write_results f call r i (lanewise insn.op insn.prefix x.0 x.1) s insn.results.items)
+act_as f call r i insn s (Some far) = go_on (load_far f call r i far (reach_of f call far insn.sources.items i) s (far_array f.vars insn.sources.items)) (λ v. write_results f call r i (v, 0) s insn.results.items)
+
+-- One instruction on one element: it reads its sources, works on each sub-lane or takes a far load's value, and writes its results.
 unfoldable pub act : FunctionValue → Call → ℕ → ℕ → Insn → State → Result State Gap
-act f call r i insn s = go_on (read_sources f call r i insn.op s insn.sources.items) (λ x. write_results f call r i (lanewise insn.op insn.prefix x.0 x.1) s insn.results.items)
+act f call r i insn s = act_as f call r i insn s (far_of insn.op)
 
 -- ---- elements and rows
 

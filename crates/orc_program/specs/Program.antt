@@ -1,7 +1,8 @@
 -- Programs as values, and what stands at a place of a function's list of variables.
-use Rattle.std.specs.Prelude.{ℕ, ◌+◌, Bool, true, false, ◌||◌, ◌==◌, List, [], ◌∷◌, Option, Some, None, if◌then◌else◌, slice_index_or, take, length, filter}
-use Rattle.std.specs.List.{count_by, range_with_len}
+use Rattle.std.specs.Prelude.{ℕ, ◌+◌, Bool, true, false, ◌||◌, ◌==◌, List, [], ◌∷◌, Option, Some, None, if◌then◌else◌, slice_index_or, take, length, filter, is_some}
+use Rattle.std.specs.List.{count_by, range_with_len, list_any}
 use Rattle.std.specs.Str.{bytes_eq}
+use Rattle.orc_ops.specs.Far.{far_of}
 use Rattle.orc_program.specs.declared.program.Var.{Var}
 use Rattle.orc_program.specs.declared.program.VarKind.{VarKind}
 use Rattle.orc_program.specs.declared.program.VarKind.TheVariants as kind
@@ -110,3 +111,32 @@ abbrev pub temps_among : List Var → List Operand → List ℕ
 temps_among vars [] = []
 temps_among vars (operand.Var p ∷ os) = if is_of kind.Temp (var_at vars p) then p ∷ temps_among vars os else temps_among vars os
 temps_among vars (operand.Number n ∷ os) = temps_among vars os
+
+-- ---- far loads
+
+-- an instruction is a far load
+abbrev pub is_far : Insn → Bool
+is_far insn = is_some (far_of insn.op)
+
+-- some instruction of the function is one
+abbrev pub has_far : FunctionValue → Bool
+has_far f = list_any is_far f.insns
+
+-- the array of a far load, which is its first source
+abbrev pub far_array : List Var → List Operand → Option ℕ
+far_array vars (operand.Var p ∷ os) = if is_array (var_at vars p) then Some p else None
+far_array vars os = None
+
+-- the first that is there
+abbrev pub or_later : Option ℕ → Option ℕ → Option ℕ
+or_later (Some line) other = Some line
+or_later None other = other
+
+-- the line of the first far load, of a function and of functions in order
+abbrev pub far_line : List Insn → Option ℕ
+far_line [] = None
+far_line (insn ∷ insns) = if is_far insn then Some insn.line else far_line insns
+
+abbrev pub first_far_line : List FunctionValue → Option ℕ
+first_far_line [] = None
+first_far_line (f ∷ fs) = or_later (far_line f.insns) (first_far_line fs)

@@ -32,7 +32,7 @@ fn is_too_long(size: u8, prefix: u8) -> bool
     u32::from(size) * u32::from(prefix) > 8
 }
 
-/// Whether the prefix stands before a sum, or makes an operand longer than 8 bytes.
+/// Whether the prefix stands before a sum or a far load, or makes an operand longer than 8 bytes.
 pub fn is_bad_prefix(op: Op, prefix: u8) -> bool
     ensures { result ≡ is_bad_prefix op prefix }
 {
@@ -44,11 +44,12 @@ pub fn is_bad_prefix(op: Op, prefix: u8) -> bool
     } else {
         source_size(op, 1)
     };
-    matches!(kind_of(op), Kind::Sum)
+    matches!(kind_of(op), Kind::Sum | Kind::Far)
         || is_too_long(result_size(op, 0), prefix)
         || is_too_long(result_size(op, 1), prefix)
         || is_too_long(source_size(op, 0), prefix)
         || is_too_long(counted, prefix)
+        || is_too_long(source_size(op, 2), prefix)
 }
 
 /// The fault of a result's kind.
@@ -61,7 +62,7 @@ fn check_result_kind(op: Op, kind: Option<VarKind>) -> Result<(), Fault>
             Fault::NotAccumulator,
         ),
         Kind::Store => check(!matches!(kind, Some(VarKind::Dest)), Fault::NotArray),
-        Kind::Plain | Kind::Load | Kind::LoadParam | Kind::Shift => {
+        Kind::Plain | Kind::Load | Kind::LoadParam | Kind::Shift | Kind::Far => {
             check(
                 !matches!(kind, Some(VarKind::Temp | VarKind::Dest)),
                 Fault::NotWritable,
@@ -82,6 +83,11 @@ fn check_source_kind(op: Op, position: usize, kind: Option<VarKind>) -> Result<(
         ),
         Kind::LoadParam => check(!is_scalar(kind), Fault::NotScalar),
         Kind::Shift if position == 1 => check(!is_scalar(kind), Fault::NotScalar),
+        Kind::Far if position == 0 => check(
+            !matches!(kind, Some(VarKind::Source)),
+            Fault::NotArray,
+        ),
+        Kind::Far => check(!is_scalar(kind), Fault::NotScalar),
         Kind::Plain | Kind::Store | Kind::Shift | Kind::Sum => check(is_sum, Fault::NotReadable),
     }
 }

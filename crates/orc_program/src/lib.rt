@@ -5,7 +5,8 @@
 //! [`is_size_for`], [`is_shaped`] and [`check_insn`]; [`is_bad_prefix`], [`check_result`], [`check_source`] and [`is_too_many`] are the
 //! parts of [`check_insn`]. A [`Program`] is made by [`new_program`], [`set_init`] and [`add_function`].
 //! [`result_count`], [`source_count`], [`result_size`], [`source_size`] and [`is_count`] say what operands an opcode has.
-//! [`patterns`] lists the numbers that a function uses. [`variables`] has what stands at a place of a function's list, slots of arrays, and
+//! [`patterns`] lists the numbers that a function uses. [`has_far`] says whether it has a far load, and [`far_line`] and [`first_far_line`]
+//! where the first one stands. [`variables`] has what stands at a place of a function's list, slots of arrays, and
 //! what operands stand for. [`facts`] has what `.n`, `.m` and `align` state of every call, and [`words`] reads number words.
 //!
 //! `specs/` defines the faults of instructions (`Checks`), what the types keep (`Kept`), what a program does on a memory (`Meaning`), good
@@ -16,6 +17,7 @@
 mod build;
 mod call;
 mod checks;
+mod far;
 mod fault;
 mod known;
 mod laws;
@@ -35,6 +37,7 @@ pub use build::{
 };
 pub use call::{Call, Params, Place, Places};
 pub use checks::{MOST_INSNS, check_insn, check_result, check_source, is_bad_prefix, is_too_many};
+pub use far::{far_line, first_far_line, has_far, is_far};
 pub use fault::Fault;
 pub use known::{CountFacts, Facts};
 pub use laws::{

@@ -62,7 +62,11 @@ pub fn result_count(op: Op) -> usize
 pub fn source_count(op: Op) -> usize
     ensures { result ≡ source_count op }
 {
-    count_sizes(source_size(op, 0), source_size(op, 1))
+    if source_size(op, 2) == 0 {
+        count_sizes(source_size(op, 0), source_size(op, 1))
+    } else {
+        3
+    }
 }
 
 /// Whether an operand of this kind is a parameter, a constant or a number.

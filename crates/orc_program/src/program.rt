@@ -72,8 +72,8 @@ pub struct Insn {
     pub prefix: u8,
     /// The results, the first before the second.
     pub results: ArrayVec<Operand, 2>,
-    /// The sources, from the left.
-    pub sources: ArrayVec<Operand, 2>,
+    /// The sources, from the left. Of a far load these are the array and its scalars.
+    pub sources: ArrayVec<Operand, 3>,
     /// The number of the instruction's line in its text, counted from 1.
     pub line: u32,
 }

@@ -18,7 +18,7 @@ use Rattle.orc_program.specs.declared.program.VarKind.TheVariants as kind
 use Rattle.orc_program.specs.declared.program.Operand.{Operand}
 use Rattle.orc_program.specs.declared.program.Operand.TheVariants as operand
 use Rattle.orc_program.specs.declared.program.Pattern.{Pattern}
-use Rattle.orc_program.specs.Program.{FunctionValue, count_of}
+use Rattle.orc_program.specs.Program.{FunctionValue, count_of, has_far}
 use Rattle.orc_program.specs.Checks.{patterns_of}
 use Rattle.orc_program.specs.Need.{lanes, registers, has_whole_turns, begins_aligned}
 use Rattle.orc_program.specs.Slots.{size_of_slot}
@@ -582,9 +582,10 @@ ArePartsOf f target at parts = has_whole_turns f ≡ false → AreParts (IsPart 
 abbrev pub AreByParts : FunctionValue → CodeTarget → List ℕ → ℕ → List Ins → Type 0
 AreByParts f target at from list = (parts : TurnParts) × AreParts (IsPart f target at) from parts × (list ≡ flat (parts_flow from parts))
 
--- the turns of a function's code by good places of its values
+-- the turns of a function's code by good places of its values; it has no far load
 pub record Turns (f : FunctionValue) (target : CodeTarget) (at : List ℕ) (parts : TurnParts) (wide aligned large : List Ins) : Type 0 where
   pub good : GoodPlaces (steps_of f) at
+  pub near : has_far f ≡ false
   pub fewer : ArePartsOf f target at parts
   pub more : IsTurnOf f target at (lanes f) false 1 wide
   pub stored : fills f ≡ true → IsTurnOf f target at (lanes f) true 1 aligned

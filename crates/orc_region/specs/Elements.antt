@@ -1,12 +1,12 @@
 -- What the code of a function's elements does in a good call: so many elements of a row, as emulation does them.
-use Rattle.std.specs.Prelude.{◌≡◌, ◌≢◌, ℕ, ◌+◌, ◌*◌, ◌%◌, ◌<◌, ◌≤◌, ◌⊎◌, Bool, true, List, ◌++◌, length, get_or, slice_index, if◌then◌else◌, Option, Some, Ok}
+use Rattle.std.specs.Prelude.{◌≡◌, ◌≢◌, ℕ, ◌+◌, ◌*◌, ◌%◌, ◌<◌, ◌≤◌, ◌⊎◌, Bool, true, false, List, ◌++◌, length, get_or, slice_index, if◌then◌else◌, Option, Some, Ok}
 use Rattle.orc_bits.specs.Numbers.{cut}
 use Rattle.orc_bits.specs.Lanes.{AreBytes}
 use Rattle.orc_bits.specs.Memory.{Memory, IsMapped}
 use Rattle.orc_ops.specs.declared.target.Target.{Target}
 use Rattle.orc_program.specs.declared.program.VarKind.TheVariants as kind
 use Rattle.orc_program.specs.declared.call.Call.{Call as Meant}
-use Rattle.orc_program.specs.Program.{FunctionValue, count_of, places_of}
+use Rattle.orc_program.specs.Program.{FunctionValue, count_of, places_of, has_far}
 use Rattle.orc_program.specs.Kept.{is_function}
 use Rattle.orc_program.specs.Meaning.{State, row_of, rows_of, start}
 use Rattle.orc_program.specs.Need.{lanes, cost_for, has_whole_turns, turns}
@@ -28,9 +28,10 @@ use Rattle.orc_frame.specs.Subject.{Call, IsArray, VerySame, cell, rows}
 use Rattle.orc_region.specs.Code.{pointer, last_place, is_resident, resident_register}
 use Rattle.orc_region.specs.Stores.{TouchesCell, StoresFirst}
 
--- placed steps and a layout are of this function
+-- placed steps and a layout are of this function, which has no far load
 pub record AreOf (f : FunctionValue) (p : PlacedValue) (l : Layout) : Type 0 where
   pub kept : is_function f ≡ true
+  pub near : has_far f ≡ false
   pub steps : p.core.steps ≡ steps_of f
   pub sizes : p.core.sizes ≡ sizes_of f
   pub lanes : p.core.lanes ≡ lanes f

@@ -2,15 +2,12 @@
 #![tactic(auto)]
 
 mod assembly;
-mod elements;
 mod pieces;
 mod plan;
-mod values;
 
 pub use assembly::gather;
-pub use elements::Reach;
+pub use orc_ops::{Reach, blend, reach};
 pub use plan::FarPlan;
-pub use values::{blend, reach};
 
 #[cfg(test)]
 mod tests;

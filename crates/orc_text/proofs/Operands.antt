@@ -1,5 +1,5 @@
 -- Operand words, one by one.
-use Rattle.std.proofs.Common.{◌≡◌, ℕ, zero, suc, ◌+◌, ◌-◌, ◌<◌, ◌≤◌, ◌==◌, ◌++◌, true, List, [], ◌∷◌, Option, Some, None, length, take, drop, refl, sym, ap, ◌∙◌, arith, inl, inr}
+use Rattle.std.proofs.Common.{◌≡◌, ℕ, zero, suc, ◌+◌, ◌-◌, ◌<◌, ◌≤◌, ◌==◌, ◌++◌, true, if◌then◌else◌, List, [], ◌∷◌, Option, Some, None, length, take, drop, refl, sym, ap, ◌∙◌, arith, inl, inr}
 use Rattle.std.proofs.lemmas.Bool.{cases_Bool}
 use Rattle.std.proofs.lemmas.Bool.Decides.{nat_tests}
 use Rattle.std.proofs.lemmas.List.{length-drop, append_assoc}
@@ -19,7 +19,7 @@ pub take_next : (w : Word) (ws : List Word) (k : ℕ) → 0 < k → take k (w �
 take_next w ws zero h = absurd (omega (arith, h))
 take_next w ws (suc k) h = let e : suc k - 1 ≡ k = omega arith in rw e refl
 
--- an opcode has at most two results, and at most two sources
+-- an opcode has at most two results, and at most three sources
 pub count_few : (a b : ℕ) → count_sizes a b ≤ 2
 count_few a b =
     elim (cases_Bool (a == 0)) [
@@ -31,10 +31,17 @@ count_few a b =
           ]
     ]
 
+pub sources_few : (a b c : ℕ) → (if c == 0 then count_sizes a b else 3) ≤ 3
+sources_few a b c =
+    elim (cases_Bool (c == 0)) [
+      | inl t ↦ rw t (let few = count_few a b in omega (arith, few))
+      | inr f ↦ rw f (omega arith)
+    ]
+
 pub same_number : (a b : ℕ) → (a == b) ≡ true → a ≡ b
 same_number a b h = grind (arith, nat_tests, h)
 
-pub few_sources : (ws : List Word) (results sources : ℕ) → (length ws == results + sources) ≡ true → sources ≤ 2 → length (drop results ws) ≤ 2
+pub few_sources : (ws : List Word) (results sources : ℕ) → (length ws == results + sources) ≡ true → sources ≤ 3 → length (drop results ws) ≤ 3
 few_sources ws results sources h few = omega (arith, length-drop results ws, same_number (length ws) (results + sources) h)
 
 or_nothing : (x y z : Option Fault) → or_else x (or_else y (or_else z None)) ≡ or_else (or_else x y) z

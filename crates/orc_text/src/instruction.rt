@@ -61,10 +61,10 @@ fn results_of(op: Op) -> usize
 }
 
 /// The number of an opcode's sources.
-#[tactic(auto, using(crate::proofs::Operands::count_few))]
+#[tactic(auto, using(crate::proofs::Operands::sources_few))]
 fn sources_of(op: Op) -> usize
     ensures value { result ≡ source_count op }
-    ensures few { result ≤ 2 }
+    ensures few { result ≤ 3 }
 {
     source_count(op)
 }
@@ -132,9 +132,9 @@ fn put_sources(
     op: Op,
     prefix: u8,
     line: &[u8],
-    operands: &mut ArrayVec<Operand, 2>,
+    operands: &mut ArrayVec<Operand, 3>,
 ) -> Result<(), Fault>
-    requires { array_vec_len operands.old + length (words line.now) ≤ 2 }
+    requires { array_vec_len operands.old + length (words line.now) ≤ 3 }
     ensures fault { result_err result ≡ source_words_fault current.now.function.vars current.now.function.insns op prefix (array_vec_len operands.old) (words line.now) }
     ensures put { OnOk result (operands.new.items ≡ operands.old.items ++ operands_of current.now.function.vars (words line.now)) }
 {

@@ -23,6 +23,7 @@ use Rattle.orc_worlds.specs.GoodJobs.{IsCodeOf, HasWidths, IsGoodJob}
 use Rattle.orc_worlds.specs.Whole.{words_of_part}
 use Rattle.orc_worlds.specs.Copying.{copied, two_bytes, CopiesInParts}
 use Rattle.orc_worlds.proofs.Separate.{good_jobs_separate, one_row_is_apart}
+use Rattle.orc_program.proofs.Near.{element_of}
 
 kept : is_function copied ≡ true
 unfolding is_function insn_fault patterns_of
@@ -42,14 +43,14 @@ two_arrays p h = let l = h.0 in ⊎_elim (λ (a : p < 1). inl (omega (arith, a))
 at_dest : (r i j : ℕ) → IsByte copied two_bytes.call 0 r i j → (i < 2) × (byte_at copied two_bytes.call 0 r i j ≡ 4096 + i)
 at_dest r i j b =
     let row = b.row in
-    let e = b.element in
+    let e = element_of copied two_bytes.call refl 0 i b.element in
     let s = b.inside in
     (e, omega (arith, row, e, s))
 
 at_source : (r i j : ℕ) → IsByte copied two_bytes.call 1 r i j → (i < 2) × (byte_at copied two_bytes.call 1 r i j ≡ 8192 + i)
 at_source r i j b =
     let row = b.row in
-    let e = b.element in
+    let e = element_of copied two_bytes.call refl 1 i b.element in
     let s = b.inside in
     (e, omega (arith, row, e, s))
 

@@ -1,5 +1,5 @@
 -- A run of a good job returns with what emulation of the job leaves.
-use Rattle.std.proofs.Common.{◌≡◌, ℕ, ◌+◌, ◌*◌, ◌%◌, ◌^◌, ◌<◌, ◌≤◌, true, if◌then◌else◌, List, [], ◌∷◌, zero, suc, drop, length, slice_index, Some, Ok, refl, sym, ap, ◌∙◌, subst, arith, lit<}
+use Rattle.std.proofs.Common.{◌≡◌, ℕ, ◌+◌, ◌*◌, ◌%◌, ◌^◌, ◌<◌, ◌≤◌, true, if◌then◌else◌, List, [], ◌∷◌, zero, suc, drop, length, slice_index, Some, Ok, refl, sym, ap, ◌∙◌, subst, arith, lit<, false}
 use Rattle.std.proofs.Math.Nat.{mod-mod}
 use Rattle.std.proofs.lemmas.List.{length-map}
 use Rattle.orc_bits.specs.Memory.{Memory, IsMapped, word}
@@ -11,7 +11,7 @@ use Rattle.orc_ops.specs.declared.target.Target.{Target}
 use Rattle.orc_program.specs.declared.program.VarKind.TheVariants as kind
 use Rattle.orc_program.specs.declared.call.Call.{Call}
 use Rattle.orc_program.specs.declared.rect.Rect.{Rect}
-use Rattle.orc_program.specs.Program.{FunctionValue, count_of, places_of}
+use Rattle.orc_program.specs.Program.{FunctionValue, count_of, places_of, has_far}
 use Rattle.orc_program.specs.Meaning.{place_at, rows, rows_of, emulate, sums_of}
 use Rattle.orc_program.specs.Meaning.{start as at_start, ended as ended_call}
 use Rattle.orc_program.specs.Kept.{is_function}
@@ -89,10 +89,10 @@ module _ (f : FunctionValue) (call : Call) (low : (p : ℕ) → (place_at f call
       let q : b ≡ a % m = h ∙ ap (λ n. n % m) (let z : 0 + a ≡ a = omega arith in z) in
       p ∙ sym (q ∙ ap (λ n. n % m) p ∙ mod-mod b m)
 
-  alike : is_function f ≡ true → (mem other : Memory) → ((a : ℕ) → IsCell f call a → IsMapped mem a) → ((a : ℕ) → IsCell f call a → IsMapped other a) → ((a : ℕ) → IsCell f call a → other a ≡ mem a) → Alike mem other
-  alike kept mem other here there same =
-      let x = parts_add_up f call kept 1 (λ k. all_of f call) (λ k. call) one_cut mem (λ k. other) (λ k l a c. here a c) (λ k l a c. same a c) in
-      let y = parts_add_up f call kept 1 (λ k. all_of f call) (λ k. call) one_cut other (λ k. mem) (λ k l a c. there a c) (λ k l a c. sym (same a c)) in
+  alike : is_function f ≡ true → has_far f ≡ false → (mem other : Memory) → ((a : ℕ) → IsCell f call a → IsMapped mem a) → ((a : ℕ) → IsCell f call a → IsMapped other a) → ((a : ℕ) → IsCell f call a → other a ≡ mem a) → Alike mem other
+  alike kept near mem other here there same =
+      let x = parts_add_up f call kept near 1 (λ k. all_of f call) (λ k. call) one_cut mem (λ k. other) (λ k l a c. here a c) (λ k l a c. same a c) in
+      let y = parts_add_up f call kept near 1 (λ k. all_of f call) (λ k. call) one_cut other (λ k. mem) (λ k l a c. there a c) (λ k l a c. sym (same a c)) in
       let zero : 0 < 1 = lit< tt in
       let first : y.2.0 0 ≡ x.0 = ok_same (y.2.0 0) x.0 (sym (y.2.1 0 zero) ∙ x.1) in
       let second : x.2.0 0 ≡ y.0 = ok_same (x.2.0 0) y.0 (sym (x.2.1 0 zero) ∙ y.1) in
@@ -132,7 +132,7 @@ module _ {target : Target} (f : FunctionValue) (entry : image.FunctionValue) (jo
   cell_mapped a h = subst (IsMapped segments) (sym h.5) (g.good.mapped h.0 h.1 h.2 h.3 h.4)
 
   both : Alike f job.call (λ p. g.widths.bases _) big segments
-  both = alike f job.call (λ p. g.widths.bases _) c.kept big segments (λ a h. segment_mapped f entry job c g a (cell_mapped a h)) cell_mapped (λ a h. sym (segment_same f entry job c g a (cell_mapped a h)))
+  both = alike f job.call (λ p. g.widths.bases _) c.kept c.near big segments (λ a h. segment_mapped f entry job c g a (cell_mapped a h)) cell_mapped (λ a h. sym (segment_same f entry job c g a (cell_mapped a h)))
 
   end_is : run.end ≡ record { memory = both.one.0; sums = slice_index both.one.1 }
   end_is = some_one run.end _ (sym run.means ∙ ap (λ x. end_of (emulate f x big)) (call_same f entry job c g) ∙ ap end_of both.first)

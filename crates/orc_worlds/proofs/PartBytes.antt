@@ -4,10 +4,11 @@ use Rattle.std.specs.Int.{w64, cast_unsigned}
 use Rattle.orc_bits.specs.Memory.{Memory, IsMapped}
 use Rattle.orc_program.specs.declared.call.Call.{Call}
 use Rattle.orc_program.specs.declared.rect.Rect.{Rect}
-use Rattle.orc_program.specs.Program.{FunctionValue, var_at}
+use Rattle.orc_program.specs.Program.{FunctionValue, var_at, has_far}
 use Rattle.orc_program.specs.Meaning.{cell, rows, place_at}
 use Rattle.orc_program.specs.Good.{IsArray, IsByte, IsSame, SharesNone, GoodArrays, byte_at}
 use Rattle.orc_program.specs.Cut.{Has, Fits, IsPart}
+use Rattle.orc_program.proofs.Near.{has_cell, element_of}
 
 moved_cell : (b s z r0 r i0 i : ℕ) → ((b + r0 * s + i0 * z) % 2 ^ 64 + r * s + i * z) % 2 ^ 64 ≡ (b + (r0 + r) * s + (i0 + i) * z) % 2 ^ 64
 moved_cell b s z r0 r i0 i =
@@ -15,7 +16,7 @@ moved_cell b s z r0 r i0 i =
     let elements : (i0 + i) * z ≡ i0 * z + i * z = omega arith in
     omega (arith, rows, elements)
 
-module _ (f : FunctionValue) (call part : Call) (q : Rect) (is : IsPart f call part q) (fits : Fits f call q) where
+module _ (f : FunctionValue) (near : has_far f ≡ false) (call part : Call) (q : Rect) (is : IsPart f call part q) (fits : Fits f call q) where
   whole_cell : (p r i : ℕ) → IsArray f p → cell f part p r i ≡ cell f call p (q.row + r) (q.element + i)
   whole_cell p r i a =
       let s = cast_unsigned w64 (place_at f call p).stride in
@@ -28,7 +29,7 @@ module _ (f : FunctionValue) (call part : Call) (q : Rect) (is : IsPart f call p
   whole_byte p r i j b = record {
     array = b.array;
     row = let l = b.row in let m = is.m in let w = fits.rows_within in omega (arith, l, m, w);
-    element = let l = b.element in let n = is.n in let w = fits.elements_within in omega (arith, l, n, w);
+    element = has_cell f call near p (q.element + i) (let l = element_of f part near p i b.element in let n = is.n in let w = fits.elements_within in omega (arith, l, n, w));
     inside = b.inside;
   }
 
@@ -40,7 +41,7 @@ module _ (f : FunctionValue) (call part : Call) (q : Rect) (is : IsPart f call p
     from_row = omega arith;
     to_row = let l = b.row in let m = is.m in omega (arith, l, m);
     from_element = omega arith;
-    to_element = let l = b.element in let n = is.n in omega (arith, l, n);
+    to_element = let l = element_of f part near p i b.element in let n = is.n in omega (arith, l, n);
   }
 
   -- arrays of one base and one stride have the same first cells
@@ -81,6 +82,7 @@ module _ (f : FunctionValue) (call part : Call) (q : Rect) (is : IsPart f call p
           size = same.size;
           base = is.bases p a ∙ same_first p t same ∙ sym (is.bases t b);
           stride = λ e. is.strides p a ∙ same.stride e ∙ sym (is.strides t b);
+          near = same.near;
         }))
         (good.apart p t a b ne);
     mapped = mapped;

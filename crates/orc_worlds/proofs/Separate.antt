@@ -38,6 +38,7 @@ use Rattle.orc_worlds.proofs.Placed.{moved_count}
 use Rattle.orc_worlds.proofs.Wholly.{rect_same, is_part}
 use Rattle.orc_worlds.proofs.CellTest.{is_cell, cell_found, cell_passes}
 use Rattle.orc_worlds.proofs.PartBytes.{whole_byte, whole_at, has, part_good}
+use Rattle.orc_program.proofs.Near.{element_of}
 
 -- ---- moved arrays
 
@@ -132,8 +133,8 @@ module _ {target : Target} (f : FunctionValue) (entry : image.FunctionValue) (jo
 
   cell_mapped : (k : ℕ) → k < workers → (a : ℕ) → IsCell f (part k) a → IsMapped segments a
   cell_mapped k l a h =
-      subst (IsMapped segments) (sym (h.5 ∙ whole_at f job.call (part k) (rect k) (is k) (cuts.fits k l) h.0 h.1 h.2 h.3 h.4.array))
-      (g.good.mapped h.0 ((rect k).row + h.1) ((rect k).element + h.2) h.3 (whole_byte f job.call (part k) (rect k) (is k) (cuts.fits k l) h.0 h.1 h.2 h.3 h.4))
+      subst (IsMapped segments) (sym (h.5 ∙ whole_at f c.near job.call (part k) (rect k) (is k) (cuts.fits k l) h.0 h.1 h.2 h.3 h.4.array))
+      (g.good.mapped h.0 ((rect k).row + h.1) ((rect k).element + h.2) h.3 (whole_byte f c.near job.call (part k) (rect k) (is k) (cuts.fits k l) h.0 h.1 h.2 h.3 h.4))
 
   cell_low : (k : ℕ) → k < workers → (a : ℕ) → IsCell f (part k) a → a < code_at
   cell_low k l a h = in_segments job.memory a g.kept.within (cell_mapped k l a h)
@@ -181,7 +182,7 @@ module _ {target : Target} (f : FunctionValue) (entry : image.FunctionValue) (jo
     block = λ i b. above k l (block_of k + i) (omega arith) ∙ block_byte entry.dests (calls k) (long k) k i b;
     return = λ i b. above k l (stack_of k + i) (omega arith) ∙ return_byte entry.dests (calls k) (long k) k i b;
     frame = λ a h. let b = in_frame entry.dests (calls k) (long k) k a h in ap is_some (above k l a (omega (arith, h)) ∙ b.1);
-    arrays = part_good f job.call (part k) (rect k) (is k) (cuts.fits k l) segments (own k) g.good
+    arrays = part_good f c.near job.call (part k) (rect k) (is k) (cuts.fits k l) segments (own k) g.good
         (λ p r i j b. let h : IsCell f (part k) (byte_at f (part k) p r i j) = (p, r, i, j, b, refl) in ap is_some (at_cell k (byte_at f (part k) p r i j) h) ∙ cell_mapped k l (byte_at f (part k) p r i j) h);
     low = λ a h. cell_low k l a (h.place, h.row, h.element, h.byte, h.cell, h.here);
     no_more = λ a h. ⊎_elim (λ x. inl (cell_byte k a x)) (λ x. inr x) (mapped_either k a h);
@@ -197,7 +198,7 @@ module _ {target : Target} (f : FunctionValue) (entry : image.FunctionValue) (jo
   dest_cell : (k : ℕ) → k < workers → (a : ℕ) → IsOwn f (part_stand entry k).point.core (words k) a → IsDestCell f (part k) a ⊎ InOwn k a
   dest_cell k l a (inl d) =
       let call = good k l in
-      inl (dest_by_variable f few (words k) (stride_small f (on (own k) (part_stand entry k).point).core (words k) call.bounded call.reads) a d)
+      inl (dest_by_variable f few c.near (words k) (stride_small f (on (own k) (part_stand entry k).point).core (words k) call.bounded call.reads) a d)
   dest_cell k l a (inr h) = inr h
 
   module _ (j k : ℕ) (lj : j < workers) (lk : k < workers) (ne : j ≢ k) (a : ℕ) (d : IsDestCell f (part j) a) (h : IsCell f (part k) a) where
@@ -214,25 +215,25 @@ module _ {target : Target} (f : FunctionValue) (entry : image.FunctionValue) (jo
     second = (rect k).element + h.2
 
     here : IsByte f job.call d.0 row element d.3
-    here = whole_byte f job.call (part j) (rect j) (is j) (cuts.fits j lj) d.0 d.1 d.2 d.3 d.4.byte
+    here = whole_byte f c.near job.call (part j) (rect j) (is j) (cuts.fits j lj) d.0 d.1 d.2 d.3 d.4.byte
 
     there : IsByte f job.call h.0 other second h.3
-    there = whole_byte f job.call (part k) (rect k) (is k) (cuts.fits k lk) h.0 h.1 h.2 h.3 h.4
+    there = whole_byte f c.near job.call (part k) (rect k) (is k) (cuts.fits k lk) h.0 h.1 h.2 h.3 h.4
 
     at_here : a ≡ byte_at f job.call d.0 row element d.3
-    at_here = d.4.here ∙ whole_at f job.call (part j) (rect j) (is j) (cuts.fits j lj) d.0 d.1 d.2 d.3 d.4.byte.array
+    at_here = d.4.here ∙ whole_at f c.near job.call (part j) (rect j) (is j) (cuts.fits j lj) d.0 d.1 d.2 d.3 d.4.byte.array
 
     at_there : a ≡ byte_at f job.call h.0 other second h.3
-    at_there = h.5 ∙ whole_at f job.call (part k) (rect k) (is k) (cuts.fits k lk) h.0 h.1 h.2 h.3 h.4.array
+    at_there = h.5 ∙ whole_at f c.near job.call (part k) (rect k) (is k) (cuts.fits k lk) h.0 h.1 h.2 h.3 h.4.array
 
     in_row : row ≡ other → ⊥
     in_row e =
         let moved = subst (λ r. IsByte f job.call h.0 r second h.3) (sym e) there in
         let same = sym at_here ∙ at_there ∙ ap (λ r. byte_at f job.call h.0 r second h.3) (sym e) in
-        let met = cells_meet f job.call segments g.good (λ p x. size_kept f c.kept p x.0) d.0 h.0 row element d.3 second h.3 here moved same in
-        let first = has f job.call (part j) (rect j) (is j) (cuts.fits j lj) d.0 d.1 d.2 d.3 d.4.byte in
-        let last = subst (λ r. Has (rect k) r element) (sym e) (subst (λ i. Has (rect k) other i) (sym met.1) (has f job.call (part k) (rect k) (is k) (cuts.fits k lk) h.0 h.1 h.2 h.3 h.4)) in
-        let one = cuts.once row element here.row here.element in
+        let met = cells_meet f job.call segments g.good (λ p x. size_kept f c.kept p x.0) d.0 h.0 row element d.3 second h.3 here moved (element_of f job.call c.near d.0 element here.element) (element_of f job.call c.near h.0 second moved.element) same in
+        let first = has f c.near job.call (part j) (rect j) (is j) (cuts.fits j lj) d.0 d.1 d.2 d.3 d.4.byte in
+        let last = subst (λ r. Has (rect k) r element) (sym e) (subst (λ i. Has (rect k) other i) (sym met.1) (has f c.near job.call (part k) (rect k) (is k) (cuts.fits k lk) h.0 h.1 h.2 h.3 h.4)) in
+        let one = cuts.once row element here.row (element_of f job.call c.near d.0 element here.element) in
         ne (one.3 j lj first ∙ sym (one.3 k lk last))
 
     cells_apart : ⊥

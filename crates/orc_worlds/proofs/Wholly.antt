@@ -243,6 +243,7 @@ module _ {target : Target} (f : FunctionValue) (entry : image.FunctionValue) (jo
 
     abbrev split : Split f target job.call rects w
     split = record {
+      near = c.near;
       words = words;
       own = s.own;
       back = λ k. return_to;
@@ -305,11 +306,11 @@ module _ {target : Target} (f : FunctionValue) (entry : image.FunctionValue) (jo
     Ends mem = (whole : Memory × List ℕ) × (emulate f job.call mem ≡ Ok whole) × ((ends : ℕ → Memory × List ℕ) × ((k : ℕ) → k < length rects → emulate f (part k) (s.own k) ≡ Ok (ends k)) × AddsUp f (length rects) part mem whole ends)
 
     together : Ends w.memory
-    together = parts_add_up f job.call c.kept (length rects) (rect_at rects) part (cut f c.kept job.call rects w split) w.memory s.own
+    together = parts_add_up f job.call c.kept c.near (length rects) (rect_at rects) part (cut f c.kept job.call rects w split) w.memory s.own
         (λ k l a h. (common f c.kept job.call rects w split k l a h).1) (λ k l a h. (common f c.kept job.call rects w split k l a h).0)
 
     alone : Ends segments
-    alone = parts_add_up f job.call c.kept (length rects) (rect_at rects) part (cut f c.kept job.call rects w split) segments s.own
+    alone = parts_add_up f job.call c.kept c.near (length rects) (rect_at rects) part (cut f c.kept job.call rects w split) segments s.own
         (λ k l a h. cell_in k (inside k l) a h) (λ k l a h. (common f c.kept job.call rects w split k l a h).0 ∙ in_world a (cell_in k (inside k l) a h))
 
     same_end : (k : ℕ) → k < length rects → together.2.0 k ≡ alone.2.0 k

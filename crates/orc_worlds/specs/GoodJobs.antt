@@ -4,7 +4,7 @@ use Rattle.orc_bits.specs.Memory.{Memory, IsMapped, word}
 use Rattle.orc_bits.specs.Parts.{memory_of}
 use Rattle.orc_ops.specs.declared.target.Target.{Target}
 use Rattle.orc_program.specs.declared.program.VarKind.TheVariants as kind
-use Rattle.orc_program.specs.Program.{FunctionValue, count_of}
+use Rattle.orc_program.specs.Program.{FunctionValue, count_of, has_far}
 use Rattle.orc_program.specs.Kept.{is_function}
 use Rattle.orc_program.specs.Meaning.{no_place, emulate, rows}
 use Rattle.orc_program.specs.Need.{steps}
@@ -30,9 +30,10 @@ use Rattle.orc_worlds.specs.Whole.{IsCompiled, words_of, words_of_part, AreSepar
 
 -- ---- the function and the job
 
--- an image's function has the counts of a function of the language, and code of which each good call runs as that function means, within the steps that are stated for the target
+-- an image's function has the counts of a function of the language without far loads, and code of which each good call runs as that function means, within the steps that are stated for the target
 pub record IsCodeOf (f : FunctionValue) (target : Target) (entry : image.FunctionValue) : Type 0 where
   pub kept : is_function f ≡ true
+  pub near : has_far f ≡ false
   pub dests : entry.dests ≡ count_of kind.Dest f.vars
   pub sources : entry.sources ≡ count_of kind.Source f.vars
   pub params : entry.params ≡ count_of kind.Param f.vars

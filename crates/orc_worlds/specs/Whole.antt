@@ -1,5 +1,5 @@
 -- Parts of a call that are separate, and the whole call that their turns do.
-use Rattle.std.specs.Prelude.{◌≡◌, ◌≢◌, ℕ, ◌+◌, ◌-◌, ◌*◌, ◌%◌, ◌^◌, ◌<◌, ◌≤◌, true, nat_lt, if◌then◌else◌, List, length, Ok, slice_index, slice_index_or}
+use Rattle.std.specs.Prelude.{◌≡◌, ◌≢◌, ℕ, ◌+◌, ◌-◌, ◌*◌, ◌%◌, ◌^◌, ◌<◌, ◌≤◌, true, nat_lt, if◌then◌else◌, List, length, Ok, slice_index, slice_index_or, false}
 use Rattle.std.specs.Int.{w64, cast_unsigned}
 use Rattle.orc_bits.specs.Memory.{Memory, IsMapped}
 use Rattle.orc_bits.specs.Parts.{memory_of}
@@ -7,7 +7,7 @@ use Rattle.orc_ops.specs.declared.target.Target.{Target}
 use Rattle.orc_program.specs.declared.program.VarKind.TheVariants as kind
 use Rattle.orc_program.specs.declared.call.Call.{Call}
 use Rattle.orc_program.specs.declared.call.Place.{Place}
-use Rattle.orc_program.specs.Program.{FunctionValue, array_number, count_of, var_at}
+use Rattle.orc_program.specs.Program.{FunctionValue, array_number, count_of, var_at, has_far}
 use Rattle.orc_program.specs.Facts.{facts_of}
 use Rattle.orc_program.specs.Kept.{is_function}
 use Rattle.orc_program.specs.Meaning.{emulate, no_place}
@@ -32,9 +32,10 @@ use Rattle.orc_worlds.specs.Worlds.{call_of_part, part_stand, placed_world}
 
 -- ---- the function
 
--- an image's function has the form, the counts and the facts of a function of the language, whose arrays have elements of these sizes, and its code runs as that function means, within the steps that are stated for the target, and changes nothing on the way but dests' cells, accumulators' words and the frame
+-- an image's function has the form, the counts and the facts of a function of the language without far loads, whose arrays have elements of these sizes, and its code runs as that function means, within the steps that are stated for the target, and changes nothing on the way but dests' cells, accumulators' words and the frame
 pub record IsCompiled (f : FunctionValue) (target : Target) (entry : image.FunctionValue) (sizes : List ℕ) : Type 0 where
   pub kept : is_function f ≡ true
+  pub near : has_far f ≡ false
   pub two_d : entry.two_d ≡ f.two_d
   pub dests : entry.dests ≡ count_of kind.Dest f.vars
   pub sources : entry.sources ≡ count_of kind.Source f.vars

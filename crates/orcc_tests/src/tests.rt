@@ -1,4 +1,5 @@
 mod failures;
+mod far;
 mod hostile;
 mod meaning;
 mod stated;

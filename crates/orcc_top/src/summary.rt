@@ -11,6 +11,7 @@ use orc_gen::generate;
 use orc_image::{Image, ImageFunction};
 use orc_job::{EndLine, Job};
 use orc_ops::Target;
+use orc_program::first_far_line;
 use orc_text::read;
 use std::alloc::{AllocError, Global};
 
@@ -96,7 +97,12 @@ fn codes_of(alloc: Global, text: &[u8]) -> Result<Image, AllocError>
         Ok(program) => program,
         Err(_) => return Err(AllocError),
     };
-    match image_of(alloc, program.functions.as_slice(), Target::Sse2) {
+    let functions = program.functions.as_slice();
+    // the generator draws no far loads
+    if first_far_line(functions).is_some() {
+        return Err(AllocError);
+    }
+    match image_of(alloc, functions, Target::Sse2) {
         Ok(image) => Ok(image),
         Err(_) => Err(AllocError),
     }

@@ -193,4 +193,16 @@ meets Op.Shrub t = record {
   second = no_second 1 (rule_of Op.Shrub);
   keeps = run_keeps (rule_of Op.Shrub) refl;
 }
+meets Op.Loadupdb t = record {
+  vectors = refl;
+  first = plain 1 (rule_of Op.Loadupdb) (first_result Op.Loadupdb) refl bytes.copyb;
+  second = no_second 1 (rule_of Op.Loadupdb);
+  keeps = run_keeps (rule_of Op.Loadupdb) refl;
+}
+meets Op.Loadupib t = record {
+  vectors = refl;
+  first = plain 1 (rule_of Op.Loadupib) (first_result Op.Loadupib) refl bytes.copyb;
+  second = no_second 1 (rule_of Op.Loadupib);
+  keeps = run_keeps (rule_of Op.Loadupib) refl;
+}
 meets _ t = absurd (false≢true t)

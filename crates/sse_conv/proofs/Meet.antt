@@ -1,5 +1,5 @@
 -- Each sequence computes its opcode.
-use Rattle.std.proofs.Common.{◌≡◌, ℕ, ◌+◌, ◌*◌, ◌<◌, ◌≤◌, List, refl, lit<, true}
+use Rattle.std.proofs.Common.{◌≡◌, ℕ, ◌+◌, ◌*◌, ◌<◌, ◌≤◌, List, refl, lit<, arith, true, false}
 use Rattle.std.proofs.lemmas.Bool.{false≢true}
 use Rattle.orc_bits.specs.Numbers.{cut}
 use Rattle.orc_bits.specs.Lanes.{lane}
@@ -7,9 +7,10 @@ use Rattle.orc_ops.specs.declared.opcode.Op.{Op}
 use Rattle.orc_ops.specs.Formula.{formula}
 use Rattle.x86_ins.specs.Vectors.{Registers, after}
 use Rattle.sse_laws.specs.Meets.{Meets}
-use Rattle.sse_laws.proofs.Runs.{targets_below_six, run_keeps}
+use Rattle.sse_laws.proofs.Runs.{all_lanewise, targets_below_six, run_keeps}
 use Rattle.sse_laws.proofs.Two.{two_exec, start}
-use Rattle.sse_laws.proofs.Ways.{first_result, second_result, widens, narrows, no_second}
+use Rattle.std.proofs.Math.Nat.{mul-le-mul_left, le_trans}
+use Rattle.sse_laws.proofs.Ways.{Equation, plain, first_result, second_result, widens, narrows, no_second}
 use Rattle.sse_conv.specs.Rules.{rule_of}
 use Rattle.sse_conv.specs.Sizes.{changes_size}
 use Rattle.sse_conv.proofs.Equations.{Widens, Narrows, NarrowsSecond}
@@ -34,6 +35,14 @@ narrow_second : (w : ℕ) (op : Op) → 0 < w → ((q : ℕ) (x : ℕ → List �
     (x : ℕ → List ℕ) → Registers x → (q : ℕ) → q * (w + w) + (w + w) ≤ 16 →
     lane w q (after (rule_of op) x 1) ≡ second_result op (cut (8 * (w + w)) (lane (w + w) q (x 0))) 0
 narrow_second w op p known e = narrows w 1 (rule_of op) (λ a. second_result op a 0) p known e
+
+-- from a source of w bytes to a result of w bytes, beside scalars of 4 bytes
+loaded : (w : ℕ) (op : Op) → all_lanewise w false (rule_of op) ≡ true → Equation w (rule_of op) (first_result op) → w ≤ 4 →
+    (x : ℕ → List ℕ) → Registers x → (q : ℕ) → q * 4 + 4 ≤ 16 → lane w q (after (rule_of op) x 0) ≡ first_result op (cut (8 * w) (lane w q (x 0))) (cut (8 * w) (lane w q (x 1)))
+loaded w op t e l x h q k = plain w (rule_of op) (first_result op) t e x h q (le_trans (room w q l) k)
+  where
+    room : (w q : ℕ) → w ≤ 4 → q * w + w ≤ q * 4 + 4
+    room w q l = let m = mul-le-mul_left q l in omega (arith, l, m)
 
 -- no second result, where the largest operand has so many bytes
 none : (w : ℕ) (op : Op) (x : ℕ → List ℕ) → Registers x → (q : ℕ) → q * w + w ≤ 16 → lane 0 q (after (rule_of op) x 1) ≡ 0
@@ -88,4 +97,8 @@ meets Op.Splatbw t = record { vectors = refl; first = wide 1 Op.Splatbw (lit< tt
 meets Op.Splitlw t = record { vectors = refl; first = narrow 2 Op.Splitlw (lit< tt) (λ q x. refl) narrower.splitlw_high; second = narrow_second 2 Op.Splitlw (lit< tt) (λ q x. refl) narrower.splitlw_low; keeps = kept Op.Splitlw refl }
 meets Op.Splitql t = record { vectors = refl; first = narrow 4 Op.Splitql (lit< tt) (λ q x. refl) narrower.splitql_high; second = narrow_second 4 Op.Splitql (lit< tt) (λ q x. refl) narrower.splitql_low; keeps = kept Op.Splitql refl }
 meets Op.Splitwb t = record { vectors = refl; first = narrow 1 Op.Splitwb (lit< tt) (λ q x. refl) narrower.splitwb_high; second = narrow_second 1 Op.Splitwb (lit< tt) (λ q x. refl) narrower.splitwb_low; keeps = kept Op.Splitwb refl }
+meets Op.Loadoffb t = record { vectors = refl; first = loaded 1 Op.Loadoffb refl (λ σ h k. refl) (omega arith); second = none 4 Op.Loadoffb; keeps = kept Op.Loadoffb refl }
+meets Op.Loadoffw t = record { vectors = refl; first = loaded 2 Op.Loadoffw refl (λ σ h k. refl) (omega arith); second = none 4 Op.Loadoffw; keeps = kept Op.Loadoffw refl }
+meets Op.Ldresnearb t = record { vectors = refl; first = loaded 1 Op.Ldresnearb refl (λ σ h k. refl) (omega arith); second = none 4 Op.Ldresnearb; keeps = kept Op.Ldresnearb refl }
+meets Op.Ldreslinb t = record { vectors = refl; first = loaded 1 Op.Ldreslinb refl (λ σ h k. refl) (omega arith); second = none 4 Op.Ldreslinb; keeps = kept Op.Ldreslinb refl }
 meets _ t = absurd (false≢true t)

@@ -68,4 +68,7 @@ meets Op.Subusl t = record { vectors = refl; first = long Op.Subusl refl longs.s
 meets Op.Swapl t = record { vectors = refl; first = swaps.swapl_lanes; second = none Op.Swapl; keeps = kept Op.Swapl refl }
 meets Op.Swapwl t = record { vectors = refl; first = swaps.swapwl_lanes; second = none Op.Swapwl; keeps = kept Op.Swapwl refl }
 meets Op.Xorl t = record { vectors = refl; first = long Op.Xorl refl longs.xorl_eq; second = none Op.Xorl; keeps = kept Op.Xorl refl }
+meets Op.Loadoffl t = record { vectors = refl; first = long Op.Loadoffl refl longs.copyl_eq; second = none Op.Loadoffl; keeps = kept Op.Loadoffl refl }
+meets Op.Ldresnearl t = record { vectors = refl; first = long Op.Ldresnearl refl longs.copyl_eq; second = none Op.Ldresnearl; keeps = kept Op.Ldresnearl refl }
+meets Op.Ldreslinl t = record { vectors = refl; first = long Op.Ldreslinl refl longs.copyl_eq; second = none Op.Ldreslinl; keeps = kept Op.Ldreslinl refl }
 meets _ t = absurd (false≢true t)

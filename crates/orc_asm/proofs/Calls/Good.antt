@@ -89,10 +89,10 @@ few : Limits doubles
 few = record { dests = omega arith; sources = omega arith; accs = omega arith }
 
 in_cell : (a : ℕ) → subject.cells call a → a ≡ 65536
-in_cell a w = in_slots a (cells_by_variables doubles few call (λ k h. lit< tt) a w)
+in_cell a w = in_slots a (cells_by_variables doubles few refl call (λ k h. lit< tt) a w)
 
 the_cell : (a : ℕ) → a ≡ 65536 → subject.cells call a
-the_cell a e = cells_by_slots doubles few call (λ k h. lit< tt) a (0, inl (omega arith), (0, omega arith, 0, omega arith, 0, omega arith, e))
+the_cell a e = cells_by_slots doubles few refl call (λ k h. lit< tt) a (0, inl (omega arith), (0, omega arith, 0, omega arith, 0, omega arith, e))
 
 -- it states nothing of its calls
 meets_all : subject.facts call ≡ true
@@ -110,7 +110,7 @@ there_is bytes short = record {
     params = λ j h. absurd (omega (arith, h));
   };
   returns = refl;
-  arrays = good_by_variables doubles few call (λ k h. lit< tt) memory (record {
+  arrays = good_by_variables doubles few refl call (λ k h. lit< tt) memory (record {
     few = omega arith;
     few_rows = λ h. absurd (let e : ⊥ = cc in e);
     low = λ a w. omega (arith, in_slots a w);

@@ -1,5 +1,5 @@
 -- What emulation does at several elements, said of their cells.
-use Rattle.std.proofs.Common.{◌≡◌, ℕ, zero, suc, ◌+◌, ◌*◌, ◌%◌, ◌^◌, ◌≢◌, length, ◌<◌, ◌≤◌, List, [], ◌∷◌, Some, is_some, Result, Ok, slice_index, if◌then◌else◌, refl, sym, ap, ap₂, ◌∙◌, subst, arith, ◌⊎◌, ⊎_elim}
+use Rattle.std.proofs.Common.{◌≡◌, ℕ, zero, suc, ◌+◌, ◌*◌, ◌%◌, ◌^◌, ◌≢◌, length, ◌<◌, ◌≤◌, List, [], ◌∷◌, Some, is_some, Result, Ok, slice_index, if◌then◌else◌, refl, sym, ap, ap₂, ◌∙◌, subst, arith, ◌⊎◌, ⊎_elim, false}
 use Rattle.std.proofs.lemmas.Bool.{cases_lt, cases_eq}
 use Rattle.std.proofs.Math.Nat.{mod-add-mod}
 use Rattle.orc_bits.specs.Lanes.{change}
@@ -14,7 +14,7 @@ use Rattle.orc_program.specs.declared.program.Operand.{Operand}
 use Rattle.orc_program.specs.declared.program.Operand.TheVariants as operand
 use Rattle.orc_program.specs.declared.program.Insn.{Insn}
 use Rattle.orc_program.specs.declared.call.Call.{Call}
-use Rattle.orc_program.specs.Program.{FunctionValue, var_at, same_kind, count_before, places_of}
+use Rattle.orc_program.specs.Program.{FunctionValue, var_at, same_kind, count_before, places_of, is_far}
 use Rattle.orc_program.specs.Slots.{slot_of}
 use Rattle.orc_program.specs.Meaning.{State, Gap, cell, sub_lane, go_on, write_result, write_results, act, element, row_of}
 use Rattle.orc_program.specs.Checks.{number_in}
@@ -65,6 +65,7 @@ module _ {View : Type 0} (At : View → ℕ → ℕ → Type 0) where
 
   -- the action does what the instruction does, and takes view v to view w
   pub record IsMeant (f : FunctionValue) (patterns : ℕ → Operand) (v w : View) (insn : Insn) (a : Action) : Type 0 where
+    pub near : is_far insn ≡ false
     pub op : a.op ≡ insn.op
     pub prefix : a.prefix ≡ insn.prefix
     pub to : AreWritten f insn.op insn.prefix insn.results.items a.to v w
@@ -319,9 +320,9 @@ module _ (f : FunctionValue) (call : Call) (r : ℕ) (base size : ℕ → ℕ) (
   abbrev WritesGiven : ℕ → Insn → State → Local → List Source → Type 0
   WritesGiven e insn s l ss = Writes f call r e insn s (given numbers.number insn.op l ss).0 (given numbers.number insn.op l ss).1
 
-  reads_all : (e : ℕ) (insn : Insn) (ss : List Source) (V : ℕ → ℕ → Type 0) (mem : Memory) (temps sums : ℕ → ℕ) (l : Local) → AreRead f patterns V insn.op insn.prefix insn.sources.items ss → e < call.n → Cells e 1 mem (λ q. l)
+  reads_all : (e : ℕ) (insn : Insn) (ss : List Source) (V : ℕ → ℕ → Type 0) (mem : Memory) (temps sums : ℕ → ℕ) (l : Local) → is_far insn ≡ false → AreRead f patterns V insn.op insn.prefix insn.sources.items ss → e < call.n → Cells e 1 mem (λ q. l)
       → Carries V temps l → WritesGiven e insn (state mem temps sums) l ss
-  reads_all e insn ss V mem temps sums l is le h c = go insn.sources.items refl ss is
+  reads_all e insn ss V mem temps sums l near is le h c = go insn.sources.items refl ss is
     where
       first : (o : Operand) (s : Source) → IsRead f patterns V (size_of_source insn.op 0) insn.prefix o s
           → Gives f call r e (size_of_source insn.op 0) insn.prefix (state mem temps sums) o (given_by numbers.number (size_of_source insn.op 0) l s)
@@ -334,11 +335,11 @@ module _ (f : FunctionValue) (call : Call) (r : ℕ) (base size : ℕ → ℕ) (
       go : (os : List Operand) → insn.sources.items ≡ os → (ss : List Source) → AreRead f patterns V insn.op insn.prefix os ss → WritesGiven e insn (state mem temps sums) l ss
       go [] are ss is = absurd is
       go (x ∷ []) are [] is = absurd is
-      go (x ∷ []) are (s ∷ []) is = act_one f call r e insn (state mem temps sums) x _ are (first x s is)
+      go (x ∷ []) are (s ∷ []) is = act_one f call r e insn (state mem temps sums) x _ near are (first x s is)
       go (x ∷ []) are (s ∷ t ∷ further) is = absurd is
       go (x ∷ y ∷ []) are [] is = absurd is
       go (x ∷ y ∷ []) are (s ∷ []) is = absurd is
-      go (x ∷ y ∷ []) are (s ∷ t ∷ []) is = act_two f call r e insn (state mem temps sums) x y _ _ are (first x s is.0) (second y t is.1)
+      go (x ∷ y ∷ []) are (s ∷ t ∷ []) is = act_two f call r e insn (state mem temps sums) x y _ _ near are (first x s is.0) (second y t is.1)
       go (x ∷ y ∷ []) are (s ∷ t ∷ u ∷ further) is = absurd is
       go (x ∷ y ∷ z ∷ rest) are ss is = absurd is
 
@@ -365,7 +366,7 @@ module _ (f : FunctionValue) (call : Call) (r : ℕ) (base size : ℕ → ℕ) (
         end = x.end;
         temps = x.temps;
         sums = x.sums;
-        is = reads_all e insn a.sources (At v) mem temps sums l is.sources le h c ∙ x.is;
+        is = reads_all e insn a.sources (At v) mem temps sums l is.near is.sources le h c ∙ x.is;
         lanes = subst (λ v. Cells e 1 x.end (λ q. set_results call.n base size P l a.to v)) value x.lanes;
         others = x.others;
         carries = subst (λ v. Carries (At w) x.temps (set_results call.n base size P l a.to v)) value x.carries;

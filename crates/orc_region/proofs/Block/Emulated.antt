@@ -1,5 +1,5 @@
 -- What emulation does at an instruction on arrays.
-use Rattle.std.proofs.Common.{◌≡◌, ℕ, ◌+◌, ◌*◌, ◌/◌, ◌%◌, ◌^◌, ◌<◌, true, if◌then◌else◌, [], ◌∷◌, length, nat_lt, Option, Some, None, Result, Ok, refl, sym, ap, ◌∙◌, subst, arith}
+use Rattle.std.proofs.Common.{◌≡◌, ℕ, ◌+◌, ◌*◌, ◌/◌, ◌%◌, ◌^◌, ◌<◌, true, if◌then◌else◌, [], ◌∷◌, length, nat_lt, Option, Some, None, Result, Ok, refl, sym, ap, ◌∙◌, subst, arith, false}
 use Rattle.std.proofs.lemmas.Bool.{true≢false}
 use Rattle.std.proofs.lemmas.Bool.Decides.{nat_tests}
 use Rattle.orc_bits.specs.Memory.{Memory, value, fill, store, IsMapped}
@@ -12,7 +12,8 @@ use Rattle.orc_program.specs.declared.program.Operand.{Operand}
 use Rattle.orc_program.specs.declared.program.Operand.TheVariants as operand
 use Rattle.orc_program.specs.declared.program.Insn.{Insn}
 use Rattle.orc_program.specs.declared.call.Call.{Call}
-use Rattle.orc_program.specs.Program.{FunctionValue, var_at, is_array, is_array_kind, same_kind}
+use Rattle.orc_program.specs.Program.{FunctionValue, var_at, is_array, is_array_kind, same_kind, is_far}
+use Rattle.orc_program.proofs.Near.{act_near}
 use Rattle.orc_program.specs.Meaning.{State, Gap, param_at, cell, sub_lane, lanewise, go_on, or_gap, gap_at, read_cell, read_var, read_source, read_sources, write_var, write_result, write_results, act}
 use Rattle.orc_program.specs.Checks.{number_in}
 use Rattle.x86_flow.proofs.Moves.{IsFill, fill_is}
@@ -150,21 +151,19 @@ module _ (f : FunctionValue) (call : Call) (r i : ℕ) where
   Writes insn s a b = act f call r i insn s ≡ write_results f call r i (lanewise insn.op insn.prefix a b) s insn.results.items
 
   -- an instruction with one source
-  pub act_one : (insn : Insn) (s : State) (x : Operand) (g : ℕ → ℕ) → insn.sources.items ≡ x ∷ [] → Gives (size_of_source insn.op 0) insn.prefix s x g → Writes insn s g (λ q. 0)
-  unfolding act
-  act_one insn s x g is a =
+  pub act_one : (insn : Insn) (s : State) (x : Operand) (g : ℕ → ℕ) → is_far insn ≡ false → insn.sources.items ≡ x ∷ [] → Gives (size_of_source insn.op 0) insn.prefix s x g → Writes insn s g (λ q. 0)
+  act_one insn s x g near is a =
       let write : Pair → Result State Gap = λ z. write_results f call r i (lanewise insn.op insn.prefix z.0 z.1) s insn.results.items in
       let none : ℕ → ℕ = λ q. 0 in
-      ap (λ os. go_on (read_sources f call r i insn.op s os) write) is
+      act_near f call r i insn s near ∙ ap (λ os. go_on (read_sources f call r i insn.op s os) write) is
       ∙ ap (λ o. go_on {A = Pair} (go_on o (λ a. Ok (a, none))) write) a.1
       ∙ ap (λ v. write_results f call r i v s insn.results.items) (same_lanewise insn.op insn.prefix a.0 none g none a.2 (λ q l. refl))
 
   -- and one with two
-  pub act_two : (insn : Insn) (s : State) (x y : Operand) (g h : ℕ → ℕ) → insn.sources.items ≡ x ∷ y ∷ [] → Gives (size_of_source insn.op 0) insn.prefix s x g → Gives (size_of_source insn.op 1) insn.prefix s y h → Writes insn s g h
-  unfolding act
-  act_two insn s x y g h is a b =
+  pub act_two : (insn : Insn) (s : State) (x y : Operand) (g h : ℕ → ℕ) → is_far insn ≡ false → insn.sources.items ≡ x ∷ y ∷ [] → Gives (size_of_source insn.op 0) insn.prefix s x g → Gives (size_of_source insn.op 1) insn.prefix s y h → Writes insn s g h
+  act_two insn s x y g h near is a b =
       let write : Pair → Result State Gap = λ z. write_results f call r i (lanewise insn.op insn.prefix z.0 z.1) s insn.results.items in
-      ap (λ os. go_on (read_sources f call r i insn.op s os) write) is
+      act_near f call r i insn s near ∙ ap (λ os. go_on (read_sources f call r i insn.op s os) write) is
       ∙ ap (λ o. go_on {A = Pair} (go_on o (λ a. go_on (read_source f call r i (8 * size_of_source insn.op 1) s y) (λ b. Ok (a, b)))) write) a.1
       ∙ ap (λ o. go_on {A = Pair} (go_on o (λ b. Ok (a.0, b))) write) b.1
       ∙ ap (λ v. write_results f call r i v s insn.results.items) (same_lanewise insn.op insn.prefix a.0 b.0 g h a.2 b.2)

@@ -1,5 +1,5 @@
 -- Good arrays by slots, as calls of code see them, are good arrays by variables, as the language sees them.
-use Rattle.std.proofs.Common.{◌≡◌, ℕ, zero, suc, ◌+◌, ◌*◌, ◌-◌, ◌%◌, ◌^◌, ◌<◌, Bool, true, false, cond, if◌then◌else◌, List, [], ◌∷◌, length, take, get_or, map, refl, sym, ap, ◌∙◌, subst, arith, ◌⊎◌, inl, inr, ⊎_elim}
+use Rattle.std.proofs.Common.{◌≡◌, ℕ, zero, suc, ◌+◌, ◌*◌, ◌-◌, ◌%◌, ◌^◌, ◌<◌, Bool, true, false, cond, if◌then◌else◌, List, [], ◌∷◌, length, take, get_or, map, refl, sym, ap, ◌∙◌, subst, arith, ◌⊎◌, inl, inr, ⊎_elim, ap₂, ◌||◌}
 use Rattle.std.specs.List.{count_by}
 use Rattle.std.specs.Int.{cast_signed, cast_unsigned, w64}
 use Rattle.std.proofs.lemmas.Bool.{cases_eq, true≢false}
@@ -11,12 +11,13 @@ use Rattle.orc_program.specs.declared.program.VarKind.{VarKind}
 use Rattle.orc_program.specs.declared.program.VarKind.TheVariants as kind
 use Rattle.orc_program.specs.declared.call.Call.{Call}
 use Rattle.orc_program.specs.declared.call.Place.{Place}
-use Rattle.orc_program.specs.Program.{FunctionValue, var_at, is_of, same_kind, is_array_kind, count_before, array_number}
+use Rattle.orc_program.specs.Program.{FunctionValue, var_at, is_of, same_kind, is_array_kind, count_before, array_number, has_far}
 use Rattle.orc_program.specs.Meaning.{place_at, no_place}
 use Rattle.orc_program.specs.Slots.{slot_of, slots, size_of_slot, call_of, place_with}
 use Rattle.orc_program.specs.Good.{IsByte, IsSame, GoodArrays, byte_at}
 use Rattle.orc_program.specs.Good.{IsArray as IsArrayVar}
 use Rattle.orc_program.proofs.Apart.{byte_address}
+use Rattle.orc_program.proofs.Near.{has_cell, element_of, none_read}
 use Rattle.orc_frame.specs.Subject.{Subject, IsArray, InArray, VerySame, cell}
 use Rattle.orc_frame.specs.Subject.{Call as Arguments}
 use Rattle.orc_frame.specs.Function.{IsCellByte, subject_of}
@@ -111,7 +112,7 @@ place_found s b k [] (suc i) e = absurd (omega (arith, e))
 place_found s b k (x ∷ xs) zero e = ap (λ x. place_with (b x) (s x)) (let q : x ≡ k = omega (arith, e) in q)
 place_found s b k (x ∷ xs) (suc i) e = place_found s b k xs i e
 
-module _ (f : FunctionValue) (few : Limits f) (args : Arguments) where
+module _ (f : FunctionValue) (few : Limits f) (near : has_far f ≡ false) (args : Arguments) where
   abbrev call : Call
   call = call_of f args.n args.m args.base args.stride args.param
 
@@ -136,13 +137,13 @@ module _ (f : FunctionValue) (few : Limits f) (args : Arguments) where
     pub in_slot : (p r i j : ℕ) → IsByte f call p r i j → InArray (subject_of f) args (slot_of f.vars p) (byte_at f call p r i j)
     in_slot p r i j h =
         let s = slot_at p h.array in
-        (r, h.row, i, h.element, j, subst (λ z. j < z) (sym s.size) h.inside, byte_is p r i j h.array)
+        (r, h.row, i, element_of f call near p i h.element, j, subst (λ z. j < z) (sym s.size) h.inside, byte_is p r i j h.array)
 
     -- and the other way
     pub of_variable : (p a : ℕ) → IsArrayVar f p → (w : InArray (subject_of f) args (slot_of f.vars p) a) → IsByte f call p w.0 w.2 w.4 × (a ≡ byte_at f call p w.0 w.2 w.4)
     of_variable p a h w =
         let s = slot_at p h in
-        (record { array = h; row = w.1; element = w.3; inside = subst (λ z. w.4 < z) s.size w.5 }, w.6 ∙ sym (byte_is p w.0 w.2 w.4 h))
+        (record { array = h; row = w.1; element = has_cell f call near p w.2 w.3; inside = subst (λ z. w.4 < z) s.size w.5 }, w.6 ∙ sym (byte_is p w.0 w.2 w.4 h))
 
     -- a byte of a cell of a slot is one of a cell of a variable
     pub cells_by_slots : (a : ℕ) → InCells (subject_of f) args a → IsCellByte f call a
@@ -167,6 +168,7 @@ module _ (f : FunctionValue) (few : Limits f) (args : Arguments) where
       size = sym (slot_at p hp).size ∙ v.size ∙ (slot_at q hq).size;
       base = (slot_at p hp).base ∙ v.base ∙ sym (slot_at q hq).base;
       stride = λ two. ap (λ (x : Place). x.stride) (place_is p hp) ∙ ap (cast_signed w64) (v.stride two) ∙ sym (ap (λ (x : Place). x.stride) (place_is q hq));
+      near = λ d. ap₂ (λ a b. a || b) (none_read f near p) (none_read f near q);
     }
 
     pub good_by_variables : (mem : Memory) → GoodSlots (subject_of f) args mem → GoodArrays f call mem

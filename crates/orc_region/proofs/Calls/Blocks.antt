@@ -5,7 +5,7 @@ use Rattle.std.proofs.Math.Nat.{add-mul}
 use Rattle.orc_bits.specs.Memory.{Memory}
 use Rattle.orc_ops.specs.declared.target.Target.{Target as CodeTarget}
 use Rattle.orc_program.specs.declared.program.VarKind.TheVariants as kind
-use Rattle.orc_program.specs.Program.{FunctionValue, count_of}
+use Rattle.orc_program.specs.Program.{FunctionValue, count_of, has_far}
 use Rattle.orc_program.specs.Kept.{is_function}
 use Rattle.orc_program.specs.Meaning.{State, row_of}
 use Rattle.orc_program.specs.Need.{cost_for}
@@ -43,8 +43,8 @@ use Rattle.orc_region.proofs.Calls.Wide.{by_pointer, part_wide}
 use Rattle.orc_region.proofs.Calls.Doing.{OnWay, doing}
 
 -- what is known of the arrays of a function
-pub arrays_known : (f : FunctionValue) → is_function f ≡ true → Arrays f
-arrays_known f is = record { few = limits f is; small = slot_size f is; some = some_size f is }
+pub arrays_known : (f : FunctionValue) → is_function f ≡ true → has_far f ≡ false → Arrays f
+arrays_known f is near = record { few = limits f is; near = near; small = slot_size f is; some = some_size f is }
 
 -- a pointer, by the words of the call and by the row's base
 pub from_row : (b x : ℕ) → (b + x + 0) % 2 ^ 64 ≡ (b % 2 ^ 64 + x) % 2 ^ 64
@@ -66,7 +66,7 @@ words_frame rsp a w = (omega (arith, w.0), omega (arith, w.1))
 module _ (target : CodeTarget) (f : FunctionValue) (is : is_function f ≡ true) (at : List ℕ) (places : GoodPlaces (steps_of f) at) (count : ℕ) (is_count : IsCount f count) (aligned stored : Bool)
     (asked : stored ≡ true → IsDest f 0 × (count * size_of_slot f.vars 0 ≡ 16) × (aligned ≡ true)) (given : aligned ≡ true → count * size_of_slot f.vars 0 ≡ 16 → IsDest f 0 → stored ≡ true) (list : List Ins) (x : IsBlock f target at count stored list) where
   abbrev known : Arrays f
-  known = arrays_known f is
+  known = arrays_known f is is_count.near
 
   abbrev fits : ℕ → ℕ
   fits = size_of_slot f.vars

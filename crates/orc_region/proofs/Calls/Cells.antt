@@ -5,7 +5,7 @@ use Rattle.orc_bits.specs.Memory.{IsMapped}
 use Rattle.orc_bits.proofs.Memories.{value_small}
 use Rattle.orc_program.specs.declared.program.VarKind.TheVariants as kind
 use Rattle.orc_program.specs.declared.call.Call.{Call}
-use Rattle.orc_program.specs.Program.{FunctionValue, var_at, count_of}
+use Rattle.orc_program.specs.Program.{FunctionValue, var_at, count_of, has_far}
 use Rattle.orc_program.specs.Slots.{slot_of, size_of_slot, call_of}
 use Rattle.orc_program.specs.Meaning.{cell}
 use Rattle.orc_program.specs.Good.{IsArray}
@@ -56,6 +56,7 @@ slot_or_not dests sources k = ⊎_elim (λ l. inl (inl l)) (λ g. source g (case
 -- what is known of a function's arrays
 pub record Arrays (f : FunctionValue) : Type 0 where
   pub few : Limits f
+  pub near : has_far f ≡ false
   pub small : (k : ℕ) → size_of_slot f.vars k ≤ 8
   pub some : (p : ℕ) → p < length f.vars → 0 < (var_at f.vars p).size
 
@@ -88,7 +89,7 @@ module _ (f : FunctionValue) (known : Arrays f) (code : Placed) (s : Point) (arg
 
   -- its arrays by slots
   pub arrays : GoodSlots (subject_of f) args s.core.memory
-  arrays = good_by_slots f known.few args stride_small s.core.memory good.arrays
+  arrays = good_by_slots f known.few known.near args stride_small s.core.memory good.arrays
 
   pub mapped : (a : ℕ) → IsCellByte f call a → IsMapped s.core.memory a
   mapped a w = subst (IsMapped s.core.memory) (sym w.here) (good.arrays.mapped w.place w.row w.element w.byte w.cell)
@@ -160,14 +161,14 @@ module _ (f : FunctionValue) (known : Arrays f) (code : Placed) (s : Point) (arg
         let k = slot_of f.vars p in
         let s = slot_at p h in
         no_byte _
-        ∙ byte_is f known.few args stride_small p r i 0 h
+        ∙ byte_is f known.few known.near args stride_small p r i 0 h
         ∙ sym (from_base (args.base k + r * args.stride k) (i * size k) 0)
         ∙ at_cell k s.slot i l 0 (subst (λ n. 0 < n) (sym s.size) (known.some p h.0))
         ∙ (let q : row_base r k + i * size k + 0 ≡ row_base r k + i * size k = omega arith in q)
 
     -- each is a cell of the call, apart from its other parts
     pub cell_cells : (k : ℕ) → P k → (i : ℕ) → i < args.n → (j : ℕ) → j < size k → IsCellByte f call (row_base r k + i * size k + j)
-    cell_cells k h i l j lj = cells_by_slots f known.few args stride_small (row_base r k + i * size k + j) (k, h, cell_in k h i l j lj)
+    cell_cells k h i l j lj = cells_by_slots f known.few known.near args stride_small (row_base r k + i * size k + j) (k, h, cell_in k h i l j lj)
 
     -- the addresses of the row's cells, and of those of dests
     abbrev pub InRowOf : (ℕ → Type 0) → ℕ → Type 0
@@ -203,7 +204,7 @@ module _ (f : FunctionValue) (known : Arrays f) (code : Placed) (s : Point) (arg
 
   -- a dest's cell is one of the call
   pub dest_cell : (a : ℕ) → InDests (subject_of f) args a → IsCellByte f call a
-  dest_cell a w = cells_by_slots f known.few args stride_small a (w.0, inl w.1, w.2)
+  dest_cell a w = cells_by_slots f known.few known.near args stride_small a (w.0, inl w.1, w.2)
 
   -- the frame lies low
   pub stack_room : lowered s.core + (frame_size + 8) ≤ 2 ^ 47

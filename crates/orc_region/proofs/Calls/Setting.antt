@@ -98,12 +98,12 @@ module _ (f : FunctionValue) (is : is_function f ≡ true) (known : Arrays f) (c
       };
       decided = decided f known code s args back good r row;
       slots = λ k h. h;
-      known = all_known f at meant args.n base Slot has known.few.dests target is stand count actions are;
+      known = all_known f at meant args.n base Slot has known.few.dests target is known.near stand count actions are;
       taken = all_taken target (seats_of f at) count (steps_of f) actions are;
       few_dests = known.few.dests;
       few_sources = known.few.sources;
       few = (arrays f known code s args back good).few;
-      emulates = reaches f meant r base size Slot (separate f known code s args back good r row) (low f known code s args back good r row) has cells (numbers at) (number_of f) (λ j. refl) (StandsIn at) actions ([], steps_of f) (nothing_stands at (steps_of f)) (all_meant target f is at stand count actions are) e;
+      emulates = reaches f meant r base size Slot (separate f known code s args back good r row) (low f known code s args back good r row) has cells (numbers at) (number_of f) (λ j. refl) (StandsIn at) actions ([], steps_of f) (nothing_stands at (steps_of f)) (all_meant target f is known.near at stand count actions are) e;
       apart = apart;
       changed = changed_frame at;
     }

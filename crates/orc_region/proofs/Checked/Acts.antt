@@ -9,9 +9,10 @@ use Rattle.orc_program.specs.declared.program.Operand.{Operand}
 use Rattle.orc_program.specs.declared.program.Operand.TheVariants as operand
 use Rattle.orc_program.specs.declared.program.Insn.{Insn}
 use Rattle.orc_program.specs.declared.program.Pattern.{Pattern}
-use Rattle.orc_program.specs.Program.{FunctionValue, var_at, same_kind, is_of, temps_among, is_temp, count_before}
+use Rattle.orc_program.specs.Program.{FunctionValue, var_at, same_kind, is_of, temps_among, is_temp, count_before, is_far, has_far}
+use Rattle.orc_program.proofs.Near.{near_op, near_parts}
 use Rattle.orc_program.specs.Checks.{number_in, way_of, uses_from, patterns_of, source_fault, sources_fault, result_fault, results_fault, insn_fault}
-use Rattle.orc_program.specs.Kept.{is_function, all_pass, is_shaped, is_in_range, has_no_fault, result_count, source_count}
+use Rattle.orc_program.specs.Kept.{is_function, all_pass, is_shaped, is_in_range, has_no_fault, result_count, source_count, count_sizes}
 use Rattle.orc_program.specs.Need.{is_in, made_by, read_by, places, registers, spills}
 use Rattle.orc_program.proofs.Sizes.{both, kept_of}
 use Rattle.x86_ins.specs.Way.{Each}
@@ -30,7 +31,7 @@ use Rattle.orc_region.proofs.Block.Emulated.{IsTemp}
 use Rattle.orc_region.proofs.Block.Elements.{Follows}
 use Rattle.orc_region.proofs.Checked.Passing.{none_left, Checked, checked}
 use Rattle.orc_region.proofs.Checked.Building.{Shape, shape_of}
-use Rattle.orc_region.proofs.Checked.Sized.{some_sizes, has_sizes, HasPrefix, prefix_ok, sum_ok}
+use Rattle.orc_region.proofs.Checked.Sized.{some_sizes, has_sizes, HasPrefix, prefix_ok, sum_ok, near_count}
 use Rattle.orc_program.proofs.KnownPatterns.{Has, used, has_uses, first_use, second_use}
 use Rattle.orc_region.proofs.Checked.Direct.{IsSourced, IsTargeted, sourced, to_of, targeted, temp_targeted}
 
@@ -93,6 +94,7 @@ pub record IsPlanned (f : FunctionValue) (at temps : List ℕ) (insn : Insn) (re
   pub clear : Each (IsClear (map (target_of at) (result_items f.vars (length temps) insn.results.items))) (map (source_of (seats_of f at)) (source_items f.vars (patterns_in f) temps insn.op 0 insn.sources.items))
   pub apart : first_register (map (target_of at) (result_items f.vars (length temps) insn.results.items)) ≢ second_register (map (target_of at) (result_items f.vars (length temps) insn.results.items))
   pub prefix : HasPrefix insn.op insn.prefix
+  pub near : is_far insn ≡ false
 
 abbrev pub ArePlanned : FunctionValue → List ℕ → List ℕ → List Insn → Type 0
 ArePlanned f at temps [] = Unit {0}
@@ -455,12 +457,15 @@ module _ (f : FunctionValue) (at temps : List ℕ) (insn : Insn) (rest : List In
         subst (λ is. Has (patterns_with is) (used insn.op 1 m)) (sym whole)
         (has_uses f.vars earlier insn rest (used insn.op 1 m) (subst (λ os. Has (uses os) (used insn.op 1 m)) (sym are) (second_use f.vars insn.op x y m e)))
 
-    sources_good : (ts : List Target) → ((x : ℕ) → IsReadHere x → IsClear ts (FromPlace (last_place x))) → (os : List Operand) → insn.sources.items ≡ os → length os ≡ source_count insn.op → list_all (is_in_range f.vars) os ≡ true
+    sources_good : is_far insn ≡ false → (ts : List Target) → ((x : ℕ) → IsReadHere x → IsClear ts (FromPlace (last_place x))) → (os : List Operand) → insn.sources.items ≡ os → length os ≡ source_count insn.op → list_all (is_in_range f.vars) os ≡ true
         → has_no_fault (sources_fault f.vars earlier insn.op insn.prefix 0 os) ≡ true → AreGood ts os (map (source_of (seats_of f at)) (source_items f.vars (patterns_in f) temps insn.op 0 os))
-    sources_good ts free os are l r h = go os are l r h (some_sizes (size_of_source insn.op 0) (size_of_source insn.op 1) (λ e. omega (arith, e, (has_sizes insn.op).source)))
+    sources_good near ts free os are l r h = go os are (l ∙ near_count insn.op (near_op insn near)) r h (some_sizes (size_of_source insn.op 0) (size_of_source insn.op 1) (λ e. omega (arith, e, (has_sizes insn.op).source)))
       where
-        go : (os : List Operand) → insn.sources.items ≡ os → length os ≡ source_count insn.op → list_all (is_in_range f.vars) os ≡ true → has_no_fault (sources_fault f.vars earlier insn.op insn.prefix 0 os) ≡ true
-            → (source_count insn.op ≡ 1) × (size_of_source insn.op 1 ≡ 0) ⊎ (source_count insn.op ≡ 2) × (size_of_source insn.op 1 ≢ 0) → AreGood ts os (map (source_of (seats_of f at)) (source_items f.vars (patterns_in f) temps insn.op 0 os))
+        abbrev count : ℕ
+        count = count_sizes (size_of_source insn.op 0) (size_of_source insn.op 1)
+
+        go : (os : List Operand) → insn.sources.items ≡ os → length os ≡ count → list_all (is_in_range f.vars) os ≡ true → has_no_fault (sources_fault f.vars earlier insn.op insn.prefix 0 os) ≡ true
+            → (count ≡ 1) × (size_of_source insn.op 1 ≡ 0) ⊎ (count ≡ 2) × (size_of_source insn.op 1 ≢ 0) → AreGood ts os (map (source_of (seats_of f at)) (source_items f.vars (patterns_in f) temps insn.op 0 os))
         go [] are l r h c = absurd (⊎_elim (λ x. omega (arith, l, x.0)) (λ x. omega (arith, l, x.0)) c)
         go (x ∷ []) are l r h c =
             let one = none_left (source_fault f.vars earlier insn.op insn.prefix 0 x) None h in
@@ -484,10 +489,10 @@ module _ (f : FunctionValue) (at temps : List ℕ) (insn : Insn) (rest : List In
             }
         go (x ∷ y ∷ z ∷ more) are l r h c = absurd (⊎_elim (λ x. omega (arith, l, x.0)) (λ x. omega (arith, l, x.0)) c)
 
-    planned : Shape f.vars insn → Checked f.vars earlier insn → IsPlanned f at temps insn rest
-    planned s c =
+    planned : is_far insn ≡ false → Shape f.vars insn → Checked f.vars earlier insn → IsPlanned f at temps insn rest
+    planned near s c =
         let made = results_made insn.results.items refl s.results s.inside c.results in
-        let good = sources_good (map (target_of at) (result_items f.vars (length temps) insn.results.items)) made.free insn.sources.items refl s.sources s.inside' c.sources in
+        let good = sources_good near (map (target_of at) (result_items f.vars (length temps) insn.results.items)) made.free insn.sources.items refl s.sources s.inside' c.sources in
         record {
           sources = good.sources;
           to = made.to;
@@ -495,18 +500,20 @@ module _ (f : FunctionValue) (at temps : List ℕ) (insn : Insn) (rest : List In
           clear = good.clear;
           apart = made.apart;
           prefix = prefix_ok insn.op insn.prefix c.prefix;
+          near = near;
         }
 
 -- ---- each instruction of a function
 
-all_planned : (f : FunctionValue) (at temps : List ℕ) (earlier insns : List Insn) → f.insns ≡ earlier ++ insns → all_pass f.vars earlier insns ≡ true → AllStand f.vars (patterns_in f) at temps insns → IsPaid f at → ArePlanned f at temps insns
-all_planned f at temps earlier [] whole h stand paid = tt
-all_planned f at temps earlier (insn ∷ insns) whole h stand paid =
+all_planned : (f : FunctionValue) (at temps : List ℕ) (earlier insns : List Insn) → f.insns ≡ earlier ++ insns → list_any is_far insns ≡ false → all_pass f.vars earlier insns ≡ true → AllStand f.vars (patterns_in f) at temps insns → IsPaid f at → ArePlanned f at temps insns
+all_planned f at temps earlier [] whole near h stand paid = tt
+all_planned f at temps earlier (insn ∷ insns) whole near h stand paid =
+    let n = near_parts insn insns near in
     let a = both (is_shaped f.vars insn) (has_no_fault (insn_fault f.vars earlier insn) && all_pass f.vars (earlier ++ insn ∷ []) insns) h in
     let b = both (has_no_fault (insn_fault f.vars earlier insn)) (all_pass f.vars (earlier ++ insn ∷ []) insns) a.1 in (
-      planned f at temps insn insns stand.0 paid earlier whole (shape_of f.vars insn a.0) (checked f.vars earlier insn b.0),
-      all_planned f at (temps ++ made_by f.vars insn) (earlier ++ insn ∷ []) insns (whole ∙ sym (append_assoc earlier (insn ∷ []) insns)) b.1 stand.1 paid,
+      planned f at temps insn insns stand.0 paid earlier whole n.0 (shape_of f.vars insn a.0) (checked f.vars earlier insn b.0),
+      all_planned f at (temps ++ made_by f.vars insn) (earlier ++ insn ∷ []) insns (whole ∙ sym (append_assoc earlier (insn ∷ []) insns)) n.1 b.1 stand.1 paid,
     )
 
-pub are_planned : (f : FunctionValue) → is_function f ≡ true → (at : List ℕ) → AllPlaced f at → ArePlanned f at [] f.insns
-are_planned f h at placed = all_planned f at [] [] f.insns refl (kept_of f h).insns placed.stand placed.paid
+pub are_planned : (f : FunctionValue) → is_function f ≡ true → has_far f ≡ false → (at : List ℕ) → AllPlaced f at → ArePlanned f at [] f.insns
+are_planned f h near at placed = all_planned f at [] [] f.insns refl near (kept_of f h).insns placed.stand placed.paid

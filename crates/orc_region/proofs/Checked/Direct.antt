@@ -77,6 +77,7 @@ not_shift o position k s h e = go o k s (subst (λ i. has_no_fault (source_kind_
     go opkind.LoadParam k s h = refl
     go opkind.Store k s h = refl
     go opkind.Sum k s h = refl
+    go opkind.Far k s h = refl
 
 -- an accumulator is no source
 no_accumulator : (o : Kind) (position : ℕ) → has_no_fault (source_kind_fault o position (Some kind.Accumulator)) ≡ true → ⊥
@@ -85,6 +86,11 @@ no_accumulator opkind.Load position h = true≢false (sym h)
 no_accumulator opkind.LoadParam position h = true≢false (sym h)
 no_accumulator opkind.Store position h = true≢false (sym h)
 no_accumulator opkind.Sum position h = true≢false (sym h)
+no_accumulator opkind.Far position h = go (position == 0) h
+  where
+    go : (b : Bool) → has_no_fault (if b then check (not (is_kind kind.Source (Some kind.Accumulator))) fault.NotArray else check (not (is_scalar (Some kind.Accumulator))) fault.NotScalar) ≡ true → ⊥
+    go true h = true≢false (sym h)
+    go false h = true≢false (sym h)
 no_accumulator opkind.Shift position h = go (position == 1) h
   where
     go : (b : Bool) → has_no_fault (if b then check (not (is_scalar (Some kind.Accumulator))) fault.NotScalar else check (is_kind kind.Accumulator (Some kind.Accumulator)) fault.NotReadable) ≡ true → ⊥
@@ -163,6 +169,7 @@ write_kind opkind.Load kind.Accumulator d h = absurd (true≢false (sym h))
 write_kind opkind.LoadParam kind.Accumulator d h = absurd (true≢false (sym h))
 write_kind opkind.Store kind.Accumulator d h = absurd (true≢false (sym h))
 write_kind opkind.Shift kind.Accumulator d h = absurd (true≢false (sym h))
+write_kind opkind.Far kind.Accumulator d h = absurd (true≢false (sym h))
 write_kind o kind.Source d h = absurd (no_source o h)
   where
     no_source : (o : Kind) → has_no_fault (result_kind_fault o (Some kind.Source)) ≡ true → ⊥
@@ -192,6 +199,7 @@ no_temp_sum opkind.Load h = refl
 no_temp_sum opkind.LoadParam h = refl
 no_temp_sum opkind.Store h = refl
 no_temp_sum opkind.Shift h = refl
+no_temp_sum opkind.Far h = refl
 
 module _ (f : FunctionValue) (at : List ℕ) (op : Op) (prefix position : ℕ) where
   abbrev Targeted : Operand → Target → Type 0

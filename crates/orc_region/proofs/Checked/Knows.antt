@@ -14,7 +14,7 @@ use Rattle.orc_program.specs.declared.program.VarKind.{VarKind}
 use Rattle.orc_program.specs.declared.program.VarKind.TheVariants as kind
 use Rattle.orc_program.specs.declared.program.Insn.{Insn}
 use Rattle.orc_program.specs.declared.call.Call.{Call}
-use Rattle.orc_program.specs.Program.{FunctionValue, var_at, same_kind, is_array_kind, count_of, count_before, places_of}
+use Rattle.orc_program.specs.Program.{FunctionValue, var_at, same_kind, is_array_kind, count_of, count_before, places_of, has_far}
 use Rattle.orc_program.specs.Slots.{slot_of, size_of_slot}
 use Rattle.orc_program.specs.Checks.{way_of}
 use Rattle.orc_program.specs.Need.{made_by, is_array_operand, source_cost, spills, result_cost, insn_cost, cost_for}
@@ -132,6 +132,7 @@ module _ (f : FunctionValue) (at : List ℕ) where
   meant_one : {target : CodeTarget} (count : ℕ) (temps : List ℕ) (insn : Insn) (rest : List Insn) (a : Action) → IsPlanned f at temps insn rest → IsAction target (seats_of f at) count (step_at f temps insn) a
       → IsMeant (StandsIn at) f (number_of f) (temps, steps_from f temps (insn ∷ rest)) (temps ++ made_by f.vars insn, steps_from f (temps ++ made_by f.vars insn) rest) insn a
   meant_one count temps insn rest a d is = record {
+    near = d.near;
     op = is.op;
     prefix = is.prefix;
     to = subst
@@ -150,10 +151,10 @@ module _ (f : FunctionValue) (at : List ℕ) where
       ((temps ++ made_by f.vars insn, steps_from f (temps ++ made_by f.vars insn) insns), meant_one count temps insn insns a d.0 is.0.0, meant_from target count (temps ++ made_by f.vars insn) insns rest d.1 is.1)
 
 -- a function's actions do what its instructions do, from the view before the first one, in which nothing stands (`nothing_stands`)
-pub all_meant : (target : CodeTarget) (f : FunctionValue) → is_function f ≡ true → (at : List ℕ) → AllPlaced f at → (count : ℕ) (actions : List Action) → AreActions target (seats_of f at) count (steps_of f) actions
+pub all_meant : (target : CodeTarget) (f : FunctionValue) → is_function f ≡ true → has_far f ≡ false → (at : List ℕ) → AllPlaced f at → (count : ℕ) (actions : List Action) → AreActions target (seats_of f at) count (steps_of f) actions
     → AreMeant (StandsIn at) f (number_of f) ([], steps_of f) f.insns actions
 unfolding steps_of
-all_meant target f h at stand count actions is = meant_from f at target count [] f.insns actions (are_planned f h at stand) is
+all_meant target f h near at stand count actions is = meant_from f at target count [] f.insns actions (are_planned f h near at stand) is
 
 -- ---- what a turn needs
 
@@ -355,9 +356,9 @@ module _ (f : FunctionValue) (at : List ℕ) (call : Call) (n : ℕ) (base : ℕ
   known_from target count live temps (insn ∷ insns) (a ∷ rest) sizes d is =
       (known_one count live temps insn insns a sizes d.0 is.0.0, known_from target count (live_act live a) (temps ++ made_by f.vars insn) insns rest (sizes_on count live temps insn insns a sizes d.0 is.0.0) d.1 is.1)
 
-  pub all_known : (target : CodeTarget) → is_function f ≡ true → AllPlaced f at → (count : ℕ) (actions : List Action) → AreActions target (seats_of f at) count (steps_of f) actions → AllKnown n base (size_of_slot f.vars) P Of no_values actions
+  pub all_known : (target : CodeTarget) → is_function f ≡ true → has_far f ≡ false → AllPlaced f at → (count : ℕ) (actions : List Action) → AreActions target (seats_of f at) count (steps_of f) actions → AllKnown n base (size_of_slot f.vars) P Of no_values actions
   unfolding steps_of
-  all_known target h stand count actions is = known_from target count no_values [] f.insns actions (λ x p s. absurd (nothing_stands at (steps_from f [] f.insns) x p s)) (are_planned f h at stand) is
+  all_known target h near stand count actions is = known_from target count no_values [] f.insns actions (λ x p s. absurd (nothing_stands at (steps_from f [] f.insns) x p s)) (are_planned f h near at stand) is
 
 -- ---- what the code needs
 
@@ -617,20 +618,20 @@ module _ (f : FunctionValue) (h : is_function f ≡ true) (at : List ℕ) (count
 module _ (f : FunctionValue) (h : is_function f ≡ true) (at : List ℕ) (stand : AllPlaced f at) (count : ℕ) (is_count : IsCount f count) where
   pub all_movable : (target : CodeTarget) (actions : List Action) → AreActions target (seats_of f at) count (steps_of f) actions → Each (IsMovable count (size_of_slot f.vars)) actions
   unfolding steps_of
-  all_movable target actions is = movable_from f h at count is_count target [] f.insns actions (are_planned f h at stand) is
+  all_movable target actions is = movable_from f h at count is_count target [] f.insns actions (are_planned f h is_count.near at stand) is
 
   pub all_fit : (target : CodeTarget) (actions : List Action) → AreActions target (seats_of f at) count (steps_of f) actions → Each (IsFit count (size_of_slot f.vars)) actions
   unfolding steps_of
-  all_fit target actions is = fit_from f h at count is_count target [] f.insns actions (are_planned f h at stand) is_count.operands is
+  all_fit target actions is = fit_from f h at count is_count target [] f.insns actions (are_planned f h is_count.near at stand) is_count.operands is
 
   pub weights_within : (target : CodeTarget) (actions : List Action) → AreActions target (seats_of f at) count (steps_of f) actions → weights actions ≤ cost_for f target
   unfolding steps_of
-  weights_within target actions is = weights_from f h at count is_count target [] f.insns actions (are_planned f h at stand) is
+  weights_within target actions is = weights_from f h at count is_count target [] f.insns actions (are_planned f h is_count.near at stand) is
 
   pub all_ready : (k : ℕ) (d : Step) → k < length (steps_of f) → IsReady (layout_of f) (seats_of f at) (slice_index (sizes_of f)) count (get_or (steps_of f) k d)
   unfolding steps_of
-  all_ready k d l = ready_from f h at count is_count [] f.insns (are_planned f h at stand) is_count.operands k d l
+  all_ready k d l = ready_from f h at count is_count [] f.insns (are_planned f h is_count.near at stand) is_count.operands k d l
 
   pub all_same : (target : CodeTarget) (actions : List Action) → AreActions target (seats_of f at) count (steps_of f) actions → Each (SameFor (slice_index (sizes_of f)) (size_of_slot f.vars)) actions
   unfolding steps_of
-  all_same target actions is = same_from f h at count is_count target [] f.insns actions (are_planned f h at stand) is
+  all_same target actions is = same_from f h at count is_count target [] f.insns actions (are_planned f h is_count.near at stand) is

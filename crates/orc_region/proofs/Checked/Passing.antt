@@ -52,6 +52,7 @@ no_sum ops.Load k a h = refl
 no_sum ops.LoadParam k a h = refl
 no_sum ops.Store k a h = refl
 no_sum ops.Shift k a h = refl
+no_sum ops.Far k a h = refl
 
 -- what a function's checks say of an instruction
 pub record Checked (vars : List Var) (earlier : List Insn) (insn : Insn) : Type 0 where

@@ -12,7 +12,7 @@ use Rattle.orc_program.specs.declared.program.Var.{Var}
 use Rattle.orc_program.specs.declared.program.Insn.{Insn}
 use Rattle.orc_program.specs.declared.program.VarKind.{VarKind}
 use Rattle.orc_program.specs.declared.program.VarKind.TheVariants as kind
-use Rattle.orc_program.specs.Program.{FunctionValue, var_at, no_var, is_array, is_array_kind, is_of, same_kind}
+use Rattle.orc_program.specs.Program.{FunctionValue, var_at, no_var, is_array, is_array_kind, is_of, same_kind, has_far}
 use Rattle.orc_program.specs.Checks.{insn_fault, operand_sizes}
 use Rattle.orc_program.specs.Kept.{is_function, all_pass, is_shaped, has_no_fault}
 use Rattle.orc_program.specs.Need.{largest, lanes}
@@ -35,6 +35,7 @@ IsPower count = (count ≡ 1) ⊎ ((count ≡ 2) ⊎ ((count ≡ 4) ⊎ ((count 
 
 -- what is asked of how many elements a turn does at once
 pub record IsCount (f : FunctionValue) (count : ℕ) : Type 0 where
+  pub near : has_far f ≡ false
   pub some : 0 < count
   pub most : count ≤ 16
   pub power : IsPower count
@@ -121,8 +122,9 @@ one_fits f earlier (insn ∷ insns) h =
     let few = (prefix_ok insn.op insn.prefix (checked f.vars earlier insn b.0).prefix).few in
     (omega (arith, few), one_fits f (earlier ++ insn ∷ []) insns b.1)
 
-pub one_count : (f : FunctionValue) → is_function f ≡ true → IsCount f 1
-one_count f h = record {
+pub one_count : (f : FunctionValue) → is_function f ≡ true → has_far f ≡ false → IsCount f 1
+one_count f h near = record {
+  near = near;
   some = omega arith;
   most = omega arith;
   power = inl refl;
@@ -145,14 +147,14 @@ array_declared kind.Param a = absurd (true≢false (sym a))
 array_declared kind.Const a = absurd (true≢false (sym a))
 array_declared kind.Accumulator a = absurd (true≢false (sym a))
 
-some_of : (count : ℕ) → IsPower count → 0 < count
+pub some_of : (count : ℕ) → IsPower count → 0 < count
 some_of count (inl e) = omega (arith, e)
 some_of count (inr (inl e)) = omega (arith, e)
 some_of count (inr (inr (inl e))) = omega (arith, e)
 some_of count (inr (inr (inr (inl e)))) = omega (arith, e)
 some_of count (inr (inr (inr (inr e)))) = omega (arith, e)
 
-most_of : (count : ℕ) → IsPower count → count ≤ 16
+pub most_of : (count : ℕ) → IsPower count → count ≤ 16
 most_of count (inl e) = omega (arith, e)
 most_of count (inr (inl e)) = omega (arith, e)
 most_of count (inr (inr (inl e))) = omega (arith, e)
@@ -168,11 +170,12 @@ all_fit_in count (insn ∷ insns) h = (
 )
 
 -- so many elements, where those of the variables' and of the instructions' sizes fit
-pub several_count : (f : FunctionValue) (count : ℕ) → (count ≡ 2) ⊎ ((count ≡ 4) ⊎ ((count ≡ 8) ⊎ (count ≡ 16)))
+pub several_count : (f : FunctionValue) → has_far f ≡ false → (count : ℕ) → (count ≡ 2) ⊎ ((count ≡ 4) ⊎ ((count ≡ 8) ⊎ (count ≡ 16)))
     → ((p : ℕ) → p < length f.vars → is_of kind.Param (var_at f.vars p) ≡ false → is_of kind.Const (var_at f.vars p) ≡ false → count * (var_at f.vars p).size ≤ 16)
     → ((earlier : List Insn) (insn : Insn) (rest : List Insn) → f.insns ≡ earlier ++ insn ∷ rest → count * (largest (operand_sizes insn.op) * insn.prefix) ≤ 16)
     → IsCount f count
-several_count f count power declared insns = record {
+several_count f near count power declared insns = record {
+  near = near;
   some = some_of count (inr power);
   most = most_of count (inr power);
   power = inr power;
@@ -181,8 +184,8 @@ several_count f count power declared insns = record {
 }
 
 -- the lanes of a function
-pub lanes_count : (f : FunctionValue) → is_function f ≡ true → IsCount f (lanes f)
-lanes_count f h = several_count f (lanes f) (lanes_is f h) (declared_fits f h) (insn_fits f h)
+pub lanes_count : (f : FunctionValue) → is_function f ≡ true → has_far f ≡ false → IsCount f (lanes f)
+lanes_count f h near = several_count f near (lanes f) (lanes_is f h) (declared_fits f h) (insn_fits f h)
 
 -- ---- a share of the lanes
 
@@ -196,6 +199,7 @@ fewer_operands count more few (insn ∷ insns) h =
 
 pub fewer_count : (f : FunctionValue) (count more : ℕ) → IsPower count → count ≤ more → IsCount f more → IsCount f count
 fewer_count f count more power few is = record {
+  near = is.near;
   some = some_of count power;
   most = most_of count power;
   power = power;
@@ -228,6 +232,10 @@ halved lanes count (suc (suc (suc (suc zero)))) (inr (inr (inl p))) e = absurd (
 halved lanes count (suc (suc (suc (suc zero)))) (inr (inr (inr p))) e = (inl (omega (arith, e, p)), omega (arith, e))
 halved lanes count (suc (suc (suc (suc (suc j))))) power e = absurd (too_far lanes count (suc (suc (suc (suc (suc j))))) (most_of lanes (inr power)) (some_of lanes (inr power)) (omega arith) e)
 
+-- a share of the lanes is a power of two
+pub share_power : (f : FunctionValue) → is_function f ≡ true → (count : ℕ) → IsShare (lanes f) count → IsPower count × (count ≤ lanes f)
+share_power f h count share = halved (lanes f) count share.0 (lanes_is f h) share.1
+
 -- so many elements as a share of the lanes are a count
-pub share_count : (f : FunctionValue) → is_function f ≡ true → (count : ℕ) → IsShare (lanes f) count → IsCount f count
-share_count f h count share = (let x = halved (lanes f) count share.0 (lanes_is f h) share.1 in fewer_count f count (lanes f) x.0 x.1 (lanes_count f h))
+pub share_count : (f : FunctionValue) → is_function f ≡ true → has_far f ≡ false → (count : ℕ) → IsShare (lanes f) count → IsCount f count
+share_count f h near count share = (let x = share_power f h count share in fewer_count f count (lanes f) x.0 x.1 (lanes_count f h near))

@@ -1,5 +1,5 @@
 -- The sizes of opcodes' operands.
-use Rattle.std.proofs.Common.{◌≡◌, ◌≢◌, ℕ, ◌*◌, ◌/◌, ◌<◌, ◌≤◌, ◌==◌, ◌&&◌, ◌||◌, not, max, nat_lt, nat_le, Bool, true, false, if◌then◌else◌, refl, sym, ap, ◌∙◌, subst, arith, ◌⊎◌, inl, inr, ⊎_elim}
+use Rattle.std.proofs.Common.{◌≡◌, ◌≢◌, ℕ, ◌*◌, ◌/◌, ◌<◌, ◌≤◌, ◌==◌, ◌&&◌, ◌||◌, not, max, nat_lt, nat_le, Bool, true, false, if◌then◌else◌, is_some, None, refl, sym, ap, ◌∙◌, subst, arith, ◌⊎◌, inl, inr, ⊎_elim}
 use Rattle.std.specs.List.{list_any}
 use Rattle.std.proofs.lemmas.Bool.{true≢false, cases_lt, eqb-true, ltb-true, ltb-false, leb-true, or_parts}
 use Rattle.orc_bits.proofs.LaneLaws.{eq_false}
@@ -8,8 +8,9 @@ use Rattle.orc_ops.specs.declared.opcode.Op.TheVariants as op
 use Rattle.orc_ops.specs.declared.opcode.Kind.{Kind}
 use Rattle.orc_ops.specs.declared.opcode.Kind.TheVariants as kind
 use Rattle.orc_ops.specs.Table.{row, size_of_result, size_of_source}
-use Rattle.orc_program.specs.Kept.{count_sizes}
-use Rattle.orc_program.specs.Checks.{is_sum_kind, is_shift_kind, is_count, operand_sizes, is_bad_prefix, way_of}
+use Rattle.orc_ops.specs.Far.{far_of}
+use Rattle.orc_program.specs.Kept.{count_sizes, source_count}
+use Rattle.orc_program.specs.Checks.{takes_no_prefix, is_shift_kind, is_count, operand_sizes, is_bad_prefix, way_of}
 use Rattle.orc_program.proofs.Sizes.{both}
 use Rattle.orc_frame.specs.Frame.{period}
 use Rattle.sse_laws.specs.Meets.{is_shift, is_sum, size_beside, widest}
@@ -48,6 +49,16 @@ some_sizes a b ne = go (b == 0) refl
     go true e = inl (first ∙ ap (λ t. if t then 1 else 2) e, eqb-true b 0 e)
     go false e = inr (first ∙ ap (λ t. if t then 1 else 2) e, λ z. true≢false (sym (ap (λ x. x == 0) z) ∙ e))
 
+-- only far loads have a third source
+third_table : (o : Op) → is_some (far_of o) || size_of_source o 2 == 0 ≡ true
+third_table op.Absb = refl
+third_table other = refl
+
+pub near_count : (o : Op) → far_of o ≡ None → source_count o ≡ count_sizes (size_of_source o 0) (size_of_source o 1)
+near_count o e =
+    let none : (size_of_source o 2 == 0) ≡ true = sym (ap (λ f. is_some f || size_of_source o 2 == 0) e) ∙ third_table o in
+    ap (λ b. if b then count_sizes (size_of_source o 0) (size_of_source o 1) else 3) none
+
 -- each opcode has a result and a source
 table : (o : Op) → nat_lt 0 (size_of_result o 0) && nat_lt 0 (size_of_source o 0) ≡ true
 table op.Absb = refl
@@ -68,9 +79,9 @@ same_shift : (k : Kind) → is_shift_kind k ≡ is_shift k
 same_shift kind.Shift = refl
 same_shift other = refl
 
-same_sum_kind : (k : Kind) → is_sum_kind k ≡ is_sum k
-same_sum_kind kind.Sum = refl
-same_sum_kind other = refl
+sum_alone : (k : Kind) → is_sum k ≡ true → takes_no_prefix k ≡ true
+sum_alone kind.Sum h = refl
+sum_alone other h = absurd (true≢false (sym h))
 
 widest_table : (o : Op) → nat_le (widest o) 8 ≡ true
 widest_table op.Absb = refl
@@ -97,21 +108,21 @@ pub record HasPrefix (o : Op) (prefix : ℕ) : Type 0 where
 pub prefix_ok : (o : Op) (prefix : ℕ) → is_bad_prefix o prefix ≡ false → HasPrefix o prefix
 prefix_ok o prefix h = go (prefix == 1) refl h
   where
-    go : (b : Bool) → (prefix == 1) ≡ b → (not b && (is_sum_kind (row o).kind || list_any (λ size. nat_lt 8 (size * prefix)) (operand_sizes o))) ≡ false → HasPrefix o prefix
+    go : (b : Bool) → (prefix == 1) ≡ b → (not b && (takes_no_prefix (row o).kind || list_any (λ size. nat_lt 8 (size * prefix)) (operand_sizes o))) ≡ false → HasPrefix o prefix
     go true e h =
         let one : prefix ≡ 1 = eqb-true prefix 1 e in
         record { few = subst (λ p. widest o * p ≤ 8) (sym one) (let l : widest o ≤ 8 = leb-true (widest o) 8 (widest_table o) in omega (arith, l)); one = λ s. one }
     go false e h =
-        let a = or_parts (is_sum_kind (row o).kind) _ h in
+        let a = or_parts (takes_no_prefix (row o).kind) _ h in
         let r0 = or_parts (nat_lt 8 (size_of_result o 0 * prefix)) _ a.1 in
         let r1 = or_parts (nat_lt 8 (size_of_result o 1 * prefix)) _ r0.1 in
         let s0 = or_parts (nat_lt 8 (size_of_source o 0 * prefix)) _ r1.1 in
-        let s1 = or_parts (nat_lt 8 ((if is_count o 1 then 0 else size_of_source o 1) * prefix)) false s0.1 in
+        let s1 = or_parts (nat_lt 8 ((if is_count o 1 then 0 else size_of_source o 1) * prefix)) _ s0.1 in
         record {
           few = most_times (max (size_of_result o 0) (size_of_result o 1)) (max (size_of_source o 0) (size_beside o)) prefix
               (most_times (size_of_result o 0) (size_of_result o 1) prefix (ltb-false 8 (size_of_result o 0 * prefix) r0.0) (ltb-false 8 (size_of_result o 1 * prefix) r1.0))
               (most_times (size_of_source o 0) (size_beside o) prefix (ltb-false 8 (size_of_source o 0 * prefix) s0.0) (subst (λ n. n * prefix ≤ 8) (beside_is o) (ltb-false 8 ((if is_count o 1 then 0 else size_of_source o 1) * prefix) s1.0)));
-          one = λ s. absurd (true≢false (sym s ∙ sym (same_sum_kind (row o).kind) ∙ a.0));
+          one = λ s. absurd (true≢false (sym (sum_alone (row o).kind s) ∙ a.0));
         }
 
 -- ---- ways and periods

@@ -55,4 +55,4 @@ module _ (f : FunctionValue) (h : is_function f ≡ true) (at : List ℕ) (good 
     -- the instructions that go by some registers, of which RSP is none, are at most as many as the function's operands that are arrays
     pub block_light : (by : ℕ → Bool) → by 4 ≡ false → weigh (touch_weight by) list ≤ (subject_of f).operands
     block_light by by_stack =
-        omega (arith, ap (weigh (touch_weight by)) x.2, actions_few by by_stack count size (far_by 0 size) (aligned_first aligned) x.0 (fit_actions f h at good count is_count target x.0 x.1), arrays_few target f h at (stand_is f h at good) count x.0 x.1)
+        omega (arith, ap (weigh (touch_weight by)) x.2, actions_few by by_stack count size (far_by 0 size) (aligned_first aligned) x.0 (fit_actions f h at good count is_count target x.0 x.1), arrays_few target f h is_count.near at (stand_is f h at good) count x.0 x.1)

@@ -8,7 +8,7 @@ use Rattle.orc_program.specs.declared.program.Operand.{Operand}
 use Rattle.orc_program.specs.declared.program.VarKind.{VarKind}
 use Rattle.orc_program.specs.declared.program.VarKind.TheVariants as kind
 use Rattle.orc_program.specs.declared.program.Insn.{Insn}
-use Rattle.orc_program.specs.Program.{FunctionValue, var_at, count_of, same_kind, is_array_kind}
+use Rattle.orc_program.specs.Program.{FunctionValue, var_at, count_of, same_kind, is_array_kind, has_far}
 use Rattle.orc_program.specs.Slots.{size_of_slot}
 use Rattle.orc_program.specs.Kept.{is_function}
 use Rattle.orc_program.specs.Need.{made_by, is_array_operand}
@@ -93,13 +93,13 @@ module _ (f : FunctionValue) (at : List ℕ) where
       omega (arith, one_action count temps insn insns a d.0 is.0.0, arrays_from target count (temps ++ made_by f.vars insn) insns rest d.1 is.1, sum_by-cons (array_operands f.vars) insn insns)
 
 -- the actions of a function's steps
-pub arrays_few : (target : CodeTarget) (f : FunctionValue) → is_function f ≡ true → (at : List ℕ) → AllPlaced f at → (count : ℕ) (actions : List Action) → AreActions target (seats_of f at) count (steps_of f) actions → arrays_of actions ≤ (subject_of f).operands
+pub arrays_few : (target : CodeTarget) (f : FunctionValue) → is_function f ≡ true → has_far f ≡ false → (at : List ℕ) → AllPlaced f at → (count : ℕ) (actions : List Action) → AreActions target (seats_of f at) count (steps_of f) actions → arrays_of actions ≤ (subject_of f).operands
 unfolding steps_of
-arrays_few target f h at stand count actions is = arrays_from f at target count [] f.insns actions (are_planned f h at stand) is
+arrays_few target f h near at stand count actions is = arrays_from f at target count [] f.insns actions (are_planned f h near at stand) is
 
 -- ---- turns
 
 -- a turn's instructions that go by some registers, of which RSP is none, are in each block at most as many as the function's operands that are arrays
 module _ (by : ℕ → Bool) (by_stack : by 4 ≡ false) (f : FunctionValue) (h : is_function f ≡ true) (at : List ℕ) (stand : AllPlaced f at) (count : ℕ) (is_count : IsCount f count) where
   pub turn_light : (target : CodeTarget) (aligned : Bool) (b : ℕ) (list : List Ins) → IsTurnOf f target at count aligned b list → weigh (touch_weight by) list ≤ b * (subject_of f).operands
-  turn_light target aligned b list = turn_few by by_stack count (size_of_slot f.vars) (aligned_first aligned) (AreActions target (seats_of f at) count (steps_of f)) (all_fit f h at stand count is_count target) (subject_of f).operands (arrays_few target f h at stand count) (count_of kind.Dest f.vars) (count_of kind.Source f.vars) b list
+  turn_light target aligned b list = turn_few by by_stack count (size_of_slot f.vars) (aligned_first aligned) (AreActions target (seats_of f at) count (steps_of f)) (all_fit f h at stand count is_count target) (subject_of f).operands (arrays_few target f h is_count.near at stand count) (count_of kind.Dest f.vars) (count_of kind.Source f.vars) b list

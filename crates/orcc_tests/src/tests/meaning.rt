@@ -5,7 +5,7 @@ use c_emit::{emit, means_first, means_second, print};
 use c_run::{CEnd, CTree, run_c};
 use orc_bits::Part;
 use orc_emul::{Store, are_low};
-use orc_program::{Call, Place};
+use orc_program::{Call, Place, has_far};
 use orc_text::read;
 use sqlite_items::Items;
 use std::alloc::{AllocError, Global};
@@ -34,14 +34,13 @@ fn the_c_text_of_a_kernel_is_run_and_printed(rt: HostRuntime) -> Result<(), Allo
     means_second();
     let alloc = rt.alloc();
     let program = read(alloc, ADD8.as_bytes()).expect(&rt, "a program");
-    let c = emit(
-        alloc,
-        program
-            .functions
-            .as_slice()
-            .first()
-            .expect(&rt, "a function"),
-    )?;
+    let f = program
+        .functions
+        .as_slice()
+        .first()
+        .expect(&rt, "a function");
+    assert!(rt; !has_far(f));
+    let c = emit(alloc, f)?;
     let mut parts = Items::new(alloc);
     let mut call = Call {
         n: 3,

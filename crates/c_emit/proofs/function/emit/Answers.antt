@@ -14,4 +14,4 @@ pub returns-clause-shape : goal.returns-clause-shape
 returns-clause-shape c = with_tree (HasShape c.args.f.now) c.function_of.result (emitted c.args.f.now) c.function_of.ensures (emitted_shape c.args.f.now)
 
 pub returns-clause-means : goal.returns-clause-means
-returns-clause-means c = with_tree (CAs c.args.f.now) c.function_of.result (emitted c.args.f.now) c.function_of.ensures (emitted_as c.args.f.now (subst (λ (f : FunctionValue). is_function f ≡ true) c.f.view_is c.f.invariant))
+returns-clause-means c = with_tree (CAs c.args.f.now) c.function_of.result (emitted c.args.f.now) c.function_of.ensures (emitted_as c.args.f.now (subst (λ (f : FunctionValue). is_function f ≡ true) c.f.view_is c.f.invariant) c.requires.near)

@@ -1,7 +1,7 @@
 use Rattle.std.proofs.Common.{◌∙◌, ap, map, length, arith}
 use Rattle.orc_program.specs.Program.{FunctionValue, ProgramValue}
 use Rattle.orc_program.specs.Kept.{all_distinct}
-use Rattle.orc_text.specs.Reads.{Reads}
+use Rattle.orcc_top.specs.Texts.{ReadsNear}
 use Rattle.orcc_top.proofs.Entries.{program_kept}
 use Rattle.orcc_top.proofs.Refused.{form_pressure_refuses}
 use Rattle.orcc_top.proofs.assembly.assemble_text.Goals as goal
@@ -14,7 +14,7 @@ bytes_of-requires-clause-distinct c = ap (λ fs. all_distinct (map (λ (f : Func
 
 pub returns-in-Err-Pressure : goal.returns-in-Err-Pressure
 returns-in-Err-Pressure c =
-    let reads : Reads c.args.text.now c.in-Ok.program = rw c.in-Ok.is at c.in_ok-program.ensures in
+    let reads : ReadsNear c.args.text.now c.in-Ok.program = rw c.in-Ok.is at c.in_ok-program.ensures in
     form_pressure_refuses c.args.form c.args.text.now _ c.in-Ok.program c.as_slice.result.now
     (record { line = c.in-Err-Pressure.line; need = c.in-Err-Pressure.need }) c.requires reads
     (c.as_slice.ensures ∙ ap (λ (p : ProgramValue). p.functions) c.program.view_is)

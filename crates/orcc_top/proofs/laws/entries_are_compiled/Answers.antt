@@ -5,9 +5,10 @@ use Rattle.orcc_top.proofs.laws.entries_are_compiled.Goals as goal
 
 pub returns : goal.returns
 returns c f target entry kept allowed e = (
-  record { kept = kept; dests = e.dests; sources = e.sources; params = e.params; accs = e.accs; runs = e.runs; short = allowed.few_code },
+  record { kept = kept; near = e.near; dests = e.dests; sources = e.sources; params = e.params; accs = e.accs; runs = e.runs; short = allowed.few_code },
   λ sizes sized. record {
     kept = kept;
+    near = e.near;
     two_d = e.two_d;
     dests = e.dests;
     sources = e.sources;

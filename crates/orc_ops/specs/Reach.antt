@@ -2,7 +2,7 @@
 use Rattle.std.specs.Prelude.{ℕ}
 use Rattle.orc_ops.specs.declared.far.Far.{Far}
 use Rattle.orc_ops.specs.Far.{far_first, far_second, far_part}
-use Rattle.orc_resample.specs.declared.elements.Reach.{Reach}
+use Rattle.orc_ops.specs.declared.elements.Reach.{Reach}
 
 -- the elements that the table reads for element i, and the share of the second
 abbrev pub reach : Far → ℕ → ℕ → ℕ → Reach

@@ -4,11 +4,11 @@ ghost use Rattle.std.specs.Prelude.{◌≡◌, ◌≤◌, ◌<◌, ◌+◌, ◌-
 ghost use Rattle.std.specs.Int.{int_shr};
 ghost use Rattle.orc_bits.specs.Numbers as numbers;
 ghost use Rattle.orc_ops.specs.Far.{far_size, far_blend, scalar, place, fraction, mixed, mixed_bytes};
-ghost use Rattle.orc_resample.specs.Reach.{reach};
+ghost use Rattle.orc_ops.specs.Reach.{reach};
 
 use crate::elements::Reach;
+use crate::far::Far;
 use orc_bits::signed;
-use orc_ops::Far;
 
 /// The low 32 bits, read as a signed number.
 fn scalar(p: u64) -> i64
@@ -19,28 +19,28 @@ fn scalar(p: u64) -> i64
     signed(p, 32)
 }
 
-/// i * step, exactly: at most 2^62 away from 0.
-fn stretched(i: u32, step: i64) -> i64
-    requires few { i < 2 ^ 31 }
+/// i * step, exactly: at most 2^63 away from 0.
+fn stretched(i: u32, step: i64) -> i128
     requires low { pos 0 ≤ℤ (step +ℤ pos (2 ^ 31)) }
     requires high { step ≤ℤ pos (2 ^ 31 - 1) }
     ensures value { result ≡ pos i *ℤ step }
-    ensures low { pos 0 ≤ℤ (result +ℤ pos (2 ^ 62)) }
-    ensures high { result ≤ℤ pos (2 ^ 62) }
+    ensures low { pos 0 ≤ℤ (result +ℤ pos (2 ^ 63)) }
+    ensures high { result ≤ℤ pos (2 ^ 63) }
 {
-    i as i64 * step
+    i128::from(i) * i128::from(step)
 }
 
-/// p + i * q, exactly: at most 2^62 + 2^31 away from 0.
-fn place(i: u32, p: u64, q: u64) -> i64
-    requires { i < 2 ^ 31 }
-    ensures { result ≡ place i p q }
+/// p + i * q, exactly: at most 2^64 away from 0.
+fn place(i: u32, p: u64, q: u64) -> i128
+    ensures value { result ≡ place i p q }
+    ensures low { pos 0 ≤ℤ (result +ℤ pos (2 ^ 64)) }
+    ensures high { result ≤ℤ pos (2 ^ 64) }
 {
-    scalar(p) + stretched(i, scalar(q))
+    i128::from(scalar(p)) + stretched(i, scalar(q))
 }
 
 /// v / 2^k, rounded towards minus infinity.
-fn shifted(v: i64, k: u32) -> i64
+fn shifted(v: i128, k: u32) -> i128
     requires { k < 64 }
     ensures { result ≡ int_shr v k }
 {
@@ -48,7 +48,7 @@ fn shifted(v: i64, k: u32) -> i64
 }
 
 /// The low 8 bits of an integer.
-fn low_byte(v: i64) -> u8
+fn low_byte(v: i128) -> u8
     ensures { result ≡ numbers.wrap 8 v }
 {
     if v >= 0 {
@@ -60,25 +60,31 @@ fn low_byte(v: i64) -> u8
 
 /// Bits 8 to 15 of a place.
 fn fraction(i: u32, p: u64, q: u64) -> u8
-    requires { i < 2 ^ 31 }
     ensures { result ≡ fraction i p q }
 {
     low_byte(shifted(place(i, p, q), 8))
 }
 
-/// The element before a place.
-fn floor(i: u32, p: u64, q: u64) -> i64
-    requires { i < 2 ^ 31 }
-    ensures value { result ≡ int_shr (place i p q) 16 }
-    ensures high { result ≤ℤ pos (2 ^ 62) }
+/// The same number in 64 bits.
+fn narrow(v: i128) -> i64
+    requires low { pos 0 ≤ℤ (v +ℤ pos (2 ^ 48)) }
+    requires high { v ≤ℤ pos (2 ^ 48) }
+    ensures { result ≡ v }
 {
-    shifted(place(i, p, q), 16)
+    v as i64
 }
 
-/// The elements that a far load reads for element `i`, which is below 2^31, in order. `p` and `q` are its scalars, of which the
+/// The element before a place.
+fn floor(i: u32, p: u64, q: u64) -> i64
+    ensures value { result ≡ int_shr (place i p q) 16 }
+    ensures high { result ≤ℤ pos (2 ^ 48) }
+{
+    narrow(shifted(place(i, p, q), 16))
+}
+
+/// The elements that a far load reads for element `i`, in order. `p` and `q` are its scalars, of which the
 /// low 32 bits count, read as a signed number; `p` is the offset of `Loadoff`.
 pub fn reach(far: Far, i: u32, p: u64, q: u64) -> Reach
-    requires { i < 2 ^ 31 }
     ensures { result ≡ reach far i p q }
 {
     match far {
