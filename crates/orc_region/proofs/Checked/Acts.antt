@@ -1,6 +1,6 @@
 -- An instruction that passes the checks, and its step with good places: what its sources and its results are.
 use Rattle.std.proofs.Common.{◌≡◌, ◌≢◌, ℕ, ◌+◌, ◌<◌, ◌≤◌, ◌==◌, ◌&&◌, ◌||◌, Bool, true, false, if◌then◌else◌, List, [], ◌∷◌, ◌++◌, length, map, slice_index, Some, None, refl, sym, ap, ◌∙◌, subst, arith, ◌⊎◌, inl, inr, ⊎_elim, append_assoc, append-nil, length-append, true≢false}
-use Rattle.std.specs.List.{list_all}
+use Rattle.std.specs.List.{list_all, list_any}
 use Rattle.orc_ops.specs.declared.opcode.Op.{Op}
 use Rattle.orc_ops.specs.Table.{row, size_of_result, size_of_source}
 use Rattle.orc_program.specs.declared.program.VarKind.{VarKind}
@@ -461,11 +461,8 @@ module _ (f : FunctionValue) (at temps : List ℕ) (insn : Insn) (rest : List In
         → has_no_fault (sources_fault f.vars earlier insn.op insn.prefix 0 os) ≡ true → AreGood ts os (map (source_of (seats_of f at)) (source_items f.vars (patterns_in f) temps insn.op 0 os))
     sources_good near ts free os are l r h = go os are (l ∙ near_count insn.op (near_op insn near)) r h (some_sizes (size_of_source insn.op 0) (size_of_source insn.op 1) (λ e. omega (arith, e, (has_sizes insn.op).source)))
       where
-        abbrev count : ℕ
-        count = count_sizes (size_of_source insn.op 0) (size_of_source insn.op 1)
-
-        go : (os : List Operand) → insn.sources.items ≡ os → length os ≡ count → list_all (is_in_range f.vars) os ≡ true → has_no_fault (sources_fault f.vars earlier insn.op insn.prefix 0 os) ≡ true
-            → (count ≡ 1) × (size_of_source insn.op 1 ≡ 0) ⊎ (count ≡ 2) × (size_of_source insn.op 1 ≢ 0) → AreGood ts os (map (source_of (seats_of f at)) (source_items f.vars (patterns_in f) temps insn.op 0 os))
+        go : (os : List Operand) → insn.sources.items ≡ os → length os ≡ count_sizes (size_of_source insn.op 0) (size_of_source insn.op 1) → list_all (is_in_range f.vars) os ≡ true → has_no_fault (sources_fault f.vars earlier insn.op insn.prefix 0 os) ≡ true
+            → (count_sizes (size_of_source insn.op 0) (size_of_source insn.op 1) ≡ 1) × (size_of_source insn.op 1 ≡ 0) ⊎ (count_sizes (size_of_source insn.op 0) (size_of_source insn.op 1) ≡ 2) × (size_of_source insn.op 1 ≢ 0) → AreGood ts os (map (source_of (seats_of f at)) (source_items f.vars (patterns_in f) temps insn.op 0 os))
         go [] are l r h c = absurd (⊎_elim (λ x. omega (arith, l, x.0)) (λ x. omega (arith, l, x.0)) c)
         go (x ∷ []) are l r h c =
             let one = none_left (source_fault f.vars earlier insn.op insn.prefix 0 x) None h in
