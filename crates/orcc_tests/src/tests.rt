@@ -1,6 +1,7 @@
 mod failures;
 mod hostile;
 mod meaning;
+mod opcodes;
 mod stated;
 
 ghost use Rattle.std.specs.Prelude.{◌<◌};
