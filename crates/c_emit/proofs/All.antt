@@ -1,5 +1,5 @@
 -- The expression of a stem means the stem's formula, for each stem at its widths.
-use Rattle.std.proofs.Common.{◌≡◌, ℕ, ◌+◌, ◌-◌, ◌/◌, ◌%◌, ◌^◌, ◌<◌, ◌≤◌, ◌&&◌, ◌==◌, nat_le, true, refl, sym, subst, arith, true≢false}
+use Rattle.std.proofs.Common.{◌≡◌, ℕ, ◌+◌, ◌-◌, ◌*◌, ◌/◌, ◌%◌, ◌^◌, ◌<◌, ◌≤◌, ◌&&◌, ◌==◌, nat_le, cond, true, refl, sym, subst, arith, true≢false}
 use Rattle.std.proofs.lemmas.Bool.Decides.{nat_tests}
 use Rattle.orc_bits.specs.Widths.{IsWidth}
 use Rattle.orc_ops.specs.declared.stem.Stem.{Stem}
@@ -25,9 +25,10 @@ pub record Range (w : ℕ) : Type 0 where
   pub low : 8 ≤ w
   pub high : w ≤ 64
   pub even : w / 2 + w / 2 ≡ w
+  pub bytes : 8 * (w / 8) ≡ w
 
 pub range_of : (w : ℕ) → IsWidth w → Range w
-range_of w h = record { low = grind (arith, h); high = grind (arith, h); even = grind (arith, h) }
+range_of w h = record { low = grind (arith, h); high = grind (arith, h); even = grind (arith, h); bytes = grind (arith, h) }
 
 -- w and t are equal, and at most 32
 one : (w t n : ℕ) (P : ℕ → Type 0) → (w == t) && nat_le w n ≡ true → (w ≤ n → P w) → P t
@@ -42,15 +43,17 @@ sum_value stem.Addus w t a b = a + b
 sum_value stem.Subss w t a b = turn w a + 2 ^ w - turn w b
 sum_value stem.Convsss w t a b = turn w a
 sum_value stem.Div255 w t a b = (a + 128) % 2 ^ 16
+sum_value stem.Divlu w t a b = cond (b % 256 == 0) 255 (a / (b % 256))
 sum_value s w t a b = 0
 
-pub sum_law : {z : Scene} {x y : CExpr} {a b : ℕ} (s : Stem) (w t : ℕ) → Range w → fits s w t ≡ true → has_sum s ≡ true → Gives z x a → Gives z y b → a < 2 ^ w → TakesSecond s w b → Gives z (sum s w t x y) (sum_value s w t a b)
-sum_law {z} {x} {y} {a} {b} stem.Addss w t r e h p q k m = let p0 : 0 < w = (let i = r.low in omega (arith, i)) in one w t 32 (λ t. Gives z (sum stem.Addss w t x y) (sum_value stem.Addss w t a b)) e (λ l. law.addss_sum w p0 l p q)
-sum_law {z} {x} {y} {a} {b} stem.Addus w t r e h p q k m = one w t 32 (λ t. Gives z (sum stem.Addus w t x y) (sum_value stem.Addus w t a b)) e (λ l. law.addus_sum w l p q k m)
-sum_law {z} {x} {y} {a} {b} stem.Subss w t r e h p q k m = one w t 32 (λ t. Gives z (sum stem.Subss w t x y) (sum_value stem.Subss w t a b)) e (λ l. law.subss_sum w l p q)
-sum_law {z} {x} {y} {a} {b} stem.Convsss w t r e h p q k m = law.convsss_sum y w t r.high p
-sum_law {z} {x} {y} {a} {b} stem.Div255 w t r e h p q k m = let i = both (w == 16) (t == 16) e in law.div255_sum y p (subst (λ w. a < 2 ^ w) (is w 16 i.0) k)
-sum_law s w t r e h p q k m = absurd (true≢false (sym h))
+pub sum_law : {z : Scene} {x y : CExpr} {a b : ℕ} (s : Stem) (w t : ℕ) → Range w → fits s w t ≡ true → has_sum s ≡ true → Gives z x a → Gives z y b → a < 2 ^ w → TakesSecond s w b → b < 2 ^ 64 → Gives z (sum s w t x y) (sum_value s w t a b)
+sum_law {z} {x} {y} {a} {b} stem.Addss w t r e h p q k m g = let p0 : 0 < w = (let i = r.low in omega (arith, i)) in one w t 32 (λ t. Gives z (sum stem.Addss w t x y) (sum_value stem.Addss w t a b)) e (λ l. law.addss_sum w p0 l p q)
+sum_law {z} {x} {y} {a} {b} stem.Addus w t r e h p q k m g = one w t 32 (λ t. Gives z (sum stem.Addus w t x y) (sum_value stem.Addus w t a b)) e (λ l. law.addus_sum w l p q k m)
+sum_law {z} {x} {y} {a} {b} stem.Subss w t r e h p q k m g = one w t 32 (λ t. Gives z (sum stem.Subss w t x y) (sum_value stem.Subss w t a b)) e (λ l. law.subss_sum w l p q)
+sum_law {z} {x} {y} {a} {b} stem.Convsss w t r e h p q k m g = law.convsss_sum y w t r.high p
+sum_law {z} {x} {y} {a} {b} stem.Div255 w t r e h p q k m g = let i = both (w == 16) (t == 16) e in law.div255_sum y p (subst (λ w. a < 2 ^ w) (is w 16 i.0) k)
+sum_law {z} {x} {y} {a} {b} stem.Divlu w t r e h p q k m g = law.divlu_sum w t p q g
+sum_law s w t r e h p q k m g = absurd (true≢false (sym h))
 
 pub from_sum_law : {z : Scene} {e : CExpr} (a b : ℕ) (s : Stem) (w t : ℕ) → Range w → Range t → fits s w t ≡ true → has_sum s ≡ true → Gives z e (sum_value s w t a b) → a < 2 ^ w → TakesSecond s w b → Gives z (from_sum s w t e) (apply s w t a b).0
 from_sum_law {z} {e} a b stem.Addss w t r u f h g k m = let p0 : 0 < w = (let i = r.low in omega (arith, i)) in one w t 32 (λ t. Gives z (from_sum stem.Addss w t e) (apply stem.Addss w t a b).0) f (λ l. law.addss_law w p0 l g k m)
@@ -58,11 +61,12 @@ from_sum_law {z} {e} a b stem.Addus w t r u f h g k m = one w t 32 (λ t. Gives 
 from_sum_law {z} {e} a b stem.Subss w t r u f h g k m = let p0 : 0 < w = (let i = r.low in omega (arith, i)) in one w t 32 (λ t. Gives z (from_sum stem.Subss w t e) (apply stem.Subss w t a b).0) f (λ l. law.subss_law w p0 l g k m)
 from_sum_law {z} {e} a b stem.Convsss w t r u f h g k m = law.convsss_law b w t (let i = u.low in omega (arith, i)) (is (t + t) w f) r.high g k
 from_sum_law {z} {e} a b stem.Div255 w t r u f h g k m = law.div255_law a b g
+from_sum_law {z} {e} a b stem.Divlu w t r u f h g k m = law.divlu_law a b w t g
 from_sum_law a b s w t r u f h g k m = absurd (true≢false (sym h))
 
 -- a formula with a sum
 first_by_sum : {z : Scene} {x y : CExpr} {a b : ℕ} (s : Stem) (w t : ℕ) → Range w → Range t → fits s w t ≡ true → has_sum s ≡ true → Gives z x a → Gives z y b → a < 2 ^ w → TakesSecond s w b → b < 2 ^ 64 → Gives z (from_sum s w t (sum s w t x y)) (apply s w t a b).0
-first_by_sum {a = a} {b = b} s w t r u e h p q k m g = from_sum_law a b s w t r u e h (sum_law s w t r e h p q k m) k m
+first_by_sum {a = a} {b = b} s w t r u e h p q k m g = from_sum_law a b s w t r u e h (sum_law s w t r e h p q k m g) k m
 
 -- ---- all stems
 
@@ -85,7 +89,7 @@ first_law {z} {x} {y} {a} {b} stem.Convuss w t r u e p q k m g = law.convuss_law
 first_law {z} {x} {y} {a} {b} stem.Convuus w t r u e p q k m g = law.convuus_law y b w t p
 first_law {z} {x} {y} {a} {b} stem.Copy w t r u e p q k m g = law.copy_law y b w t p
 first_law {z} {x} {y} {a} {b} stem.Div255 w t r u e p q k m g = first_by_sum stem.Div255 w t r u e refl p q k m g
-first_law {z} {x} {y} {a} {b} stem.Divlu w t r u e p q k m g = law.divlu_law w t p q g
+first_law {z} {x} {y} {a} {b} stem.Divlu w t r u e p q k m g = first_by_sum stem.Divlu w t r u e refl p q k m g
 first_law {z} {x} {y} {a} {b} stem.Exchange w t r u e p q k m g = law.exchange_law y b w t r.even r.high p k
 first_law {z} {x} {y} {a} {b} stem.High w t r u e p q k m g = let h = is (t + t) w e in law.high_law y b w t (let i = r.high in let j = r.low in omega (arith, i, j, h)) p
 first_law {z} {x} {y} {a} {b} stem.Low w t r u e p q k m g = law.low_law y b w t r.high u.high p k
@@ -110,5 +114,5 @@ first_law {z} {x} {y} {a} {b} stem.Split w t r u e p q k m g = let h = is (t + t
 first_law {z} {x} {y} {a} {b} stem.Sub w t r u e p q k m g = subst (λ t. Gives z (first stem.Sub w t x y) (apply stem.Sub w t a b).0) (is w t e) (law.sub_law w r.high p q m)
 first_law {z} {x} {y} {a} {b} stem.Subss w t r u e p q k m g = first_by_sum stem.Subss w t r u e refl p q k m g
 first_law {z} {x} {y} {a} {b} stem.Subus w t r u e p q k m g = let p0 : 0 < w = (let i = r.low in omega (arith, i)) in one w t 32 (λ t. Gives z (first stem.Subus w t x y) (apply stem.Subus w t a b).0) e (λ l. law.subus_law w l p q k)
-first_law {z} {x} {y} {a} {b} stem.Swap w t r u e p q k m g = swap_law y b w t r.high p
+first_law {z} {x} {y} {a} {b} stem.Swap w t r u e p q k m g = swap_law y b w t r.low r.high r.bytes p k
 first_law {z} {x} {y} {a} {b} stem.Xor w t r u e p q k m g = law.xor_law w t p q

@@ -14,10 +14,11 @@ use Rattle.c_run.specs.declared.tree.CStmt.TheVariants.{SetByte}
 use Rattle.c_run.specs.Tree.{CFunctionValue}
 use Rattle.c_run.specs.Meaning.{CState, Turn, byte_address}
 use Rattle.c_run.proofs.Trees.{value_byte}
-use Rattle.c_emit.specs.Body.{byte_of, bytes_of, index_of, stores, moved}
+use Rattle.c_emit.specs.Expressions.{moved}
+use Rattle.c_emit.specs.Body.{byte_of, bytes_of, index_of, stores}
 use Rattle.c_emit.proofs.Values as values
-use Rattle.c_emit.proofs.Values.{Scene, Gives, same, add, shl}
-use Rattle.c_emit.proofs.Doing.{Does, does_none, does_both, does_byte, counting, with_byte, scene, v_gives, moved_gives}
+use Rattle.c_emit.proofs.Values.{Scene, Gives, same, add, shl, moved_gives}
+use Rattle.c_emit.proofs.Doing.{Does, does_none, does_both, does_byte, counting, with_byte, scene, v_gives}
 
 -- byte j of a cell has this address, for j below the cell's size
 pub record IsAt (call : Call) (t : Turn) (vars : List Var) (p a : ℕ) : Type 0 where

@@ -1,5 +1,5 @@
 -- The expressions that are made are not deep, and their indexes are as the grammar has them.
-use Rattle.std.proofs.Common.{◌≡◌, ℕ, zero, suc, ◌+◌, ◌-◌, ◌*◌, ◌/◌, ◌%◌, ◌^◌, ◌<◌, ◌≤◌, ◌&&◌, ◌==◌, min, max, nat_lt, nat_le, Bool, true, false, if◌then◌else◌, List, [], ◌∷◌, ◌++◌, length, get_or, Option, Some, None, refl, arith}
+use Rattle.std.proofs.Common.{◌≡◌, ℕ, zero, suc, ◌+◌, ◌-◌, ◌*◌, ◌/◌, ◌%◌, ◌^◌, ◌<◌, ◌≤◌, ◌&&◌, ◌==◌, min, max, nat_lt, nat_le, Bool, true, false, if◌then◌else◌, List, [], ◌∷◌, ◌++◌, length, get_or, Option, Some, None, refl, subst, arith}
 use Rattle.std.specs.List.{list_all}
 use Rattle.std.proofs.lemmas.Bool.Decides.{nat_tests}
 use Rattle.orc_ops.specs.declared.stem.Stem.{Stem}
@@ -21,15 +21,17 @@ use Rattle.orc_program.specs.declared.program.Operand.TheVariants as operand
 use Rattle.orc_program.specs.declared.program.Insn.{Insn}
 use Rattle.orc_program.specs.Program.{var_at, count_before, array_number}
 use Rattle.orc_program.specs.Kept.{is_in_range, is_size}
+use Rattle.orc_bits.proofs.Memories.{some_one, none_some}
 use Rattle.orc_program.proofs.Sizes.{both}
 use Rattle.orc_program.proofs.Declared.{both_hold}
 use Rattle.c_run.specs.declared.tree.CStmt.{CStmt}
 use Rattle.c_run.specs.declared.tree.CStmt.TheVariants.{SetV, SetW, SetByte}
 use Rattle.c_run.specs.Tree.{depth, has_indexes, is_index, is_expr, is_stmt}
 use Rattle.c_emit.specs.Shapes.{Fits}
-use Rattle.c_emit.specs.Body.{temp_of, first_free, cells, sums_from, sum_count, sum_at, sums, index_of, bytes_of, moved, stores, reads_var, reads_one, reads, part, lane_of_var, lane_of, lane_first, lane_second, packed, first_at, second_at, first_of, second_of, stores_by, writes_var, writes_one, writes, insn_body, body_of}
+use Rattle.c_emit.specs.Body.{temp_of, first_free, cells, sums_from, sum_count, sum_at, sums, index_of, bytes_of, stores, reads_var, reads_one, reads, bits_of_var, bits_of, lane_first, lane_second, lane_low, packed, first_at, second_at, first_of, second_of, stores_by, writes_var, writes_one, writes, whole_of_var, whole_of_all, is_whole, copied, copies, works, copies_or_works, insn_body, body_of}
+use Rattle.c_emit.proofs.Values.{if_some}
 use Rattle.c_emit.proofs.All.{range_of}
-use Rattle.c_emit.specs.Expressions.{low, at_most, without, half, clamped, turned, has_sum, sum, from_sum, number_of, variable_of, if_below, if_below_by, few, few_by, half_down, half_by, swapped, first}
+use Rattle.c_emit.specs.Expressions.{low, raised, moved, part, byte_to, at_most, without, half, clamped, turned, has_sum, is_low, sum, from_sum, number_of, variable_of, if_below, if_below_by, few, few_by, half_down, half_by, swapped, first}
 
 fine_if : {a b : CExpr} (n : ℕ) (t : Bool) → Fine n a → Fine n b → Fine n (if t then a else b)
 fine_if n true p q = p
@@ -47,9 +49,21 @@ fine_without {a} {b} {m} {n} p q = fine_more (max m n + 2) (fine_choose (fine_te
 fine_turned : {e : CExpr} {n : ℕ} (w : ℕ) → Fine n e → Fine (n + 2) (turned w e)
 fine_turned {e} {n} w p = fine_more (n + 2) (fine_low w (fine_two Add p (fine_number _))) (omega arith)
 
+fine_raised : {e : CExpr} {n : ℕ} (k : ℕ) → Fine n e → Fine (n + 1) (raised e k)
+fine_raised {e} {n} k p = fine_if (n + 1) (k == 0) (fine_more (n + 1) p (omega arith)) (fine_more (n + 1) (fine_two Shl p (fine_number k)) (omega arith))
+
+pub fine_moved : {e : CExpr} {n : ℕ} (k : ℕ) → Fine n e → Fine (n + 1) (moved e k)
+fine_moved {e} {n} k p = fine_if (n + 1) (k == 0) (fine_more (n + 1) p (omega arith)) (fine_more (n + 1) (fine_two Shr p (fine_number k)) (omega arith))
+
+fine_part : {e : CExpr} {m : ℕ} (n b t : ℕ) → Fine m e → Fine (m + 2) (part n b t e)
+fine_part {e} {m} n b t p = fine_if (m + 2) (nat_le (8 * n) (b + t)) (fine_more (m + 2) (fine_moved b p) (omega arith)) (fine_more (m + 2) (fine_low t (fine_moved b p)) (omega arith))
+
+fine_byte_to : {e : CExpr} (n k : ℕ) → Fine 3 e → Fine 6 (byte_to e n k)
+fine_byte_to {e} n k p = fine_more 6 (fine_raised (8 * (n - 1 - k)) (fine_part n (8 * k) 8 p)) (omega arith)
+
 fine_swapped : {e : CExpr} (n k : ℕ) → Fine 3 e → Fine (k + 7) (swapped e n k)
-fine_swapped {e} n zero p = fine_more 7 (fine_number _) (omega arith)
-fine_swapped {e} n (suc k) p = fine_more (suc k + 7) (fine_two Add (fine_swapped n k p) (fine_two Shl (fine_two And (fine_two Shr p (fine_number _)) (fine_number _)) (fine_number _))) (omega arith)
+fine_swapped {e} n zero p = fine_more 7 (fine_byte_to n 0 p) (omega arith)
+fine_swapped {e} n (suc k) p = fine_more (suc k + 7) (fine_two Add (fine_swapped n k p) (fine_byte_to n (suc k) p)) (omega arith)
 
 fine_if_below : {y e : CExpr} {m n : ℕ} (w : ℕ) → Fine m y → Fine n e → Fine (max m n + 2) (if_below w y e)
 fine_if_below {y} {e} {m} {n} w p q = by (number_of y)
@@ -81,6 +95,7 @@ sum_fine stem.Addus w t x y fx fy = fine_more 8 (fine_two Add fx fy) (omega arit
 sum_fine stem.Subss w t x y fx fy = fine_more 8 (fine_two Sub (fine_two Add (fine_turned w fx) (fine_number (2 ^ w))) (fine_turned w fy)) (omega arith)
 sum_fine stem.Convsss w t x y fx fy = fine_more 8 (fine_turned w fx) (omega arith)
 sum_fine stem.Div255 w t x y fx fy = fine_more 8 (fine_low 16 (fine_two Add fx (fine_number 128))) (omega arith)
+sum_fine stem.Divlu w t x y fx fy = fine_more 8 (fine_choose (fine_test Equal (fine_low 8 fy) (fine_number 0)) (fine_number 255) (fine_two Div fx (fine_low 8 fy))) (omega arith)
 sum_fine s w t x y fx fy = fine_more 8 fx (omega arith)
 
 from_sum_fine : {e : CExpr} {n : ℕ} (s : Stem) (w t : ℕ) → Fine n e → Fine (n + 5) (from_sum s w t e)
@@ -89,6 +104,7 @@ from_sum_fine {e} {n} stem.Addus w t p = fine_more (n + 5) (fine_at_most (ones t
 from_sum_fine {e} {n} stem.Subss w t p = fine_more (n + 5) (fine_clamped t (2 ^ t) p) (omega arith)
 from_sum_fine {e} {n} stem.Convsss w t p = fine_more (n + 5) (fine_clamped t (half w) p) (omega arith)
 from_sum_fine {e} {n} stem.Div255 w t p = fine_more (n + 5) (fine_two Shr (fine_low 16 (fine_two Add p (fine_two Shr p (fine_number 8)))) (fine_number 8)) (omega arith)
+from_sum_fine {e} {n} stem.Divlu w t p = fine_more (n + 5) (fine_at_most 255 p) (omega arith)
 from_sum_fine {e} {n} s w t p = fine_more (n + 5) p (omega arith)
 
 pub first_fine : (s : Stem) (w t : ℕ) (x y : CExpr) → w ≤ 64 → Fine 3 x → Fine 3 y → Fine 24 (first s w t x y)
@@ -133,39 +149,37 @@ first_fine stem.Splat w t x y l fx fy = fine_more 24 (fine_two Mul fx (fine_numb
 first_fine stem.Splatw3 w t x y l fx fy = fine_more 24 (fine_two Mul (fine_two Shr fx (fine_number _)) (fine_number _)) (omega arith)
 first_fine stem.Merge w t x y l fx fy = fine_more 24 (fine_two Add fx (fine_two Shl fy (fine_number _))) (omega arith)
 first_fine stem.Split w t x y l fx fy = fine_more 24 (fine_two Shr fx (fine_number _)) (omega arith)
-first_fine stem.Swap w t x y l fx fy = fine_more 24 (fine_swapped (w / 8) (w / 8) fx) (omega (arith, l))
+first_fine stem.Swap w t x y l fx fy = fine_more 24 (fine_swapped (w / 8) (w / 8 - 1) fx) (omega (arith, l))
 first_fine stem.Exchange w t x y l fx fy = fine_more 24 (fine_two Add (fine_two Shl (fine_low _ fx) (fine_number _)) (fine_two Shr fx (fine_number _))) (omega arith)
 first_fine stem.Div255 w t x y l fx fy = fine_more 24 (from_sum_fine stem.Div255 w t (sum_fine stem.Div255 w t x y fx fy)) (omega arith)
-first_fine stem.Divlu w t x y l fx fy = fine_more 24 (fine_choose (fine_test Equal (fine_low 8 fy) (fine_number 0)) (fine_number 255) (fine_at_most 255 (fine_two Div fx (fine_low 8 fy)))) (omega arith)
+first_fine stem.Divlu w t x y l fx fy = fine_more 24 (from_sum_fine stem.Divlu w t (sum_fine stem.Divlu w t x y fx fy)) (omega arith)
 
 -- ---- parts of instructions
 
-pub fine_moved : {e : CExpr} {n : ℕ} (k : ℕ) → Fine n e → Fine (n + 1) (moved e k)
-fine_moved {e} {n} k p = fine_if (n + 1) (k == 0) (fine_more (n + 1) p (omega arith)) (fine_more (n + 1) (fine_two Shr p (fine_number k)) (omega arith))
+fine_bits_of_var : (vars : List Var) (b t d p : ℕ) (k : VarKind) → Fine 3 (bits_of_var vars b t d p k)
+fine_bits_of_var vars b t d p kind.Source = fine_more 3 (fine_part (var_at vars p).size b t (fine_v d)) (omega arith)
+fine_bits_of_var vars b t d p kind.Dest = fine_more 3 (fine_part (var_at vars p).size b t (fine_v d)) (omega arith)
+fine_bits_of_var vars b t d p kind.Temp = fine_more 3 (fine_part (var_at vars p).size b t (fine_v (temp_of vars p))) (omega arith)
+fine_bits_of_var vars b t d p kind.Param = fine_more 3 (fine_low t (fine_p (count_before kind.Param vars p))) (omega arith)
+fine_bits_of_var vars b t d p kind.Const = fine_more 3 (fine_number ((var_at vars p).number % 2 ^ t)) (omega arith)
+fine_bits_of_var vars b t d p kind.Accumulator = fine_more 3 (fine_number 0) (omega arith)
 
-fine_part : {e : CExpr} (n w q : ℕ) → Fine 0 e → Fine 3 (part n w q e)
-fine_part n w q p = fine_if 3 (nat_le (8 * n) (w * q + w)) (fine_more 3 (fine_moved (w * q) p) (omega arith)) (fine_more 3 (fine_low w (fine_moved (w * q) p)) (omega arith))
-
-fine_lane_of_var : (vars : List Var) (w q d p : ℕ) (k : VarKind) → Fine 3 (lane_of_var vars w q d p k)
-fine_lane_of_var vars w q d p kind.Source = fine_part (var_at vars p).size w q (fine_v d)
-fine_lane_of_var vars w q d p kind.Dest = fine_part (var_at vars p).size w q (fine_v d)
-fine_lane_of_var vars w q d p kind.Temp = fine_part (var_at vars p).size w q (fine_v (temp_of vars p))
-fine_lane_of_var vars w q d p kind.Param = fine_more 3 (fine_low w (fine_p (count_before kind.Param vars p))) (omega arith)
-fine_lane_of_var vars w q d p kind.Const = fine_more 3 (fine_number ((var_at vars p).number % 2 ^ w)) (omega arith)
-fine_lane_of_var vars w q d p kind.Accumulator = fine_more 3 (fine_number 0) (omega arith)
-
-fine_lane_of : (vars : List Var) (w q d : ℕ) (o : Operand) → Fine 3 (lane_of vars w q d o)
-fine_lane_of vars w q d (operand.Var p) = fine_lane_of_var vars w q d p (var_at vars p).kind
-fine_lane_of vars w q d (operand.Number n) = fine_more 3 (fine_number (n % 2 ^ w)) (omega arith)
+fine_bits_of : (vars : List Var) (b t d : ℕ) (o : Operand) → Fine 3 (bits_of vars b t d o)
+fine_bits_of vars b t d (operand.Var p) = fine_bits_of_var vars b t d p (var_at vars p).kind
+fine_bits_of vars b t d (operand.Number n) = fine_more 3 (fine_number (n % 2 ^ t)) (omega arith)
 
 fine_lane_first : (vars : List Var) (o : Op) (q d : ℕ) (xs : List Operand) → Fine 3 (lane_first vars o q d xs)
 fine_lane_first vars o q d [] = fine_more 3 (fine_number 0) (omega arith)
-fine_lane_first vars o q d (x ∷ xs) = fine_lane_of vars (8 * size_of_source o 0) q d x
+fine_lane_first vars o q d (x ∷ xs) = fine_bits_of vars (wide o * q) (wide o) d x
 
 fine_lane_second : (vars : List Var) (o : Op) (q d : ℕ) (xs : List Operand) → Fine 3 (lane_second vars o q d xs)
 fine_lane_second vars o q d [] = fine_more 3 (fine_number 0) (omega arith)
 fine_lane_second vars o q d (x ∷ []) = fine_more 3 (fine_number 0) (omega arith)
-fine_lane_second vars o q d (x ∷ y ∷ xs) = fine_lane_of vars (8 * size_of_source o 1) q (d + cells vars x) y
+fine_lane_second vars o q d (x ∷ y ∷ xs) = fine_bits_of vars (8 * size_of_source o 1 * q) (8 * size_of_source o 1) (d + cells vars x) y
+
+fine_lane_low : (vars : List Var) (o : Op) (q d : ℕ) (xs : List Operand) → Fine 3 (lane_low vars o q d xs)
+fine_lane_low vars o q d [] = fine_more 3 (fine_number 0) (omega arith)
+fine_lane_low vars o q d (x ∷ xs) = fine_bits_of vars (wide o * q) (to o) d x
 
 fine_sum_at : (vars : List Var) (insn : Insn) (q : ℕ) → Fine 24 (sum_at vars insn q)
 fine_sum_at vars insn q =
@@ -176,11 +190,13 @@ fine_first_at : (vars : List Var) (insn : Insn) (q : ℕ) → Fine 24 (first_at 
 fine_first_at vars insn q =
     fine_if 24 (has_sum (row insn.op).stem)
     (fine_more 24 (from_sum_fine (row insn.op).stem (wide insn.op) (to insn.op) (fine_v (sums_from vars insn + q))) (omega arith))
+    (fine_if 24 (is_low (row insn.op).stem)
+    (fine_more 24 (fine_lane_low vars insn.op q (first_free vars) insn.sources.items) (omega arith))
     (first_fine (row insn.op).stem (wide insn.op) (to insn.op) (lane_first vars insn.op q (first_free vars) insn.sources.items) (lane_second vars insn.op q (first_free vars) insn.sources.items)
-    (let r = range_of (wide insn.op) (row_fits insn.op).first in r.high) (fine_lane_first vars insn.op q (first_free vars) insn.sources.items) (fine_lane_second vars insn.op q (first_free vars) insn.sources.items))
+    (let r = range_of (wide insn.op) (row_fits insn.op).first in r.high) (fine_lane_first vars insn.op q (first_free vars) insn.sources.items) (fine_lane_second vars insn.op q (first_free vars) insn.sources.items)))
 
 fine_second_at : (vars : List Var) (insn : Insn) (q : ℕ) → Fine 24 (second_at vars insn q)
-fine_second_at vars insn q = fine_more 24 (fine_low (to insn.op) (fine_lane_first vars insn.op q (first_free vars) insn.sources.items)) (omega arith)
+fine_second_at vars insn q = fine_more 24 (fine_lane_low vars insn.op q (first_free vars) insn.sources.items) (omega arith)
 
 fine_packed : (t k : ℕ) (g : ℕ → CExpr) → ((q : ℕ) → Fine 24 (g q)) → Fine (k + 25) (packed t k g)
 fine_packed t zero g h = fine_more 25 (h 0) (omega arith)
@@ -198,6 +214,14 @@ fine_bytes vars p j zero h l = fine_byte (array_number vars p) (index_of vars p 
 fine_bytes vars p j (suc n) h l =
     fine_more (2 * suc n) (fine_two Add (fine_byte (array_number vars p) (index_of vars p j) (index_fine vars p j h (omega (arith, l)))) (fine_two Shl (fine_bytes vars p (j + 1) n h (omega (arith, l))) (fine_number 8))) (omega arith)
 
+size_small : (n : ℕ) → is_size n ≡ true → (1 ≤ n) × (n ≤ 8)
+size_small n h = (grind (arith, nat_tests, h), grind (arith, nat_tests, h))
+
+fine_cell : (vars : List Var) (p : ℕ) → is_size (var_at vars p).size ≡ true → Fine 40 (bytes_of vars p 0 ((var_at vars p).size - 1))
+fine_cell vars p h =
+    let s = size_small (var_at vars p).size h in
+    fine_more 40 (fine_bytes vars p 0 ((var_at vars p).size - 1) h (omega (arith, s))) (omega (arith, s))
+
 -- ---- statements
 
 expr_of : {e : CExpr} {n : ℕ} → Fine n e → n ≤ 100 → is_expr e ≡ true
@@ -213,9 +237,6 @@ one_of x h = both_hold (is_stmt x) true h refl
 -- every variable has a good size
 abbrev Sizes : List Var → Type 0
 Sizes vars = (p : ℕ) → p < length vars → is_size (var_at vars p).size ≡ true
-
-size_small : (n : ℕ) → is_size n ≡ true → (1 ≤ n) × (n ≤ 8)
-size_small n h = (grind (arith, nat_tests, h), grind (arith, nat_tests, h))
 
 reads_array : (vars : List Var) (d p : ℕ) → is_size (var_at vars p).size ≡ true → list_all is_stmt (SetV d (bytes_of vars p 0 ((var_at vars p).size - 1)) ∷ []) ≡ true
 reads_array vars d p h =
@@ -293,12 +314,39 @@ sums_fine vars insn (suc n) =
     all_both (sums vars insn n) (SetV (sums_from vars insn + n) (sum_at vars insn n) ∷ []) (sums_fine vars insn n)
     (one_of (SetV (sums_from vars insn + n) (sum_at vars insn n)) (expr_of (fine_sum_at vars insn n) (omega arith)))
 
-pub insn_body_fine : (vars : List Var) (insn : Insn) → Sizes vars → Fits vars insn → list_all is_stmt (insn_body vars insn) ≡ true
-unfolding insn_body
-insn_body_fine vars insn z h =
+-- what is copied
+whole_var_fine : (vars : List Var) (p : ℕ) (k : VarKind) (e : CExpr) → is_size (var_at vars p).size ≡ true → whole_of_var vars p k ≡ Some e → Fine 40 e
+whole_var_fine vars p kind.Source e z h = subst (Fine 40) (some_one _ e h) (fine_cell vars p z)
+whole_var_fine vars p kind.Dest e z h = subst (Fine 40) (some_one _ e h) (fine_cell vars p z)
+whole_var_fine vars p kind.Temp e z h = subst (Fine 40) (some_one _ e h) (fine_more 40 (fine_v (temp_of vars p)) (omega arith))
+whole_var_fine vars p kind.Param e z h = absurd (none_some h)
+whole_var_fine vars p kind.Const e z h = absurd (none_some h)
+whole_var_fine vars p kind.Accumulator e z h = absurd (none_some h)
+
+whole_fine : (vars : List Var) (xs : List Operand) (e : CExpr) → Sizes vars → list_all (is_in_range vars) xs ≡ true → whole_of_all vars xs ≡ Some e → Fine 40 e
+whole_fine vars [] e z h q = absurd (none_some q)
+whole_fine vars (operand.Var p ∷ []) e z h q = let m = (both (is_in_range vars (operand.Var p)) true h).0 in whole_var_fine vars p (var_at vars p).kind e (z p (grind (arith, nat_tests, m))) q
+whole_fine vars (operand.Number n ∷ []) e z h q = absurd (none_some q)
+whole_fine vars (x ∷ y ∷ more) e z h q = absurd (none_some q)
+
+copies_fine : (vars : List Var) (e : CExpr) (xs : List Operand) → Fine 40 e → Sizes vars → list_all (is_in_range vars) xs ≡ true → list_all is_stmt (copies vars e xs) ≡ true
+copies_fine vars e [] f z h = refl
+copies_fine vars e (x ∷ more) f z h = writes_one_fine vars (first_free vars) e x f z (both (is_in_range vars x) (list_all (is_in_range vars) more) h).0
+
+works_fine : (vars : List Var) (insn : Insn) → Sizes vars → Fits vars insn → list_all is_stmt (works vars insn) ≡ true
+unfolding works
+works_fine vars insn z h =
     let d : ℕ = sums_from vars insn + sum_count insn in
     all_both (reads vars (first_free vars) insn.sources.items) (sums vars insn (sum_count insn) ++ writes vars d insn insn.results.items) (reads_fine vars (first_free vars) insn.sources.items z h.sources)
     (all_both (sums vars insn (sum_count insn)) (writes vars d insn insn.results.items) (sums_fine vars insn (sum_count insn)) (writes_fine vars d insn insn.results.items h.few z h.results))
+
+pub insn_body_fine : (vars : List Var) (insn : Insn) → Sizes vars → Fits vars insn → list_all is_stmt (insn_body vars insn) ≡ true
+unfolding insn_body
+insn_body_fine vars insn z h = by (copied vars insn) refl
+  where
+    by : (o : Option CExpr) → copied vars insn ≡ o → list_all is_stmt (copies_or_works vars insn o) ≡ true
+    by (Some e) q = copies_fine vars e insn.results.items (whole_fine vars insn.sources.items e z h.sources (if_some (is_whole insn) (whole_of_all vars insn.sources.items) e q).1) z h.results
+    by None q = works_fine vars insn z h
 
 -- each instruction of a list fits
 pub body_fine : (vars : List Var) (insns : List Insn) → Sizes vars → ((k : ℕ) (d : Insn) → k < length insns → Fits vars (get_or insns k d)) → list_all is_stmt (body_of vars insns) ≡ true

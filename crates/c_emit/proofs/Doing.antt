@@ -1,10 +1,7 @@
 -- Statements one after the other, where each has a meaning and the budget has room.
-use Rattle.std.proofs.Common.{◌≡◌, ◌≢◌, ℕ, zero, suc, ◌+◌, ◌*◌, ◌/◌, ◌%◌, ◌^◌, ◌<◌, ◌≤◌, ◌==◌, ◌⊎◌, inl, inr, nat_lt, nat_le, if◌then◌else◌, Bool, true, false, List, [], ◌∷◌, ◌++◌, length, length-append, Option, Some, None, is_some, Result, Ok, Err, refl, sym, ap, ◌∙◌, subst, arith, pow-add}
+use Rattle.std.proofs.Common.{◌≡◌, ℕ, zero, suc, ◌+◌, ◌*◌, ◌%◌, ◌^◌, ◌<◌, ◌≤◌, nat_lt, if◌then◌else◌, Bool, true, List, [], ◌∷◌, ◌++◌, length, length-append, Option, Some, None, is_some, Result, Ok, Err, refl, sym, ap, ◌∙◌, subst, arith}
 use Rattle.std.proofs.lemmas.Bool.Decides.{nat_tests}
-use Rattle.std.proofs.lemmas.Bool.{cases_eq}
-use Rattle.std.proofs.lemmas.Nat.{pow_pos, div_below, shr_le, shl_whole}
-use Rattle.std.proofs.Math.Nat.{mod-eq_of_lt}
-use Rattle.std.proofs.Math.Pow.{pow_mono}
+use Rattle.std.proofs.lemmas.Nat.{shl_whole}
 use Rattle.orc_bits.specs.Memory.{bind, put}
 use Rattle.orc_bits.specs.Lanes.{change}
 use Rattle.orc_program.specs.declared.call.Call.{Call}
@@ -18,9 +15,8 @@ use Rattle.c_run.specs.declared.tree.CStmt.TheVariants.{SetV, SetW, SetByte}
 use Rattle.c_run.specs.Tree.{CFunctionValue}
 use Rattle.c_run.specs.Meaning.{CState, Turn, Stop, Budget, go_on, counted, count, assign, set_if, put_byte, byte_address, body_of}
 use Rattle.c_run.proofs.Trees.{value_v}
-use Rattle.c_emit.specs.Expressions.{low, down}
-use Rattle.c_emit.specs.Body.{packed, moved, part}
-use Rattle.c_emit.proofs.Values.{Scene, Gives, same, number, add, shl, shr, low_gives}
+use Rattle.c_emit.specs.Body.{packed}
+use Rattle.c_emit.proofs.Values.{Scene, Gives, same, number, add, shl}
 
 -- from one state the statements lead to the other, within every budget that has room for them
 pub record Does (c : CFunctionValue) (call : Call) (t : Turn) (xs : List CStmt) (s e : CState) : Type 0 where
@@ -97,39 +93,6 @@ does_byte c call t s d a b x e p m g =
 
 pub v_gives : (call : Call) (t : Turn) (s : CState) (d x : ℕ) → s.v d ≡ Some x → Gives (scene call t s) (V d) x
 v_gives call t s d x h = record { is = value_v call t s d ∙ h }
-
-pub moved_gives : {z : Scene} {e : CExpr} {x : ℕ} (n : ℕ) → n < 64 → Gives z e x → Gives z (moved e n) (x / 2 ^ n)
-moved_gives {z} {e} {x} n l g = by (cases_eq n 0)
-  where
-    by : (n ≡ 0) ⊎ (n ≢ 0) → Gives z (moved e n) (x / 2 ^ n)
-    by (inl q) =
-        let b : (n == 0) ≡ true = grind (arith, nat_tests, q) in
-        let d : Gives z e (x / 2 ^ n) = same (x / 2 ^ n) g (sym (ap (λ k. x / 2 ^ k) q ∙ (omega arith))) in
-        subst (λ b. Gives z (if b then e else down e n) (x / 2 ^ n)) (sym b) d
-    by (inr q) =
-        let b : (n == 0) ≡ false = grind (arith, nat_tests, q) in
-        subst (λ b. Gives z (if b then e else down e n) (x / 2 ^ n)) (sym b) (shr g (number z n) l)
-
--- sub-lane q of a number of n bytes
-pub part_gives : {z : Scene} {e : CExpr} {x : ℕ} (n w q : ℕ) → n ≤ 8 → w ≤ 64 → w * q < 64 → x < 2 ^ (8 * n) → Gives z e x → Gives z (part n w q e) (x / 2 ^ (w * q) % 2 ^ w)
-part_gives {z} {e} {x} n w q s l h k g = by (nat_le (8 * n) (w * q + w)) refl
-  where
-    down_gives : Gives z (moved e (w * q)) (x / 2 ^ (w * q))
-    down_gives = moved_gives (w * q) h g
-
-    small : nat_le (8 * n) (w * q + w) ≡ true → x / 2 ^ (w * q) < 2 ^ w
-    small t =
-        let i : 8 * n ≤ w + w * q = grind (arith, nat_tests, t) in
-        let m : 2 ^ (8 * n) ≤ 2 ^ (w + w * q) = pow_mono {i = 8 * n} {j = w + w * q} i in
-        let e : 2 ^ (w + w * q) ≡ 2 ^ w * 2 ^ (w * q) = pow-add 2 w (w * q) in
-        div_below x (2 ^ (w * q)) (2 ^ w) (pow_pos (w * q)) (omega (arith, k, m, e))
-
-    low_64 : x / 2 ^ (w * q) < 2 ^ 64
-    low_64 = let m : 2 ^ (8 * n) ≤ 2 ^ 64 = pow_mono {i = 8 * n} {j = 64} (omega (arith, s)) in let r = shr_le x (w * q) in omega (arith, r, k, m)
-
-    by : (t : Bool) → nat_le (8 * n) (w * q + w) ≡ t → Gives z (if t then moved e (w * q) else low w (moved e (w * q))) (x / 2 ^ (w * q) % 2 ^ w)
-    by true t = same (x / 2 ^ (w * q) % 2 ^ w) down_gives (sym (mod-eq_of_lt (small t)))
-    by false t = low_gives w down_gives low_64 l
 
 -- numbers packed into sub-lanes of t bits
 pub packed_gives : {z : Scene} (t k : ℕ) (e : ℕ → CExpr) (g : ℕ → ℕ) → 0 < t → t * suc k ≤ 64 → ((q : ℕ) → q ≤ k → Gives z (e q) (g q)) → ((q : ℕ) → g q < 2 ^ t) → Gives z (packed t k e) (pack t (suc k) g)

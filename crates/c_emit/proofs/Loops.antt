@@ -33,7 +33,7 @@ use Rattle.c_run.specs.Meaning as meaning
 use Rattle.c_run.specs.Meaning.{CState, Turn, Stop, Budget, go_on, counted, count, begin_turn, times}
 use Rattle.c_emit.specs.CAs.{IsCall}
 use Rattle.c_emit.specs.Expressions.{variable_of, has_sum}
-use Rattle.c_emit.specs.Body.{first_free, cells, sums_from, sum_count, sums, index_of, reads_var, reads_one, reads, first_of, stores, stores_by, writes_var, writes_one, writes, insn_body, body_of, variables_of}
+use Rattle.c_emit.specs.Body.{first_free, cells, sums_from, sum_count, sums, index_of, reads_var, reads_one, reads, first_of, stores, stores_by, writes_var, writes_one, writes, copied, copies, works, copies_or_works, insn_body, body_of, variables_of}
 use Rattle.c_emit.proofs.Doing.{Does, does_none, does_both, counting}
 use Rattle.c_emit.proofs.Passes.{checked}
 use Rattle.c_emit.proofs.Agree.{Agrees, agrees_less}
@@ -102,9 +102,9 @@ count_few : (t : Bool) (n : ℕ) → n ≤ 4 → (if t then n else 0) ≤ 4
 count_few true n h = h
 count_few false n h = omega arith
 
-insn_few : (vars : List Var) (insn : Insn) → ((q : ℕ) → (var_at vars q).size ≤ 8) → insn.prefix ≤ 4 → length (insn_body vars insn) ≤ 25
-unfolding insn_body
-insn_few vars insn h l =
+works_few : (vars : List Var) (insn : Insn) → ((q : ℕ) → (var_at vars q).size ≤ 8) → insn.prefix ≤ 4 → length (works vars insn) ≤ 25
+unfolding works
+works_few vars insn h l =
     let d : ℕ = sums_from vars insn + sum_count insn in
     let a = reads_few vars (first_free vars) insn.sources.items in
     let b = sums_few vars insn (sum_count insn) in
@@ -113,6 +113,18 @@ insn_few vars insn h l =
     let m = length-append (reads vars (first_free vars) insn.sources.items) (sums vars insn (sum_count insn) ++ writes vars d insn insn.results.items) in
     let n = length-append (sums vars insn (sum_count insn)) (writes vars d insn insn.results.items) in
     omega (arith, a, b, k, c, m, n)
+
+copies_few : (vars : List Var) (e : CExpr) (xs : List Operand) → ((q : ℕ) → (var_at vars q).size ≤ 8) → length (copies vars e xs) ≤ 25
+copies_few vars e [] h = omega arith
+copies_few vars e (x ∷ more) h = let a = writes_one_few vars (first_free vars) e x h in omega (arith, a)
+
+insn_few : (vars : List Var) (insn : Insn) → ((q : ℕ) → (var_at vars q).size ≤ 8) → insn.prefix ≤ 4 → length (insn_body vars insn) ≤ 25
+unfolding insn_body
+insn_few vars insn h l = by (copied vars insn)
+  where
+    by : (o : Option CExpr) → length (copies_or_works vars insn o) ≤ 25
+    by (Some e) = copies_few vars e insn.results.items h
+    by None = works_few vars insn h l
 
 body_few : (vars : List Var) (insns : List Insn) → ((q : ℕ) → (var_at vars q).size ≤ 8) → ((k : ℕ) (d : Insn) → k < length insns → (get_or insns k d).prefix ≤ 4) → length (body_of vars insns) ≤ 25 * length insns
 body_few vars [] h l = omega arith

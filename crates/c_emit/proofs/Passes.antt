@@ -80,7 +80,7 @@ source_cases o k e = go (k == 1) refl e
 
 -- what is known of a source at a position
 abbrev pub IsRead : List Var → List Insn → Op → ℕ → ℕ → Operand → Type 0
-IsRead vars earlier o prefix k (operand.Var p) = (p < length vars) × ((q : ℕ) → q < prefix → has_lanes (var_at vars p).kind ≡ true → 8 * size_of_source o k * q < 64) × ((var_at vars p).kind ≡ kind.Temp → is_set earlier p ≡ true)
+IsRead vars earlier o prefix k (operand.Var p) = (p < length vars) × ((q : ℕ) → q < prefix → has_lanes (var_at vars p).kind ≡ true → 8 * size_of_source o k * q < 64) × ((var_at vars p).kind ≡ kind.Temp → is_set earlier p ≡ true) × (has_lanes (var_at vars p).kind ≡ true → (var_at vars p).size ≡ size_of_source o k * prefix)
 IsRead vars earlier o prefix k (operand.Number n) = Unit {0}
 
 abbrev pub AreRead : List Var → List Insn → Op → ℕ → List Operand → Type 0
@@ -105,6 +105,15 @@ set_earlier vars earlier p h t = go (is_set earlier p) (sym (ap (λ b. b && not 
     go true e = refl
     go false e = absurd (true≢false e)
 
+-- what has sub-lanes has the size of the opcode's, under the prefix
+right_size : (k : VarKind) (m n : ℕ) → has_lanes k ≡ true → not (is_scalar (Some k)) && not (m == n) ≡ false → m ≡ n
+right_size kind.Source m n t h = grind (arith, nat_tests, h)
+right_size kind.Dest m n t h = grind (arith, nat_tests, h)
+right_size kind.Temp m n t h = grind (arith, nat_tests, h)
+right_size kind.Param m n t h = absurd (true≢false (sym t))
+right_size kind.Const m n t h = absurd (true≢false (sym t))
+right_size kind.Accumulator m n t h = absurd (true≢false (sym t))
+
 module _ (vars : List Var) (earlier : List Insn) (o : Op) (prefix : ℕ) (z : Sources o prefix) where
   -- the sizes of a source that has sub-lanes
   fits_at : (k : ℕ) → k < 2 → (v : VarKind) → has_no_fault (source_kind_fault (row o).kind k (Some v)) ≡ true → has_lanes v ≡ true → (prefix ≡ 1) ⊎ (size_of_source o k * prefix ≤ 8)
@@ -120,8 +129,12 @@ module _ (vars : List Var) (earlier : List Insn) (o : Op) (prefix : ℕ) (z : So
   read_one k l (operand.Number n) r h = tt
   read_one k l (operand.Var p) r h =
       let a = none_left (source_kind_fault (row o).kind k (Some (var_at vars p).kind)) (or_else (check (is_wrong_size vars (size_of_source o k * prefix) (operand.Var p)) fault.SizeMismatch) (check (is_unset vars earlier (operand.Var p)) fault.Unset)) h in
-      let b = none_left (check (is_wrong_size vars (size_of_source o k * prefix) (operand.Var p)) fault.SizeMismatch) (check (is_unset vars earlier (operand.Var p)) fault.Unset) a.1 in
-      (grind (arith, nat_tests, r), λ q i t. sub_lanes (size_of_source o k) prefix q (fits_at k l (var_at vars p).kind a.0 t) i, set_earlier vars earlier p (unchecked (is_unset vars earlier (operand.Var p)) fault.Unset b.1))
+      let b = none_left (check (is_wrong_size vars (size_of_source o k * prefix) (operand.Var p)) fault.SizeMismatch) (check (is_unset vars earlier (operand.Var p)) fault.Unset) a.1 in (
+        grind (arith, nat_tests, r),
+        λ q i t. sub_lanes (size_of_source o k) prefix q (fits_at k l (var_at vars p).kind a.0 t) i,
+        set_earlier vars earlier p (unchecked (is_unset vars earlier (operand.Var p)) fault.Unset b.1),
+        λ t. right_size (var_at vars p).kind (var_at vars p).size (size_of_source o k * prefix) t (unchecked (is_wrong_size vars (size_of_source o k * prefix) (operand.Var p)) fault.SizeMismatch b.0),
+      )
 
   read_all : (xs : List Operand) → list_all (is_in_range vars) xs ≡ true → has_no_fault (sources_fault vars earlier o prefix 0 xs) ≡ true → AreRead vars earlier o prefix xs
   read_all [] r h = tt

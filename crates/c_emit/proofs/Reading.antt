@@ -1,11 +1,11 @@
 -- An instruction's reads and results, in C and in emulation.
-use Rattle.std.proofs.Common.{◌≡◌, ◌≢◌, ℕ, zero, suc, ◌⊎◌, inl, inr, if◌then◌else◌, ◌+◌, ◌-◌, ◌*◌, ◌^◌, ◌<◌, ◌≤◌, Bool, true, false, List, [], ◌∷◌, ◌++◌, length, Option, Some, Result, Ok, refl, sym, ap, ◌∙◌, subst, arith, true≢false}
+use Rattle.std.proofs.Common.{◌≡◌, ◌≢◌, ℕ, zero, suc, ◌⊎◌, inl, inr, if◌then◌else◌, ◌+◌, ◌-◌, ◌*◌, ◌^◌, ◌<◌, ◌≤◌, Bool, true, false, List, [], ◌∷◌, ◌++◌, length, Option, Some, None, Result, Ok, refl, sym, ap, ◌∙◌, subst, arith, true≢false}
 use Rattle.std.proofs.lemmas.Option.{slice_get-get_or}
 use Rattle.std.proofs.lemmas.Bool.{cases_eq}
 use Rattle.orc_bits.specs.Lanes.{change}
 use Rattle.orc_bits.specs.Memory.{Memory, read, number, value}
 use Rattle.orc_bits.proofs.LaneLaws.{pow256}
-use Rattle.orc_bits.proofs.Memories.{Bytewide, bind_some, some_one, value_small}
+use Rattle.orc_bits.proofs.Memories.{Bytewide, bind_some, some_one, none_some, value_small}
 use Rattle.orc_ops.specs.declared.opcode.Op.{Op}
 use Rattle.orc_ops.specs.Table.{row, size_of_result, size_of_source}
 use Rattle.orc_program.specs.declared.program.VarKind.{VarKind}
@@ -23,17 +23,18 @@ use Rattle.orc_program.proofs.Steps.{go_on_ok, or_gap_ok, ok_same}
 use Rattle.orc_emul.specs.State.{HasCounts}
 use Rattle.orc_emul.proofs.Functions.{before_all, size_low}
 use Rattle.c_run.specs.declared.tree.CExpr.{CExpr}
+use Rattle.c_run.specs.declared.tree.CExpr.TheVariants.{V}
 use Rattle.c_run.specs.declared.tree.CStmt.{CStmt}
 use Rattle.c_run.specs.declared.tree.CStmt.TheVariants.{SetV}
 use Rattle.c_run.specs.Tree.{CFunctionValue}
 use Rattle.c_run.specs.Meaning.{CState}
 use Rattle.c_emit.specs.CAs.{IsCall}
 use Rattle.c_emit.specs.Expressions.{has_sum}
-use Rattle.c_emit.specs.Body.{first_free, cells_of_kind, cells, all_cells, sums_from, sum_count, sum_at, sums, bytes_of, reads_var, reads_one, reads, first_of, second_of, variables_of}
-use Rattle.c_emit.proofs.Values.{Gives, same}
-use Rattle.c_emit.proofs.Doing.{Does, does_none, does_both, does_v, counting, with_v, scene}
+use Rattle.c_emit.specs.Body.{temp_of, first_free, cells_of_kind, cells, all_cells, sums_from, sum_count, sum_at, sums, bytes_of, reads_var, reads_one, reads, first_of, second_of, whole_of_var, whole_of, whole_of_all, is_whole, copied, variables_of}
+use Rattle.c_emit.proofs.Values.{if_some, Scene, Gives, same}
+use Rattle.c_emit.proofs.Doing.{Does, does_none, does_both, does_v, counting, with_v, scene, v_gives}
 use Rattle.c_emit.proofs.Cells.{bytes_give}
-use Rattle.c_emit.proofs.Opcodes.{IsReady, AreReady, AreSummed, sum_of, sum_lane, both_okay, first_result, second_result}
+use Rattle.c_emit.proofs.Opcodes.{has_lanes, whole_lanes, IsReady, AreReady, AreSummed, sum_of, sum_lane, both_okay, first_result, second_result}
 use Rattle.c_emit.proofs.Places.{is_at, size_at}
 use Rattle.c_emit.proofs.Passes.{IsRead, AreRead, IsChecked}
 use Rattle.c_emit.proofs.Agree.{Agrees, agrees_v, change_same, change_other}
@@ -187,6 +188,51 @@ module _ (f : FunctionValue) (call : Call) (mem : Memory) (kept : is_function f 
   ready_all earlier o prefix s e q d [] l m g h = tt
   ready_all earlier o prefix s e q d (x ∷ []) l m g h = ready_one earlier o prefix 0 s e q d x l m g h
   ready_all earlier o prefix s e q d (x ∷ y ∷ more) l m g h = (ready_one earlier o prefix 0 s e q d x l m.0 g h.0, ready_one earlier o prefix 1 s e q (d + cells f.vars x) y l m.1 g h.1)
+
+  -- ---- copies
+
+  -- what is copied is the result of emulation
+  pub copied_gives : (earlier : List Insn) (insn : Insn) (s : CState) (e : State) (a b : ℕ → ℕ) (x : CExpr) → IsChecked f.vars earlier insn → Agrees f (λ p. is_set earlier p) s e → read_sources f call r i insn.op e insn.sources.items ≡ both_okay a b → copied f.vars insn ≡ Some x → Gives (scene call (record { row = r; element = i }) s) x (lanewise insn.op insn.prefix a b).0
+  copied_gives earlier insn s e a b x ok g h c = let d = if_some (is_whole insn) (whole_of_all f.vars insn.sources.items) x c in all insn.sources.items ok.reads h d.1
+    where
+      z : Scene
+      z = scene call (record { row = r; element = i }) s
+
+      w : ℕ
+      w = 8 * size_of_source insn.op 0
+
+      whole : is_whole insn ≡ true
+      whole = (if_some (is_whole insn) (whole_of_all f.vars insn.sources.items) x c).0
+
+      lanes : (v : ℕ) (y : CExpr) → v < 2 ^ (8 * (size_of_source insn.op 0 * insn.prefix)) → y ≡ x → Gives z y v → okay (sub_lane w v) ≡ okay a → Gives z x (lanewise insn.op insn.prefix a b).0
+      lanes v y small is gives q = subst (λ (y : CExpr). Gives z y (lanewise insn.op insn.prefix a b).0) is (same (lanewise insn.op insn.prefix a b).0 gives (sym (ap (λ (a : ℕ → ℕ). (lanewise insn.op insn.prefix a b).0) (sym (ok_same (sub_lane w v) a q)) ∙ whole_lanes insn v b whole small)))
+
+      array : (p : ℕ) → IsArray f p → (var_at f.vars p).size ≡ size_of_source insn.op 0 * insn.prefix → go_on (read_cell f call r i p e) (λ v. okay (sub_lane w v)) ≡ okay a → bytes_of f.vars p 0 ((var_at f.vars p).size - 1) ≡ x → Gives z x (lanewise insn.op insn.prefix a b).0
+      array p is size q y =
+          let v = go_on_ok (read_cell f call r i p e) (λ v. okay (sub_lane w v)) a q in
+          let gives = cell_gives (λ p. is_set earlier p) s e p v.0 is g v.1 in
+          lanes v.0 (bytes_of f.vars p 0 ((var_at f.vars p).size - 1)) (subst (λ n. v.0 < 2 ^ (8 * n)) size gives.1) y gives.0 v.2
+
+      kinds : (p : ℕ) (k : VarKind) → (var_at f.vars p).kind ≡ k → IsRead f.vars earlier insn.op insn.prefix 0 (operand.Var p) → read_var f call r i w e p k ≡ okay a → whole_of_var f.vars p k ≡ Some x → Gives z x (lanewise insn.op insn.prefix a b).0
+      kinds p kind.Source n m q y = array p (m.0, ap is_array_kind n) (m.3 (ap has_lanes n)) q (some_one _ x y)
+      kinds p kind.Dest n m q y = array p (m.0, ap is_array_kind n) (m.3 (ap has_lanes n)) q (some_one _ x y)
+      kinds p kind.Temp n m q y =
+          let t = g.temps p m.0 n (m.2 n) in
+          lanes (e.temps p) (V (temp_of f.vars p)) (subst (λ k. e.temps p < 2 ^ (8 * k)) (m.3 (ap has_lanes n)) t.1) (some_one _ x y) (v_gives call (record { row = r; element = i }) s (temp_of f.vars p) (e.temps p) t.0) q
+      kinds p kind.Param n m q y = absurd (none_some y)
+      kinds p kind.Const n m q y = absurd (none_some y)
+      kinds p kind.Accumulator n m q y = absurd (none_some y)
+
+      one : (o : Operand) → IsRead f.vars earlier insn.op insn.prefix 0 o → read_source f call r i w e o ≡ okay a → whole_of f.vars o ≡ Some x → Gives z x (lanewise insn.op insn.prefix a b).0
+      one (operand.Var p) m q y = kinds p (var_at f.vars p).kind refl m q y
+      one (operand.Number n) m q y = absurd (none_some y)
+
+      all : (xs : List Operand) → AreRead f.vars earlier insn.op insn.prefix xs → read_sources f call r i insn.op e xs ≡ both_okay a b → whole_of_all f.vars xs ≡ Some x → Gives z x (lanewise insn.op insn.prefix a b).0
+      all [] m q y = absurd (none_some y)
+      all (o ∷ []) m q y =
+          let u = go_on_ok (read_source f call r i w e o) (λ g. both_okay g (λ q. 0)) (a, b) q in
+          one o m (u.1 ∙ ap okay (ap (λ (v : (ℕ → ℕ) × (ℕ → ℕ)). v.0) (ok_same (u.0, (λ q. 0)) (a, b) u.2))) y
+      all (o ∷ y ∷ more) m q n = absurd (none_some n)
 
   -- ---- results
 

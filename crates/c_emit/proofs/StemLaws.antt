@@ -507,8 +507,15 @@ div255_law {z} {e} a b near =
     let whole = add near part (let i : s + s / 2 ^ 8 < 2 ^ 64 = omega arith in i) in
     shr (low_gives 16 whole (omega arith) (omega arith)) (number z 8) (omega arith)
 
-pub divlu_law : {z : Scene} {x y : CExpr} {a b : ℕ} (w t : ℕ) → Gives z x a → Gives z y b → b < 2 ^ 64 → Gives z (first stem.Divlu w t x y) (apply stem.Divlu w t a b).0
-divlu_law {z} {x} {y} {a} {b} w t p q m =
+pub divlu_sum : {z : Scene} {x y : CExpr} {a b : ℕ} (w t : ℕ) → Gives z x a → Gives z y b → b < 2 ^ 64 → Gives z (sum stem.Divlu w t x y) (cond (b % 256 == 0) 255 (a / (b % 256)))
+divlu_sum {z} {x} {y} {a} {b} w t p q m =
     let d = low_gives 8 q m (omega arith) in
-    choose_equal (Number 255) (at_most 255 (Two Div x (low 8 y))) 255 (min 255 (a / (b % 2 ^ 8))) d (number z 0) (λ s. number z 255)
-    (λ s. at_most_gives 255 (div p d (let i : 0 < b % 2 ^ 8 = grind (arith, nat_tests, s) in i)))
+    choose_equal (Number 255) (Two Div x (low 8 y)) 255 (a / (b % 2 ^ 8)) d (number z 0) (λ s. number z 255)
+    (λ s. div p d (let i : 0 < b % 2 ^ 8 = grind (arith, nat_tests, s) in i))
+
+pub divlu_law : {z : Scene} {e : CExpr} (a b w t : ℕ) → Gives z e (cond (b % 256 == 0) 255 (a / (b % 256))) → Gives z (from_sum stem.Divlu w t e) (apply stem.Divlu w t a b).0
+divlu_law {z} {e} a b w t g = same (if b % 256 == 0 then 255 else min 255 (a / (b % 256))) (at_most_gives 255 g) (least (b % 256 == 0))
+  where
+    least : (c : Bool) → min 255 (cond c 255 (a / (b % 256))) ≡ (if c then 255 else min 255 (a / (b % 256)))
+    least true = refl
+    least false = refl

@@ -1,11 +1,12 @@
 -- What expressions mean, part by part.
-use Rattle.std.proofs.Common.{◌≡◌, ℕ, ◌+◌, ◌-◌, ◌*◌, ◌/◌, ◌%◌, ◌^◌, ◌<◌, ◌≤◌, ◌==◌, ◌⊎◌, inl, inr, min, nat_lt, if◌then◌else◌, cond, Bool, true, false, Option, Some, None, refl, sym, ap, ◌∙◌, arith, subst}
-use Rattle.std.proofs.lemmas.Bool.{cases_lt}
+use Rattle.std.proofs.Common.{◌≡◌, ◌≢◌, ℕ, ◌+◌, ◌-◌, ◌*◌, ◌/◌, ◌%◌, ◌^◌, ◌<◌, ◌≤◌, ◌==◌, ◌⊎◌, inl, inr, min, nat_lt, nat_le, if◌then◌else◌, cond, Bool, true, false, Option, Some, None, refl, sym, ap, ◌∙◌, arith, subst, pow-add}
+use Rattle.std.proofs.lemmas.Bool.{cases_lt, cases_eq}
 use Rattle.std.proofs.lemmas.Bool.Decides.{nat_tests}
-use Rattle.std.proofs.lemmas.Nat.{and_mask, pow_pos, mod_below}
+use Rattle.std.proofs.lemmas.Nat.{and_mask, pow_pos, mod_below, div_below, shr_le, shl_whole}
 use Rattle.std.proofs.Math.Nat.{mod-eq_of_lt, add-mul-mod_self_right}
-use Rattle.std.proofs.Math.Pow.{mod-mod-pow}
+use Rattle.std.proofs.Math.Pow.{mod-mod-pow, pow_mono}
 use Rattle.orc_bits.specs.Memory.{bind}
+use Rattle.orc_bits.proofs.Memories.{none_some}
 use Rattle.orc_ops.specs.Stems.{ones}
 use Rattle.orc_program.specs.declared.call.Call.{Call}
 use Rattle.c_run.specs.declared.tree.COp.{COp}
@@ -16,7 +17,11 @@ use Rattle.c_run.specs.declared.tree.CExpr.{CExpr}
 use Rattle.c_run.specs.declared.tree.CExpr.TheVariants.{Number, Two, Test, Choose}
 use Rattle.c_run.proofs.Trees.{value_number, value_two, value_test, value_choose}
 use Rattle.c_run.specs.Meaning.{CState, Turn, value, operate, compare}
-use Rattle.c_emit.specs.Expressions.{low, less, at_most, without, half, turned}
+use Rattle.c_emit.specs.Expressions.{low, up, down, raised, moved, part, less, at_most, without, half, turned}
+
+pub if_some : {A : Type 0} (t : Bool) (o : Option A) (x : A) → (if t then o else None) ≡ Some x → (t ≡ true) × (o ≡ Some x)
+if_some true o x h = (refl, h)
+if_some false o x h = absurd (none_some h)
 
 -- where expressions are evaluated
 pub record Scene : Type 0 where
@@ -135,8 +140,11 @@ low_gives {z} {e} {v} t g h l = by (cases_lt t 64)
         subst (λ b. Gives z (if b then Two And e (Number (ones t)) else e) (v % 2 ^ t)) (sym c) d
 
 -- numbers that are cut twice
+pub cut_low : (x t n : ℕ) → t ≤ n → x % 2 ^ n % 2 ^ t ≡ x % 2 ^ t
+cut_low x t n h = subst (λ n. x % 2 ^ n % 2 ^ t ≡ x % 2 ^ t) (let e : n - t + t ≡ n = omega (arith, h) in e) (mod-mod-pow x (n - t) t)
+
 pub cut_twice : (x t : ℕ) → t ≤ 64 → x % 2 ^ 64 % 2 ^ t ≡ x % 2 ^ t
-cut_twice x t h = subst (λ n. x % 2 ^ n % 2 ^ t ≡ x % 2 ^ t) (let e : 64 - t + t ≡ 64 = omega (arith, h) in e) (mod-mod-pow x (64 - t) t)
+cut_twice x t h = cut_low x t 64 h
 
 pub low_cut : {z : Scene} {e : CExpr} (v t : ℕ) → Gives z e (v % 2 ^ 64) → t ≤ 64 → Gives z (low t e) (v % 2 ^ t)
 low_cut {z} {e} v t g l = same (v % 2 ^ t) (low_gives t g (mod_below v (2 ^ 64) (pow_pos 64)) l) (cut_twice v t l)
@@ -147,3 +155,51 @@ turn w a = (a + half w) % 2 ^ w
 
 pub turned_gives : {z : Scene} {e : CExpr} {a : ℕ} (w : ℕ) → Gives z e a → w ≤ 64 → Gives z (turned w e) (turn w a)
 turned_gives {z} {e} {a} w g l = low_cut (a + half w) w (add_mod g (number z (half w))) l
+
+-- ---- bits of an expression
+
+pub moved_gives : {z : Scene} {e : CExpr} {x : ℕ} (n : ℕ) → n < 64 → Gives z e x → Gives z (moved e n) (x / 2 ^ n)
+moved_gives {z} {e} {x} n l g = by (cases_eq n 0)
+  where
+    by : (n ≡ 0) ⊎ (n ≢ 0) → Gives z (moved e n) (x / 2 ^ n)
+    by (inl q) =
+        let b : (n == 0) ≡ true = grind (arith, nat_tests, q) in
+        let d : Gives z e (x / 2 ^ n) = same (x / 2 ^ n) g (sym (ap (λ k. x / 2 ^ k) q ∙ (omega arith))) in
+        subst (λ b. Gives z (if b then e else down e n) (x / 2 ^ n)) (sym b) d
+    by (inr q) =
+        let b : (n == 0) ≡ false = grind (arith, nat_tests, q) in
+        subst (λ b. Gives z (if b then e else down e n) (x / 2 ^ n)) (sym b) (shr g (number z n) l)
+
+-- shifted up, where no bit is lost
+pub raised_gives : {z : Scene} {e : CExpr} {x : ℕ} (t n : ℕ) → n < 64 → t + n ≤ 64 → x < 2 ^ t → Gives z e x → Gives z (raised e n) (x * 2 ^ n)
+raised_gives {z} {e} {x} t n l r k g = by (cases_eq n 0)
+  where
+    by : (n ≡ 0) ⊎ (n ≢ 0) → Gives z (raised e n) (x * 2 ^ n)
+    by (inl q) =
+        let b : (n == 0) ≡ true = grind (arith, nat_tests, q) in
+        let d : Gives z e (x * 2 ^ n) = same (x * 2 ^ n) g (sym (ap (λ k. x * 2 ^ k) q ∙ (omega arith))) in
+        subst (λ b. Gives z (if b then e else up e n) (x * 2 ^ n)) (sym b) d
+    by (inr q) =
+        let b : (n == 0) ≡ false = grind (arith, nat_tests, q) in
+        subst (λ b. Gives z (if b then e else up e n) (x * 2 ^ n)) (sym b) (same (x * 2 ^ n) (shl g (number z n) l) (shl_whole x t n 64 k r))
+
+-- t bits, from bit b on, of a number of n bytes
+pub part_gives : {z : Scene} {e : CExpr} {x : ℕ} (n b t : ℕ) → n ≤ 8 → t ≤ 64 → b < 64 → x < 2 ^ (8 * n) → Gives z e x → Gives z (part n b t e) (x / 2 ^ b % 2 ^ t)
+part_gives {z} {e} {x} n b t s l h k g = by (nat_le (8 * n) (b + t)) refl
+  where
+    down_gives : Gives z (moved e b) (x / 2 ^ b)
+    down_gives = moved_gives b h g
+
+    small : nat_le (8 * n) (b + t) ≡ true → x / 2 ^ b < 2 ^ t
+    small c =
+        let i : 8 * n ≤ t + b = grind (arith, nat_tests, c) in
+        let m : 2 ^ (8 * n) ≤ 2 ^ (t + b) = pow_mono {i = 8 * n} {j = t + b} i in
+        let e : 2 ^ (t + b) ≡ 2 ^ t * 2 ^ b = pow-add 2 t b in
+        div_below x (2 ^ b) (2 ^ t) (pow_pos b) (omega (arith, k, m, e))
+
+    low_64 : x / 2 ^ b < 2 ^ 64
+    low_64 = let m : 2 ^ (8 * n) ≤ 2 ^ 64 = pow_mono {i = 8 * n} {j = 64} (omega (arith, s)) in let r = shr_le x b in omega (arith, r, k, m)
+
+    by : (c : Bool) → nat_le (8 * n) (b + t) ≡ c → Gives z (if c then moved e b else low t (moved e b)) (x / 2 ^ b % 2 ^ t)
+    by true c = same (x / 2 ^ b % 2 ^ t) down_gives (sym (mod-eq_of_lt (small c)))
+    by false c = low_gives t down_gives low_64 l

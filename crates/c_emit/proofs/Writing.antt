@@ -37,16 +37,16 @@ use Rattle.c_run.specs.Meaning.{CState, Turn}
 use Rattle.c_run.proofs.Trees.{value_w}
 use Rattle.c_emit.specs.CAs.{IsCall}
 use Rattle.c_emit.specs.Expressions.{low, variable_of}
-use Rattle.c_emit.specs.Body.{temp_of, first_free, sums_from, sum_count, sums, index_of, stores, stores_by, reads, first_of, second_of, writes_var, writes_one, writes, insn_body, variables_of}
-use Rattle.c_emit.proofs.Values.{Gives, add_mod, low_cut}
+use Rattle.c_emit.specs.Body.{temp_of, first_free, sums_from, sum_count, sums, index_of, stores, stores_by, reads, first_of, second_of, writes_var, writes_one, writes, whole_of_all, is_whole, copied, copies, works, copies_or_works, insn_body, variables_of}
+use Rattle.c_emit.proofs.Values.{if_some, Gives, add_mod, low_cut}
 use Rattle.c_emit.proofs.Doing.{Does, does_none, does_both, does_v, does_w, counting, with_v, with_w, scene, v_gives}
 use Rattle.c_emit.proofs.Known.{variable_value}
 use Rattle.c_emit.proofs.Cells.{stores_do, store_one, filled}
-use Rattle.c_emit.proofs.Opcodes.{AreSummed, both_okay}
+use Rattle.c_emit.proofs.Opcodes.{AreSummed, both_okay, whole_one}
 use Rattle.c_emit.proofs.Places.{is_at, size_at}
 use Rattle.c_emit.proofs.Passes.{IsChecked, IsSized, AreSized}
 use Rattle.c_emit.proofs.Agree.{Agrees, agrees_less, agrees_v, change_same, change_other, numbers_apart, fill_same, store_maps, byte_small, lanewise_fits, lanewise_second_fits}
-use Rattle.c_emit.proofs.Reading.{AreHeld, are_held_still, set_room, room_both, reads_do, all_sums_do, count_is, first_gives, second_gives}
+use Rattle.c_emit.proofs.Reading.{AreHeld, are_held_still, set_room, room_both, reads_do, all_sums_do, count_is, copied_gives, first_gives, second_gives}
 
 abbrev done : State → Result State Gap
 done e = Ok e
@@ -326,9 +326,18 @@ module _ (f : FunctionValue) (call : Call) (mem : Memory) (kept : is_function f 
 
   -- ---- one instruction
 
-  pub insn_does : (earlier : List Insn) (insn : Insn) (s : CState) (e e1 : State) → IsChecked f.vars earlier insn → variables_of (insn_body f.vars insn) ≤ c.temps → Agrees f (λ p. is_set earlier p) s e → act f call r i insn e ≡ done e1 → HasDone f c call r i (λ p. is_set (earlier ++ insn ∷ []) p) (insn_body f.vars insn) s e1
-  unfolding insn_body
-  insn_does earlier insn s e e1 ok room g h =
+  -- a place that an instruction sets, or one before it
+  set_more : (earlier : List Insn) (insn : Insn) (p : ℕ) → is_set earlier p || (list_any (is_place p) insn.results.items || false) ≡ true → is_set earlier p || list_any (is_place p) insn.results.items ≡ true
+  set_more earlier insn p h = go (is_set earlier p) (list_any (is_place p) insn.results.items) h
+    where
+      go : (a b : Bool) → a || (b || false) ≡ true → a || b ≡ true
+      go true b h = refl
+      go false true h = refl
+      go false false h = h
+
+  works_do : (earlier : List Insn) (insn : Insn) (s : CState) (e e1 : State) → IsChecked f.vars earlier insn → variables_of (works f.vars insn) ≤ c.temps → Agrees f (λ p. is_set earlier p) s e → act f call r i insn e ≡ done e1 → HasDone f c call r i (λ p. is_set (earlier ++ insn ∷ []) p) (works f.vars insn) s e1
+  unfolding works
+  works_do earlier insn s e e1 ok room g h =
       let d : ℕ = first_free f.vars in
       let d1 : ℕ = sums_from f.vars insn + sum_count insn in
       let rooms = room_both (reads f.vars d insn.sources.items) (sums f.vars insn (sum_count insn) ++ writes f.vars d1 insn insn.results.items) c.temps room in
@@ -341,13 +350,32 @@ module _ (f : FunctionValue) (call : Call) (mem : Memory) (kept : is_function f 
       record {
         state = w.state;
         does = does_both m.does (does_both n.does w.does);
-        agrees = agrees_less (λ p. is_set (earlier ++ insn ∷ []) p) (λ p k h. more p (sym (list_any-append (λ (insn : Insn). list_any (is_place p) insn.results.items) earlier (insn ∷ [])) ∙ h)) w.agrees;
+        agrees = agrees_less (λ p. is_set (earlier ++ insn ∷ []) p) (λ p k h. set_more earlier insn p (sym (list_any-append (λ (insn : Insn). list_any (is_place p) insn.results.items) earlier (insn ∷ [])) ∙ h)) w.agrees;
       }
+
+  copies_do : (earlier : List Insn) (insn : Insn) (s : CState) (e e1 : State) (x : CExpr) → IsChecked f.vars earlier insn → copied f.vars insn ≡ Some x → variables_of (copies f.vars x insn.results.items) ≤ c.temps → Agrees f (λ p. is_set earlier p) s e → act f call r i insn e ≡ done e1 → HasDone f c call r i (λ p. is_set (earlier ++ insn ∷ []) p) (copies f.vars x insn.results.items) s e1
+  copies_do earlier insn s e e1 x ok found room g h =
+      let u = go_on_ok (read_sources f call r i insn.op e insn.sources.items) (λ x. write_results f call r i (lanewise insn.op insn.prefix x.0 x.1) e insn.results.items) e1 (sym (act_near f call r i insn e ok.near) ∙ h) in
+      let gives = copied_gives f call mem kept near counts is good c r i row low_i earlier insn s e u.0.0 u.0.1 x ok g u.1 found in
+      let w = to_all insn.results.items ok.second ok.results ok.sizes room u.0.0 u.0.1 gives u.1 u.2 in
+      record { state = w.state; does = w.does; agrees = agrees_less (λ p. is_set (earlier ++ insn ∷ []) p) (λ p k h. set_more earlier insn p (sym (list_any-append (λ (insn : Insn). list_any (is_place p) insn.results.items) earlier (insn ∷ [])) ∙ h)) w.agrees }
     where
-      more : (p : ℕ) → is_set earlier p || (list_any (is_place p) insn.results.items || false) ≡ true → is_set earlier p || list_any (is_place p) insn.results.items ≡ true
-      more p h = go (is_set earlier p) (list_any (is_place p) insn.results.items) h
-        where
-          go : (a b : Bool) → a || (b || false) ≡ true → a || b ≡ true
-          go true b h = refl
-          go false true h = refl
-          go false false h = h
+      to_all : (xs : List Operand) → (1 < length xs → 0 < size_of_result insn.op 1) → list_all (is_in_range f.vars) xs ≡ true → AreSized f.vars insn.op insn.prefix 0 xs → variables_of (copies f.vars x xs) ≤ c.temps → (a b : ℕ → ℕ) → Gives (scene call (record { row = r; element = i }) s) x (lanewise insn.op insn.prefix a b).0 → read_sources f call r i insn.op e insn.sources.items ≡ both_okay a b
+          → write_results f call r i (lanewise insn.op insn.prefix a b) e xs ≡ done e1 → HasDone f c call r i (λ q. is_set earlier q || list_any (is_place q) xs) (copies f.vars x xs) s e1
+      to_all [] two n sized room a b gives read h = record {
+        state = s;
+        does = does_none c call (record { row = r; element = i }) s;
+        agrees = subst (λ e. Agrees f (λ q. is_set earlier q || false) s e) (ok_same e e1 h) (agrees_less (λ q. is_set earlier q || false) (λ q k h. made_before (is_set earlier q) false h refl) g);
+      }
+      to_all (y ∷ []) two n sized room a b gives read h =
+          let w = write_operand (λ q. is_set earlier q) s e (first_free f.vars) (lanewise insn.op insn.prefix a b).0 (size_of_result insn.op 0 * insn.prefix) x y (both (is_in_range f.vars y) true n).0 (omega arith) room gives sized.0 (small earlier insn ok e e1 a b read) g e1 h in
+          record { state = w.state; does = w.does; agrees = agrees_less (λ q. is_set earlier q || (is_place q y || false)) (λ q k h. or_assoc (is_set earlier q) (is_place q y) false (or_one (is_set earlier q) (is_place q y) h)) (agrees_less (λ q. (is_set earlier q || is_place q y) || false) (λ q k h. made_before (is_set earlier q || is_place q y) false h refl) w.agrees) }
+      to_all (y ∷ z ∷ more) two n sized room a b gives read h = absurd (whole_one insn (if_some (is_whole insn) (whole_of_all f.vars insn.sources.items) x found).0 (two (omega arith)))
+
+  pub insn_does : (earlier : List Insn) (insn : Insn) (s : CState) (e e1 : State) → IsChecked f.vars earlier insn → variables_of (insn_body f.vars insn) ≤ c.temps → Agrees f (λ p. is_set earlier p) s e → act f call r i insn e ≡ done e1 → HasDone f c call r i (λ p. is_set (earlier ++ insn ∷ []) p) (insn_body f.vars insn) s e1
+  unfolding insn_body
+  insn_does earlier insn s e e1 ok room g h = by (copied f.vars insn) refl room
+    where
+      by : (o : Option CExpr) → copied f.vars insn ≡ o → variables_of (copies_or_works f.vars insn o) ≤ c.temps → HasDone f c call r i (λ p. is_set (earlier ++ insn ∷ []) p) (copies_or_works f.vars insn o) s e1
+      by (Some x) found room = copies_do earlier insn s e e1 x ok found room g h
+      by None found room = works_do earlier insn s e e1 ok room g h

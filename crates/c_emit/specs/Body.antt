@@ -1,5 +1,5 @@
 -- The statements that stand for the instructions of a function.
-use Rattle.std.specs.Prelude.{ℕ, zero, suc, ◌+◌, ◌-◌, ◌*◌, ◌%◌, ◌^◌, ◌==◌, nat_le, max, List, [], ◌∷◌, ◌++◌, Option, Some, None, if◌then◌else◌}
+use Rattle.std.specs.Prelude.{ℕ, zero, suc, ◌+◌, ◌-◌, ◌*◌, ◌%◌, ◌^◌, ◌==◌, ◌&&◌, ◌||◌, Bool, nat_le, max, List, [], ◌∷◌, ◌++◌, Option, Some, None, if◌then◌else◌}
 use Rattle.orc_ops.specs.declared.opcode.Op.{Op}
 use Rattle.orc_ops.specs.Table.{row, wide, to, size_of_result, size_of_source}
 use Rattle.orc_program.specs.declared.program.Var.{Var}
@@ -16,7 +16,7 @@ use Rattle.c_run.specs.declared.tree.CExpr.TheVariants.{Number, V, W, P, Byte, T
 use Rattle.c_run.specs.declared.tree.CStmt.{CStmt}
 use Rattle.c_run.specs.declared.tree.CStmt.TheVariants.{SetV, SetW, SetByte}
 use Rattle.c_run.specs.Tree.{CFunctionValue}
-use Rattle.c_emit.specs.Expressions.{low, up, down, variable_of, has_sum, sum, from_sum, first, second}
+use Rattle.c_emit.specs.Expressions.{low, up, moved, part, variable_of, has_sum, is_copy, is_low, sum, from_sum, first}
 
 -- ---- variables: one for each temp, and behind them those of an instruction: the cells of its sources, its sums, and a result
 
@@ -56,9 +56,6 @@ abbrev pub bytes_of : List Var → ℕ → ℕ → ℕ → CExpr
 bytes_of vars p j zero = byte_of vars p j
 bytes_of vars p j (suc n) = Two Add (byte_of vars p j) (up (bytes_of vars p (j + 1) n) 8)
 
-abbrev pub moved : CExpr → ℕ → CExpr
-moved e n = if n == 0 then e else down e n
-
 -- byte j of a variable goes to byte j of a cell, for j below n
 abbrev pub stores : List Var → ℕ → ℕ → ℕ → List CStmt
 stores vars p d zero = []
@@ -82,32 +79,33 @@ reads vars d [] = []
 reads vars d (x ∷ []) = reads_one vars d x
 reads vars d (x ∷ y ∷ more) = reads_one vars d x ++ reads_one vars (d + cells vars x) y
 
--- sub-lane q of w bits of a number of n bytes; nothing is cut where no bits stand above it
-abbrev pub part : ℕ → ℕ → ℕ → CExpr → CExpr
-part n w q e = if nat_le (8 * n) (w * q + w) then moved e (w * q) else low w (moved e (w * q))
+-- What a source gives, where its cell is in variable d: t bits from bit b on. A number that is the same for all sub-lanes has its lowest bits.
+abbrev pub bits_of_var : List Var → ℕ → ℕ → ℕ → ℕ → VarKind → CExpr
+bits_of_var vars b t d p kind.Source = part (var_at vars p).size b t (V d)
+bits_of_var vars b t d p kind.Dest = part (var_at vars p).size b t (V d)
+bits_of_var vars b t d p kind.Temp = part (var_at vars p).size b t (V (temp_of vars p))
+bits_of_var vars b t d p kind.Param = low t (P (count_before kind.Param vars p))
+bits_of_var vars b t d p kind.Const = Number ((var_at vars p).number % 2 ^ t)
+bits_of_var vars b t d p kind.Accumulator = Number 0
 
-abbrev pub lane_of_var : List Var → ℕ → ℕ → ℕ → ℕ → VarKind → CExpr
-lane_of_var vars w q d p kind.Source = part (var_at vars p).size w q (V d)
-lane_of_var vars w q d p kind.Dest = part (var_at vars p).size w q (V d)
-lane_of_var vars w q d p kind.Temp = part (var_at vars p).size w q (V (temp_of vars p))
-lane_of_var vars w q d p kind.Param = low w (P (count_before kind.Param vars p))
-lane_of_var vars w q d p kind.Const = Number ((var_at vars p).number % 2 ^ w)
-lane_of_var vars w q d p kind.Accumulator = Number 0
+abbrev pub bits_of : List Var → ℕ → ℕ → ℕ → Operand → CExpr
+bits_of vars b t d (operand.Var p) = bits_of_var vars b t d p (var_at vars p).kind
+bits_of vars b t d (operand.Number n) = Number (n % 2 ^ t)
 
--- what a source gives to sub-lane q, where its cell is in variable d
-abbrev pub lane_of : List Var → ℕ → ℕ → ℕ → Operand → CExpr
-lane_of vars w q d (operand.Var p) = lane_of_var vars w q d p (var_at vars p).kind
-lane_of vars w q d (operand.Number n) = Number (n % 2 ^ w)
-
--- the two sources of a sub-lane, where the cells are in the variables from d on; a source that isn't there is 0
+-- the two sources of sub-lane q, where the cells are in the variables from d on; a source that isn't there is 0
 abbrev pub lane_first : List Var → Op → ℕ → ℕ → List Operand → CExpr
 lane_first vars op q d [] = Number 0
-lane_first vars op q d (x ∷ more) = lane_of vars (8 * size_of_source op 0) q d x
+lane_first vars op q d (x ∷ more) = bits_of vars (wide op * q) (wide op) d x
 
 abbrev pub lane_second : List Var → Op → ℕ → ℕ → List Operand → CExpr
 lane_second vars op q d [] = Number 0
 lane_second vars op q d (x ∷ []) = Number 0
-lane_second vars op q d (x ∷ y ∷ more) = lane_of vars (8 * size_of_source op 1) q (d + cells vars x) y
+lane_second vars op q d (x ∷ y ∷ more) = bits_of vars (8 * size_of_source op 1 * q) (8 * size_of_source op 1) (d + cells vars x) y
+
+-- the lowest bits of the first one, as many as a result has
+abbrev pub lane_low : List Var → Op → ℕ → ℕ → List Operand → CExpr
+lane_low vars op q d [] = Number 0
+lane_low vars op q d (x ∷ more) = bits_of vars (wide op * q) (to op) d x
 
 -- ---- results
 
@@ -136,10 +134,12 @@ abbrev pub first_at : List Var → Insn → ℕ → CExpr
 first_at vars insn q =
     if has_sum (row insn.op).stem
     then from_sum (row insn.op).stem (wide insn.op) (to insn.op) (V (sums_from vars insn + q))
+    else if is_low (row insn.op).stem
+    then lane_low vars insn.op q (first_free vars) insn.sources.items
     else first (row insn.op).stem (wide insn.op) (to insn.op) (lane_first vars insn.op q (first_free vars) insn.sources.items) (lane_second vars insn.op q (first_free vars) insn.sources.items)
 
 abbrev pub second_at : List Var → Insn → ℕ → CExpr
-second_at vars insn q = second (row insn.op).stem (wide insn.op) (to insn.op) (lane_first vars insn.op q (first_free vars) insn.sources.items) (lane_second vars insn.op q (first_free vars) insn.sources.items)
+second_at vars insn q = lane_low vars insn.op q (first_free vars) insn.sources.items
 
 -- of all sub-lanes
 abbrev pub first_of : List Var → Insn → CExpr
@@ -170,10 +170,48 @@ writes vars d insn [] = []
 writes vars d insn (x ∷ []) = writes_one vars d (first_of vars insn) x
 writes vars d insn (x ∷ y ∷ more) = SetV d (second_of vars insn) ∷ (writes_one vars (d + 1) (first_of vars insn) x ++ writes_one vars (d + 1) (V d) y)
 
+-- ---- copies
+
+-- all sub-lanes of a source together: the cell of an array, or a temp
+abbrev pub whole_of_var : List Var → ℕ → VarKind → Option CExpr
+whole_of_var vars p kind.Source = Some (bytes_of vars p 0 ((var_at vars p).size - 1))
+whole_of_var vars p kind.Dest = Some (bytes_of vars p 0 ((var_at vars p).size - 1))
+whole_of_var vars p kind.Temp = Some (V (temp_of vars p))
+whole_of_var vars p k = None
+
+abbrev pub whole_of : List Var → Operand → Option CExpr
+whole_of vars (operand.Var p) = whole_of_var vars p (var_at vars p).kind
+whole_of vars (operand.Number n) = None
+
+abbrev pub whole_of_all : List Var → List Operand → Option CExpr
+whole_of_all vars [] = None
+whole_of_all vars (x ∷ []) = whole_of vars x
+whole_of_all vars (x ∷ y ∷ more) = None
+
+-- the result is all that the source has: no sub-lane of it is widened beside another
+abbrev pub is_whole : Insn → Bool
+is_whole insn = is_copy (row insn.op).stem && (wide insn.op == to insn.op || insn.prefix == 1)
+
+-- what an instruction copies as a whole
+abbrev pub copied : List Var → Insn → Option CExpr
+copied vars insn = if is_whole insn then whole_of_all vars insn.sources.items else None
+
+abbrev pub copies : List Var → CExpr → List Operand → List CStmt
+copies vars e [] = []
+copies vars e (x ∷ more) = writes_one vars (first_free vars) e x
+
 -- ---- the whole
 
+-- an instruction that is more than a copy
+unfoldable pub works : List Var → Insn → List CStmt
+works vars insn = reads vars (first_free vars) insn.sources.items ++ (sums vars insn (sum_count insn) ++ writes vars (sums_from vars insn + sum_count insn) insn insn.results.items)
+
+abbrev pub copies_or_works : List Var → Insn → Option CExpr → List CStmt
+copies_or_works vars insn (Some e) = copies vars e insn.results.items
+copies_or_works vars insn None = works vars insn
+
 unfoldable pub insn_body : List Var → Insn → List CStmt
-insn_body vars insn = reads vars (first_free vars) insn.sources.items ++ (sums vars insn (sum_count insn) ++ writes vars (sums_from vars insn + sum_count insn) insn insn.results.items)
+insn_body vars insn = copies_or_works vars insn (copied vars insn)
 
 abbrev pub body_of : List Var → List Insn → List CStmt
 body_of vars [] = []

@@ -52,6 +52,17 @@ up e n = Two Shl e (Number n)
 abbrev pub down : CExpr → ℕ → CExpr
 down e n = Two Shr e (Number n)
 
+-- and where there may be none to shift by
+abbrev pub raised : CExpr → ℕ → CExpr
+raised e n = if n == 0 then e else up e n
+
+abbrev pub moved : CExpr → ℕ → CExpr
+moved e n = if n == 0 then e else down e n
+
+-- t bits, from bit b on, of a number of n bytes; nothing is cut where no bits stand above them
+abbrev pub part : ℕ → ℕ → ℕ → CExpr → CExpr
+part n b t e = if nat_le (8 * n) (b + t) then moved e b else low t (moved e b)
+
 abbrev pub plus : CExpr → ℕ → CExpr
 plus e n = Two Add e (Number n)
 
@@ -111,14 +122,14 @@ half_by w count None = Two Shr (Number (half w)) (few w count)
 abbrev pub half_down : ℕ → CExpr → CExpr
 half_down w count = half_by w count (number_of count)
 
--- byte k of an expression at place j
+-- byte k of an expression of n bytes, at the place that it has in reverse order
 abbrev pub byte_to : CExpr → ℕ → ℕ → CExpr
-byte_to e k j = up (Two And (down e (8 * k)) (Number 255)) (8 * j)
+byte_to e n k = raised (part n (8 * k) 8 e) (8 * (n - 1 - k))
 
--- the lowest k bytes of an expression of n bytes, in reverse order
+-- the lowest k bytes and one more, in reverse order
 abbrev pub swapped : CExpr → ℕ → ℕ → CExpr
-swapped e n zero = Number 0
-swapped e n (suc k) = Two Add (swapped e n k) (byte_to e k (n - 1 - k))
+swapped e n zero = byte_to e n 0
+swapped e n (suc k) = Two Add (swapped e n k) (byte_to e n (suc k))
 
 -- ---- formulas
 
@@ -129,6 +140,7 @@ has_sum stem.Addus = true
 has_sum stem.Subss = true
 has_sum stem.Convsss = true
 has_sum stem.Div255 = true
+has_sum stem.Divlu = true
 has_sum s = false
 
 -- that number
@@ -138,6 +150,7 @@ sum stem.Addus w t x y = Two Add x y
 sum stem.Subss w t x y = Two Sub (plus (turned w x) (2 ^ w)) (turned w y)
 sum stem.Convsss w t x y = turned w x
 sum stem.Div255 w t x y = low 16 (plus x 128)
+sum stem.Divlu w t x y = let d = low 8 y in Choose (Test Equal d (Number 0)) (Number 255) (Two Div x d)
 sum s w t x y = x
 
 -- and the result from it
@@ -147,6 +160,7 @@ from_sum stem.Addus w t e = at_most (ones t) e
 from_sum stem.Subss w t e = clamped t (2 ^ t) e
 from_sum stem.Convsss w t e = clamped t (half w) e
 from_sum stem.Div255 w t e = down (low 16 (Two Add e (down e 8))) 8
+from_sum stem.Divlu w t e = at_most 255 e
 from_sum s w t e = e
 
 -- The first result of a stem from sources of w bits to t bits, by the expressions of its sources. The second is a 64-bit count for a shift.
@@ -192,14 +206,24 @@ first stem.Splat w t x y = Two Mul x (Number (ones t / 255))
 first stem.Splatw3 w t x y = Two Mul (down x 48) (Number (ones 64 / ones 16))
 first stem.Merge w t x y = Two Add x (up y w)
 first stem.Split w t x y = down x t
-first stem.Swap w t x y = swapped x (w / 8) (w / 8)
+first stem.Swap w t x y = swapped x (w / 8) (w / 8 - 1)
 first stem.Exchange w t x y = Two Add (up (low (w / 2) x) (w / 2)) (down x (w / 2))
 first stem.Div255 w t x y = from_sum stem.Div255 w t (sum stem.Div255 w t x y)
-first stem.Divlu w t x y = let d = low 8 y in Choose (Test Equal d (Number 0)) (Number 255) (at_most 255 (Two Div x d))
+first stem.Divlu w t x y = from_sum stem.Divlu w t (sum stem.Divlu w t x y)
 
 -- the second result, which only a split has
 abbrev pub second : Stem → ℕ → ℕ → CExpr → CExpr → CExpr
 second s w t x y = low t x
+
+-- the stem whose result is the number of its source
+abbrev pub is_copy : Stem → Bool
+is_copy stem.Copy = true
+is_copy s = false
+
+-- the stem whose result is the lowest bits of its source
+abbrev pub is_low : Stem → Bool
+is_low stem.Low = true
+is_low s = false
 
 -- ---- widths
 

@@ -1,6 +1,6 @@
 //! The statements of an instruction.
 
-ghost use Rattle.std.specs.Prelude.{◌≡◌, ◌<◌, ◌≤◌, ◌+◌, ◌*◌, ◌-◌, ◌++◌, true, IfOk, OnOk, length};
+ghost use Rattle.std.specs.Prelude.{◌≡◌, ◌<◌, ◌≤◌, ◌+◌, ◌*◌, ◌-◌, ◌^◌, ◌++◌, true, IfOk, OnOk, length};
 ghost use Rattle.std.specs.List.{list_all};
 ghost use Rattle.orc_bits.specs.Widths.{IsWidth};
 ghost use Rattle.orc_ops.specs.Table.{row, wide, to, size_of_source};
@@ -11,8 +11,8 @@ ghost use Rattle.c_emit.specs.Expressions as expressions;
 ghost use Rattle.c_emit.specs.Body as body;
 ghost use Rattle.c_emit.specs.Shapes.{Fits, is_there};
 
-use crate::build::{down, low, number, two, up, variable_of};
-use crate::formulas::{first, from_sum, has_sum, sum};
+use crate::build::{low, moved, number, part, two, up, variable_of};
+use crate::formulas::{first, from_sum, has_sum, is_copy, is_low, sum};
 use c_run::{CBody, CExpr, CIndex, COp, CStmt};
 use orc_bits::cut;
 use orc_emul::{array_number, count, count_before, variable};
@@ -120,65 +120,48 @@ fn bytes_of(alloc: Global, f: &Function, p: u16, j: u8, n: u8) -> Result<CExpr, 
     two(alloc, COp::Add, byte, high)
 }
 
-/// An expression shifted down, where there is a shift.
-fn moved(alloc: Global, e: CExpr, n: u64) -> Result<CExpr, AllocError>
-    ensures { IfOk result (λ r. r ≡ body.moved e n) }
-{
-    if n == 0 { Ok(e) } else { down(alloc, e, n) }
-}
-
-/// Sub-lane q of w bits of a number of n bytes. Nothing is cut where no bits stand above it.
-fn part(alloc: Global, n: u8, w: u32, q: u8, e: CExpr) -> Result<CExpr, AllocError>
-    requires { IsWidth w }
-    ensures { IfOk result (λ r. r ≡ body.part n w q e) }
-{
-    let from = u64::from(w) * u64::from(q);
-    let lane = moved(alloc, e, from)?;
-    if 8 * u64::from(n) <= from + u64::from(w) {
-        return Ok(lane);
-    }
-    low(alloc, w, lane)
-}
-
-/// What a variable gives to a sub-lane, where its cell is in variable d.
-fn lane_of_var(
+/// What a variable gives, where its cell is in variable d: so many bits from one on.
+fn bits_of_var(
     alloc: Global,
     f: &Function,
-    w: u32,
-    q: u8,
+    from: u64,
+    bits: u32,
     d: u8,
     p: u16,
 ) -> Result<CExpr, AllocError>
     requires inside { p < length f.now.vars }
-    requires width { IsWidth w }
-    ensures { IfOk result (λ e. e ≡ body.lane_of_var f.now.vars w q d p (var_at f.now.vars p).kind) }
+    requires from { from < 2 ^ 63 }
+    requires width { IsWidth bits }
+    ensures { IfOk result (λ e. e ≡ body.bits_of_var f.now.vars from bits d p (var_at f.now.vars p).kind) }
 {
     let var = variable(f, p);
     match var.kind {
-        VarKind::Source | VarKind::Dest => part(alloc, var.size, w, q, CExpr::V(d)),
-        VarKind::Temp => part(alloc, var.size, w, q, CExpr::V(temp_of(f, p))),
-        VarKind::Param => low(alloc, w, CExpr::P(number_of(f, VarKind::Param, p))),
-        VarKind::Const => Ok(number(cut(var.number, w))),
+        VarKind::Source | VarKind::Dest => part(alloc, var.size, from, bits, CExpr::V(d)),
+        VarKind::Temp => part(alloc, var.size, from, bits, CExpr::V(temp_of(f, p))),
+        VarKind::Param => low(alloc, bits, CExpr::P(number_of(f, VarKind::Param, p))),
+        VarKind::Const => Ok(number(cut(var.number, bits))),
         VarKind::Accumulator => Ok(number(0)),
     }
 }
 
-/// What a source gives to a sub-lane, where its cell, if it is an array, is in variable d.
-fn lane_of(
+/// What a source gives, where its cell, if it is an array, is in variable d: so many bits from one on. A number that is the same for all
+/// sub-lanes gives its lowest bits.
+fn bits_of(
     alloc: Global,
     f: &Function,
-    w: u32,
-    q: u8,
+    from: u64,
+    bits: u32,
     d: u8,
     source: Operand,
 ) -> Result<CExpr, AllocError>
     requires known { is_in_range f.now.vars source ≡ true }
-    requires width { IsWidth w }
-    ensures { IfOk result (λ e. e ≡ body.lane_of f.now.vars w q d source) }
+    requires from { from < 2 ^ 63 }
+    requires width { IsWidth bits }
+    ensures { IfOk result (λ e. e ≡ body.bits_of f.now.vars from bits d source) }
 {
     match source {
-        Operand::Var(p) => lane_of_var(alloc, f, w, q, d, p),
-        Operand::Number(n) => Ok(number(cut(n, w))),
+        Operand::Var(p) => bits_of_var(alloc, f, from, bits, d, p),
+        Operand::Number(n) => Ok(number(cut(n, bits))),
     }
 }
 
@@ -188,14 +171,38 @@ fn lane_first(
     f: &Function,
     op: Op,
     q: u8,
-    from: &[Operand],
+    operands: &[Operand],
 ) -> Result<CExpr, AllocError>
-    requires { list_all (is_in_range f.now.vars) from.now ≡ true }
-    ensures { IfOk result (λ e. e ≡ body.lane_first f.now.vars op q (body.first_free f.now.vars) from.now) }
+    requires { list_all (is_in_range f.now.vars) operands.now ≡ true }
+    ensures { IfOk result (λ e. e ≡ body.lane_first f.now.vars op q (body.first_free f.now.vars) operands.now) }
 {
-    match from {
+    match operands {
         [] => Ok(number(0)),
-        [x, ..] => lane_of(alloc, f, wide_of(op), q, first_free(f), *x),
+        [x, ..] => {
+            let bits = wide_of(op);
+            let from = u64::from(bits) * u64::from(q);
+            bits_of(alloc, f, from, bits, first_free(f), *x)
+        }
+    }
+}
+
+/// The lowest bits of the first source of a sub-lane, as many as a result has.
+fn lane_low(
+    alloc: Global,
+    f: &Function,
+    op: Op,
+    q: u8,
+    operands: &[Operand],
+) -> Result<CExpr, AllocError>
+    requires { list_all (is_in_range f.now.vars) operands.now ≡ true }
+    ensures { IfOk result (λ e. e ≡ body.lane_low f.now.vars op q (body.first_free f.now.vars) operands.now) }
+{
+    match operands {
+        [] => Ok(number(0)),
+        [x, ..] => {
+            let from = u64::from(wide_of(op)) * u64::from(q);
+            bits_of(alloc, f, from, to_of(op), first_free(f), *x)
+        }
     }
 }
 
@@ -214,17 +221,19 @@ fn lane_second(
     f: &Function,
     op: Op,
     q: u8,
-    from: &[Operand],
+    operands: &[Operand],
 ) -> Result<CExpr, AllocError>
-    requires known { list_all (is_in_range f.now.vars) from.now ≡ true }
-    requires there { 1 < length from.now → is_there (size_of_source op 1) ≡ true }
-    ensures { IfOk result (λ e. e ≡ body.lane_second f.now.vars op q (body.first_free f.now.vars) from.now) }
+    requires known { list_all (is_in_range f.now.vars) operands.now ≡ true }
+    requires there { 1 < length operands.now → is_there (size_of_source op 1) ≡ true }
+    ensures { IfOk result (λ e. e ≡ body.lane_second f.now.vars op q (body.first_free f.now.vars) operands.now) }
 {
-    match from {
+    match operands {
         [] | [_] => Ok(number(0)),
         [x, y, ..] => {
             let d = first_free(f) + cells(f, *x);
-            lane_of(alloc, f, second_wide_of(op), q, d, *y)
+            let bits = second_wide_of(op);
+            let from = u64::from(bits) * u64::from(q);
+            bits_of(alloc, f, from, bits, d, *y)
         }
     }
 }
@@ -324,6 +333,8 @@ fn first_at(alloc: Global, f: &Function, insn: &Insn, q: u8) -> Result<CExpr, Al
 {
     if has_sum(stem_of(insn.op)) {
         first_by_sum(alloc, f, insn, q)
+    } else if is_low(stem_of(insn.op)) {
+        lane_low(alloc, f, insn.op, q, insn.sources.as_slice())
     } else {
         first_by_lanes(alloc, f, insn, q)
     }
@@ -334,8 +345,7 @@ fn second_at(alloc: Global, f: &Function, insn: &Insn, q: u8) -> Result<CExpr, A
     requires { Fits f.now.vars insn.now }
     ensures { IfOk result (λ e. e ≡ body.second_at f.now.vars insn.now q) }
 {
-    let x = lane_first(alloc, f, insn.op, q, insn.sources.as_slice())?;
-    low(alloc, to_of(insn.op), x)
+    lane_low(alloc, f, insn.op, q, insn.sources.as_slice())
 }
 
 /// The first results of all sub-lanes, packed.
@@ -540,13 +550,101 @@ fn add_writes(
     }
 }
 
-/// The statements of an instruction: its sources are read from the left, its sums are kept, and its results are computed and written.
+/// All sub-lanes of the variable at a place together: the cell of an array, or a temp.
+fn whole_of_var(alloc: Global, f: &Function, p: u16) -> Result<Option<CExpr>, AllocError>
+    requires { p < length f.now.vars }
+    ensures { IfOk result (λ e. e ≡ body.whole_of_var f.now.vars p (var_at f.now.vars p).kind) }
+{
+    let var = variable(f, p);
+    match var.kind {
+        VarKind::Source | VarKind::Dest => {
+            let bytes = bytes_of(alloc, f, p, 0, var.size.saturating_sub(1))?;
+            Ok(Some(bytes))
+        }
+        VarKind::Temp => Ok(Some(CExpr::V(temp_of(f, p)))),
+        VarKind::Accumulator | VarKind::Param | VarKind::Const => Ok(None),
+    }
+}
+
+/// All sub-lanes of a source together.
+fn whole_of(alloc: Global, f: &Function, source: Operand) -> Result<Option<CExpr>, AllocError>
+    requires { is_in_range f.now.vars source ≡ true }
+    ensures { IfOk result (λ e. e ≡ body.whole_of f.now.vars source) }
+{
+    match source {
+        Operand::Var(p) => whole_of_var(alloc, f, p),
+        Operand::Number(_) => Ok(None),
+    }
+}
+
+/// All sub-lanes of the one source together.
+fn whole_of_all(alloc: Global, f: &Function, from: &[Operand]) -> Result<Option<CExpr>, AllocError>
+    requires { list_all (is_in_range f.now.vars) from.now ≡ true }
+    ensures { IfOk result (λ e. e ≡ body.whole_of_all f.now.vars from.now) }
+{
+    match from {
+        [x] => whole_of(alloc, f, *x),
+        [] | [_, _, ..] => Ok(None),
+    }
+}
+
+/// Whether an instruction's result is all that its source has: no sub-lane of it is widened beside another.
+fn is_whole(insn: &Insn) -> bool
+    ensures { result ≡ body.is_whole insn.now }
+{
+    is_copy(stem_of(insn.op)) && (wide_of(insn.op) == to_of(insn.op) || insn.prefix == 1)
+}
+
+/// What an instruction copies as a whole.
+fn copied(alloc: Global, f: &Function, insn: &Insn) -> Result<Option<CExpr>, AllocError>
+    requires { Fits f.now.vars insn.now }
+    ensures { IfOk result (λ e. e ≡ body.copied f.now.vars insn.now) }
+{
+    if is_whole(insn) {
+        whole_of_all(alloc, f, insn.sources.as_slice())
+    } else {
+        Ok(None)
+    }
+}
+
+/// What is copied goes to the result.
+fn add_copies(
+    alloc: Global,
+    f: &Function,
+    to: &mut CBody,
+    insn: &Insn,
+    e: CExpr,
+) -> Result<(), AllocError>
+    requires { Fits f.now.vars insn.now }
+    ensures { OnOk result (to.new ≡ to.old ++ body.copies f.now.vars e insn.now.results.items) }
+{
+    match insn.results.as_slice() {
+        [] => Ok(()),
+        [x, ..] => add_write(alloc, f, to, first_free(f), *x, e),
+    }
+}
+
+/// The statements of an instruction that is more than a copy: its sources are read from the left, its sums are kept, and its results are
+/// computed and written.
+#[tactic(auto, unfolding(crate::specs::Body::works))]
+fn add_works(alloc: Global, f: &Function, to: &mut CBody, insn: &Insn) -> Result<(), AllocError>
+    requires { Fits f.now.vars insn.now }
+    ensures { OnOk result (to.new ≡ to.old ++ body.works f.now.vars insn.now) }
+{
+    add_reads(alloc, f, to, insn.sources.as_slice())?;
+    add_sums(alloc, f, to, insn)?;
+    add_writes(alloc, f, to, sums_from(f, insn) + sum_count(insn), insn)
+}
+
+/// The statements of an instruction.
 #[tactic(auto, unfolding(crate::specs::Body::insn_body))]
 pub fn add_insn(alloc: Global, f: &Function, to: &mut CBody, insn: &Insn) -> Result<(), AllocError>
     requires { Fits f.now.vars insn.now }
     ensures { OnOk result (to.new ≡ to.old ++ body.insn_body f.now.vars insn.now) }
 {
-    add_reads(alloc, f, to, insn.sources.as_slice())?;
-    add_sums(alloc, f, to, insn)?;
-    add_writes(alloc, f, to, sums_from(f, insn) + sum_count(insn), insn)
+    let whole = copied(alloc, f, insn)?;
+    match whole {
+        Some(e) => add_copies(alloc, f, to, insn, e),
+        None => add_works(alloc, f, to, insn),
+    }
 }

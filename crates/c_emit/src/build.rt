@@ -1,6 +1,6 @@
 //! Expressions from their parts.
 
-ghost use Rattle.std.specs.Prelude.{◌≡◌, ◌<◌, ◌≤◌, ◌+◌, ◌/◌, ◌^◌, IfOk};
+ghost use Rattle.std.specs.Prelude.{◌≡◌, ◌<◌, ◌≤◌, ◌+◌, ◌-◌, ◌/◌, ◌^◌, IfOk};
 ghost use Rattle.orc_bits.specs.Widths.{IsWidth};
 ghost use Rattle.orc_ops.specs.Stems.{ones};
 ghost use Rattle.c_run.specs.declared.tree.CCmp.TheVariants.{Equal};
@@ -106,6 +106,33 @@ pub fn down(alloc: Global, e: CExpr, n: u64) -> Result<CExpr, AllocError>
     ensures { IfOk result (λ r. r ≡ expressions.down e n) }
 {
     two(alloc, COp::Shr, e, number(n))
+}
+
+/// An expression shifted up, where there is a shift.
+fn raised(alloc: Global, e: CExpr, n: u64) -> Result<CExpr, AllocError>
+    ensures { IfOk result (λ r. r ≡ expressions.raised e n) }
+{
+    if n == 0 { Ok(e) } else { up(alloc, e, n) }
+}
+
+/// An expression shifted down, where there is a shift.
+pub fn moved(alloc: Global, e: CExpr, n: u64) -> Result<CExpr, AllocError>
+    ensures { IfOk result (λ r. r ≡ expressions.moved e n) }
+{
+    if n == 0 { Ok(e) } else { down(alloc, e, n) }
+}
+
+/// So many bits of a number of n bytes, from one on. Nothing is cut where no bits stand above them.
+pub fn part(alloc: Global, n: u8, from: u64, bits: u32, e: CExpr) -> Result<CExpr, AllocError>
+    requires from { from < 2 ^ 63 }
+    requires bits { bits ≤ 64 }
+    ensures { IfOk result (λ r. r ≡ expressions.part n from bits e) }
+{
+    let lane = moved(alloc, e, from)?;
+    if 8 * u64::from(n) <= from + u64::from(bits) {
+        return Ok(lane);
+    }
+    low(alloc, bits, lane)
 }
 
 /// An expression plus a number.
@@ -283,25 +310,26 @@ pub fn half_down(alloc: Global, w: u32, count: &CExpr) -> Result<CExpr, AllocErr
     }
 }
 
-/// Byte k of an expression at place j.
-fn byte_to(alloc: Global, e: &CExpr, k: u64, j: u64) -> Result<CExpr, AllocError>
-    requires k { k < 8 }
-    requires j { j < 8 }
-    ensures { IfOk result (λ r. r ≡ expressions.byte_to e.now k j) }
+/// Byte k of an expression of n bytes, at the place that it has in reverse order.
+fn byte_to(alloc: Global, e: &CExpr, n: u8, k: u8) -> Result<CExpr, AllocError>
+    requires n { n ≤ 8 }
+    requires k { k < n }
+    ensures { IfOk result (λ r. r ≡ expressions.byte_to e.now n k) }
 {
-    let moved = down(alloc, copy(alloc, e)?, 8 * k)?;
-    let byte = two(alloc, COp::And, moved, number(255))?;
-    up(alloc, byte, 8 * j)
+    let kept = copy(alloc, e)?;
+    let byte = part(alloc, n, 8 * u64::from(k), 8, kept)?;
+    raised(alloc, byte, 8 * u64::from(n - 1 - k))
 }
 
 /// The bytes of an expression of n bytes, in reverse order.
-pub fn swapped(alloc: Global, e: &CExpr, n: u64) -> Result<CExpr, AllocError>
-    requires { n ≤ 8 }
-    ensures { IfOk result (λ r. r ≡ expressions.swapped e.now n n) }
+pub fn swapped(alloc: Global, e: &CExpr, n: u8) -> Result<CExpr, AllocError>
+    requires some { 0 < n }
+    requires few { n ≤ 8 }
+    ensures { IfOk result (λ r. r ≡ expressions.swapped e.now n (n - 1)) }
 {
-    let mut all = number(0);
-    for k in 0..n {
-        let byte = byte_to(alloc, e, k, n - 1 - k)?;
+    let mut all = byte_to(alloc, e, n, 0)?;
+    for k in 0..n - 1 {
+        let byte = byte_to(alloc, e, n, k + 1)?;
         all = two(alloc, COp::Add, all, byte)?;
     }
     Ok(all)

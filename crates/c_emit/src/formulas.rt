@@ -408,7 +408,7 @@ fn swap(alloc: Global, w: u32, x: CExpr) -> Result<CExpr, AllocError>
     requires { IsWidth w }
     ensures { IfOk result (λ e. e ≡ first stem.Swap w w x x) }
 {
-    swapped(alloc, &x, u64::from(w / 8))
+    swapped(alloc, &x, (w / 8) as u8)
 }
 
 /// The halves exchanged.
@@ -423,26 +423,29 @@ fn exchange(alloc: Global, w: u32, x: CExpr) -> Result<CExpr, AllocError>
     two(alloc, COp::Add, moved, high)
 }
 
-/// A division by a byte, at most 255.
-fn divlu(alloc: Global, x: CExpr, y: CExpr) -> Result<CExpr, AllocError>
-    ensures { IfOk result (λ e. e ≡ first stem.Divlu 0 0 x y) }
-{
-    let divisor = low(alloc, 8, y)?;
-    let tested = copy(alloc, &divisor)?;
-    let is_zero = equal(alloc, tested, number(0))?;
-    let quotient = two(alloc, COp::Div, x, divisor)?;
-    let least = at_most(alloc, 255, quotient)?;
-    choose(alloc, is_zero, number(255), least)
-}
-
 /// Whether the formula of a stem has a number more than once, which a variable keeps.
 pub fn has_sum(stem: Stem) -> bool
     ensures { result ≡ expressions.has_sum stem }
 {
     match stem {
-        Stem::Addss | Stem::Addus | Stem::Subss | Stem::Convsss | Stem::Div255 => true,
+        Stem::Addss | Stem::Addus | Stem::Subss | Stem::Convsss | Stem::Div255 | Stem::Divlu =>
+            true,
         _ => false,
     }
+}
+
+/// Whether the result of a stem is the number of its source.
+pub fn is_copy(stem: Stem) -> bool
+    ensures { result ≡ expressions.is_copy stem }
+{
+    matches!(stem, Stem::Copy)
+}
+
+/// Whether the result of a stem is the lowest bits of its source.
+pub fn is_low(stem: Stem) -> bool
+    ensures { result ≡ expressions.is_low stem }
+{
+    matches!(stem, Stem::Low)
 }
 
 /// The sum of two distances.
@@ -475,6 +478,17 @@ fn div255_sum(alloc: Global, x: CExpr) -> Result<CExpr, AllocError>
     low(alloc, 16, sum)
 }
 
+/// The quotient by a byte, or 255 where that is 0.
+fn divlu_sum(alloc: Global, x: CExpr, y: CExpr) -> Result<CExpr, AllocError>
+    ensures { IfOk result (λ e. e ≡ expressions.sum stem.Divlu 0 0 x y) }
+{
+    let divisor = low(alloc, 8, y)?;
+    let tested = copy(alloc, &divisor)?;
+    let is_zero = equal(alloc, tested, number(0))?;
+    let quotient = two(alloc, COp::Div, x, divisor)?;
+    choose(alloc, is_zero, number(255), quotient)
+}
+
 /// The number that the formula of a stem has more than once.
 pub fn sum(
     alloc: Global,
@@ -494,6 +508,7 @@ pub fn sum(
         Stem::Subss => subss_sum(alloc, w, x, y),
         Stem::Convsss => turned(alloc, w, x),
         Stem::Div255 => div255_sum(alloc, x),
+        Stem::Divlu => divlu_sum(alloc, x, y),
         _ => Ok(x),
     }
 }
@@ -541,6 +556,7 @@ pub fn from_sum(alloc: Global, stem: Stem, w: u32, t: u32, e: CExpr) -> Result<C
         Stem::Subss => clamped_sum(alloc, t, e),
         Stem::Convsss => clamped_distance(alloc, w, t, e),
         Stem::Div255 => div255_from(alloc, e),
+        Stem::Divlu => at_most(alloc, 255, e),
         _ => Ok(e),
     }
 }
@@ -622,6 +638,6 @@ pub fn first(
         Stem::Swap => swap(alloc, w, x),
         Stem::Exchange => exchange(alloc, w, x),
         Stem::Div255 => by_sum(alloc, Stem::Div255, w, t, x, y),
-        Stem::Divlu => divlu(alloc, x, y),
+        Stem::Divlu => by_sum(alloc, Stem::Divlu, w, t, x, y),
     }
 }

@@ -14,8 +14,8 @@ use arrayvec::ArrayVec;
 use orc_ops::{Op, Target};
 use orc_plan::{Item, Step};
 use orc_program::{Operand, Pattern};
-use sse41::rule41;
 use sse_shift::shift_by;
+use sse41::rule41;
 use x86_ins::Ins;
 
 /// The number of a pattern, unless it is that of a parameter.
@@ -56,12 +56,7 @@ pub fn has_count(seats: &Seats<'_>, step: &Step) -> bool
 }
 
 /// Instructions of a target that do what a step's opcode says. A known count is in the instruction, where there is one for it.
-pub fn rule_of(
-    seats: &Seats<'_>,
-    step: &Step,
-    target: Target,
-    count: usize,
-) -> ArrayVec<Ins, 100>
+pub fn rule_of(seats: &Seats<'_>, step: &Step, target: Target, count: usize) -> ArrayVec<Ins, 100>
     requires { HasRule count step.now.op }
     ensures meets { is_sum (row step.now.op).kind ≡ false → MeetsBy (count_by (seats_in seats.now) step.now.op step.now.sources.items) step.now.op result.items }
     ensures adds { is_sum (row step.now.op).kind ≡ true → (count_by (seats_in seats.now) step.now.op step.now.sources.items ≡ None) × AddsUp step.now.op count result.items }

@@ -2,6 +2,7 @@ mod failures;
 mod far;
 mod hostile;
 mod meaning;
+mod opcodes;
 mod stated;
 
 ghost use Rattle.std.specs.Prelude.{◌<◌};

@@ -17,7 +17,7 @@ use Rattle.x86_flow.proofs.Touching.{touches_in}
 use Rattle.x86_flow.proofs.Words.{at_away}
 use Rattle.orc_frame.specs.Layout.{pattern_slot, sum_slot, frame_size}
 use Rattle.orc_frame.specs.Parts.{InFrame, InRunning}
-use Rattle.orc_region.specs.Code.{resident_register, last_place, is_resident, resident_load_code, loads_code, resident_loads_code, sum_store_code, sum_stores_code}
+use Rattle.orc_region.specs.Code.{resident_register, last_place, resident_load_code, loads_code, resident_loads_code, sum_store_code, sum_stores_code}
 use Rattle.orc_region.specs.Elements.{sum_byte}
 use Rattle.orc_region.proofs.Block.Frames.{load_slot, store_slot}
 use Rattle.orc_region.proofs.Block.Sums.{IsResident, IsFramed, resident_yes, resident_no, byte_register, byte_slot}

@@ -2,7 +2,7 @@ use Rattle.std.proofs.Common.{◌≡◌, ◌*◌, ◌/◌, ◌<◌, ◌≤◌, �
 use Rattle.orc_plan.specs.Core.{CoreValue}
 use Rattle.orc_frame.proofs.Counted.{ok_map}
 use Rattle.orc_region.proofs.Checked.Several.{lanes_count}
-use Rattle.orc_region.proofs.Built.Turns.{lanes_few, half_in_lanes, whole_is, whole_first, plain_first, by_lanes}
+use Rattle.orc_region.proofs.Built.Turns.{lanes_few, half_in_lanes, whole_is, whole_first, plain_first}
 use Rattle.orc_region.proofs.turns.from_first.Goals as goal
 
 pub divides_each-requires : goal.divides_each-requires
@@ -32,5 +32,5 @@ returns c =
     let m = c.args.making.now in
     ok_map c.plain_loops.result _ _
     (λ t e f are. plain_first m.target f m.places.now c.core.inside.lanes (ap (λ (x : CoreValue). x.lanes) c.core.view_is ∙ are.are.lanes) (sym (whole_is f m.layout.now are.are.layout c.core.inside.lanes (ap (λ (x : CoreValue). x.lanes) c.core.view_is ∙ are.are.lanes)) ∙ sym c.divides_each.ensures ∙ c.if-divides_each.false)
-    _ (c.in_ok-ends.ensures.is f are) c.args.turns t e)
+    _ (c.in_ok-tail.ensures.is f are) c.args.turns t e)
     c.plain_loops.ensures
