@@ -1,5 +1,5 @@
 -- The turns over the elements of a row, and the loops around them, as they are built.
-use Rattle.std.proofs.Common.{◌≡◌, ◌≢◌, ℕ, zero, suc, ◌+◌, ◌*◌, ◌/◌, ◌^◌, ◌++◌, ◌∷◌, le_refl, ◌<◌, ◌≤◌, ◌==◌, ◌&&◌, ◌⊎◌, if◌then◌else◌, Bool, true, false, true≢false, All, IsTrue, List, [], length, nat_lt, nat_le, slice_index, sym, ap, ap₂, ◌∙◌, subst, arith, inl, inr, refl, ⊎_elim}
+use Rattle.std.proofs.Common.{◌≡◌, ◌≢◌, ℕ, zero, suc, ◌+◌, ◌*◌, ◌/◌, ◌^◌, ◌++◌, ◌∷◌, le_refl, ◌<◌, ◌≤◌, ◌==◌, ◌&&◌, ◌⊎◌, if◌then◌else◌, Bool, true, false, true≢false, All, IsTrue, List, [], length, nat_lt, nat_le, slice_index, sym, ap, ap₂, ◌∙◌, subst, arith, inl, inr, refl}
 use Rattle.std.proofs.lemmas.Bool.{ne_eqb, lt-ltb, ltb-true, eqb-true}
 use Rattle.std.proofs.lemmas.Nat.{pow-add}
 use Rattle.std.proofs.Math.Nat.{mul_assoc}

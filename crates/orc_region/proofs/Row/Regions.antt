@@ -2,7 +2,7 @@
 use Rattle.std.proofs.Common.{◌≡◌, ◌≢◌, min, le_refl, ℕ, zero, suc, ◌+◌, ◌-◌, ◌*◌, ◌/◌, ◌%◌, ◌^◌, ◌<◌, ◌≤◌, ◌==◌, nat_le, nat_lt, cond, not, Bool, true, false, if◌then◌else◌, pos, List, [], ◌∷◌, ◌++◌, length, bit_and, Option, Some, None, Ok, refl, sym, ap, ◌∙◌, subst, arith, length-append, suc-mul, ◌⊎◌, inl, inr, ⊎_elim}
 use Rattle.std.proofs.lemmas.Bool.{cases_lt, cases_eq}
 use Rattle.std.proofs.lemmas.Nat.{and_mask, div-add-mod'}
-use Rattle.std.proofs.Math.Nat.{add-mul, mul-add, mul_assoc, mod-lt, mul-le-mul_left, mul-le-mul_right, mod-eq_of_lt}
+use Rattle.std.proofs.Math.Nat.{add-mul, mul_assoc, mod-lt, mul-le-mul_left, mul-le-mul_right, mod-eq_of_lt}
 use Rattle.std.specs.Int.Bits.{and_self}
 use Rattle.orc_bits.specs.Lanes.{byte_of, change}
 use Rattle.orc_bits.specs.Memory.{word, fill, IsMapped}
@@ -31,7 +31,7 @@ use Rattle.orc_frame.specs.Layout.{left_slot, frame_size}
 use Rattle.orc_region.specs.Regions.{TurnParts, never, gap_code, gap_flow, behind_code, enter_head_code, leave_head_code, low_bits_code, part_flow, parts_flow, reached_flow, unreached_flow, aligned_row, whole_row, plain_row, tested_row, wide_loops}
 use Rattle.orc_region.specs.Code.{AreParts}
 use Rattle.orc_region.proofs.Row.Gaps.{each_size, AtSixteen, gap, gap_steps, IsGap, gap_is, no_gap, some_turns}
-use Rattle.orc_region.proofs.Row.Parts.{doubled, turns_by, parts_few, parts_several, turns_few, turns_saved, two_fewer, reached_few, unreached_few, gaps_few, gap_short}
+use Rattle.orc_region.proofs.Row.Parts.{turns_by, parts_few, parts_several, turns_few, turns_saved, two_fewer, reached_few, unreached_few, gaps_few, gap_short}
 use Rattle.orc_region.proofs.Block.Keeping.{line_bounded}
 use Rattle.orc_region.proofs.Row.Counters.{Tested}
 

@@ -1,4 +1,4 @@
-use Rattle.std.proofs.Common.{◌≡◌, ◌*◌, ◌/◌, ◌<◌, ◌≤◌, length, sym, subst, arith}
+use Rattle.std.proofs.Common.{sym, subst, arith}
 use Rattle.x86_flow.specs.Tree.{flat_of}
 use Rattle.orc_frame.proofs.Counted.{ok_map}
 use Rattle.orc_region.specs.Code.{IsShare, AreByParts}

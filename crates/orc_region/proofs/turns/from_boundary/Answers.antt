@@ -1,4 +1,4 @@
-use Rattle.std.proofs.Common.{◌≡◌, ◌*◌, ◌/◌, ◌<◌, ◌≤◌, ◌∙◌, ap, sym, subst, slice_index, arith}
+use Rattle.std.proofs.Common.{◌*◌, ◌<◌, ◌∙◌, ap, sym, subst, slice_index}
 use Rattle.orc_plan.specs.Core.{CoreValue}
 use Rattle.orc_plan.specs.Places.{PlacedValue}
 use Rattle.orc_frame.proofs.Counted.{ok_map}

@@ -1,4 +1,4 @@
-use Rattle.std.proofs.Common.{◌≡◌, ◌*◌, ◌/◌, ◌<◌, ◌≤◌, ◌∙◌, ap, sym, subst, arith}
+use Rattle.std.proofs.Common.{◌<◌, ◌∙◌, ap, sym, subst}
 use Rattle.orc_plan.specs.Core.{CoreValue}
 use Rattle.orc_frame.proofs.Counted.{ok_map}
 use Rattle.orc_region.proofs.Checked.Several.{lanes_count}

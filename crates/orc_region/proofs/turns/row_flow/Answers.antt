@@ -12,7 +12,7 @@ pub elements-requires : goal.elements-requires
 elements-requires c =
     let place : List ℕ → PlacedValue = λ xs. record { core = c.p.inside.core; places = xs } in
     let same : place c.as_slice.result.now ≡ c.args.p.now = ap place c.as_slice.ensures.value ∙ c.p.view_is in
-    (c.requires.0, record { are = subst (λ p. AreOf c.requires.0 p c.args.l.now) (sym same) c.requires.1; good = subst (λ xs. GoodPlaces c.p.inside.core.steps xs) (sym c.as_slice.ensures.value) c.p.invariant })
+    record { of = (c.requires.of.0, record { are = subst (λ p. AreOf c.requires.of.0 p c.args.l.now) (sym same) c.requires.of.1; good = subst (λ xs. GoodPlaces c.p.inside.core.steps xs) (sym c.as_slice.ensures.value) c.p.invariant }) }
 
 pub returns-clause-is : goal.returns-clause-is
 returns-clause-is c =
