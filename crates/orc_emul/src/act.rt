@@ -234,7 +234,15 @@ fn act_far(
     ensures layout { layout store.new ≡ layout store.old }
 {
     let v = load(f, call, store, spot, far, insn.sources.as_slice())?;
-    write_results(f, call, store, values, spot, insn.results.as_slice(), (v, 0))
+    write_results(
+        f,
+        call,
+        store,
+        values,
+        spot,
+        insn.results.as_slice(),
+        (v, 0),
+    )
 }
 
 /// Does an instruction that is no far load: sources are read from the left, results are written, the first before the second.

@@ -104,7 +104,11 @@ fn read_element(
     ensures value { meaning.read_far f.now call.now spot.row spot.element p (meaning.start (memory_of store.now)) k ≡ number_or result (memory_of store.now) }
     ensures low { IfOk result (λ v. v < 256 ^ (var_at f.now.vars p).size) }
 {
-    match read(store, address(f, call, p, spot.row, low_word(k)), variable(f, p).size) {
+    match read(
+        store,
+        address(f, call, p, spot.row, low_word(k)),
+        variable(f, p).size,
+    ) {
         Ok(v) => Ok(v),
         Err(at) => Err(spot.unmapped(at)),
     }

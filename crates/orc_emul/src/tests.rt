@@ -254,19 +254,13 @@ const LINEAR: Case<'static> = Case {
     )],
     counts: (4, 1),
     places: list![(4096, 0), (8192, 0)],
-    memory: list![
-        (4096, list![0, 0, 0, 0]),
-        (8192, list![0x00, 0x64, 0xc8])
-    ],
+    memory: list![(4096, list![0, 0, 0, 0]), (8192, list![0x00, 0x64, 0xc8])],
     ..PLAIN
 };
 
 const AVERAGES: Case<'static> = Case {
     lines: list![(Op::Loadupib, 1, list![At(0)], list![At(1)])],
-    memory: list![
-        (4096, list![0, 0, 0, 0]),
-        (8192, list![0x10, 0x20, 0x30])
-    ],
+    memory: list![(4096, list![0, 0, 0, 0]), (8192, list![0x10, 0x20, 0x30])],
     ..LINEAR
 };
 
