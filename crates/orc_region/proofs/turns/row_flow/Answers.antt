@@ -33,5 +33,5 @@ returns-clause-target c =
     let place : List ℕ → PlacedValue = λ xs. record { core = c.p.inside.core; places = xs } in
     let same : place c.as_slice.result.now ≡ c.args.p.now = ap place c.as_slice.ensures.value ∙ c.p.view_is in
     let good : GoodPlaces c.p.inside.core.steps c.as_slice.result.now = subst (λ xs. GoodPlaces c.p.inside.core.steps xs) (sym c.as_slice.ensures.value) c.p.invariant in
-    let f = c.requires.0 in
-    ok_map c.elements.result _ _ (λ t e. elements_are_for c.args.target f c.as_slice.result.now t (e f (record { are = subst (λ p. AreOf f p c.args.l.now) (sym same) c.requires.1; good = good }))) c.elements.ensures
+    let f = c.requires.of.0 in
+    ok_map c.elements.result _ _ (λ t e. elements_are_for c.args.target f c.as_slice.result.now t (e f (record { are = subst (λ p. AreOf f p c.args.l.now) (sym same) c.requires.of.1; good = good }))) c.elements.ensures
