@@ -85,7 +85,7 @@ elements_are_for t f at tree (parts, wide, aligned, large, turns, e) =
     subst (IsCodeFor t) (sym e)
     (flat_for t (elements_flow (fills f) (begins_aligned f) (has_whole_turns f) (shift_of (size_of_slot f.vars 0)) (lanes f) (blocks_of (length wide)) parts wide aligned large)
     (elements_for t (fills f) (begins_aligned f) (has_whole_turns f) (shift_of (size_of_slot f.vars 0)) (lanes f) (blocks_of (length wide)) parts wide aligned large
-    (λ w. parts_for t (IsPart f t at) (λ count turn is. turn_is_for f t at count false 1 turn is.turn) (lanes f) parts (turns.fewer w))
+    (λ w. parts_for t (IsPart f t at) (λ count turn is. turn_is_for f t at count false 1 turn is.is) (lanes f) parts (turns.fewer w))
     (turn_is_for f t at (lanes f) false 1 wide turns.more)
     (λ y. turn_is_for f t at (lanes f) true 1 aligned (turns.stored y))
     (λ l. turn_is_for f t at (lanes f) (fills f) (blocks_of (length wide)) large (turns.many l))))
