@@ -43,29 +43,56 @@ size_low n h = grind (arith, h)
 -- the first result of an opcode, from its sources cut to their sizes
 pub formula_first : {z : Scene} {x y : CExpr} (o : Op) (a b : ℕ) → Gives z x (source_of o 0 a) → Gives z y (source_of o 1 b) → Gives z (first (row o).stem (wide o) (to o) x y) (formula o a b).0
 unfolding formula
+formula_first op.Loadoffb a b p q = p
+formula_first op.Loadoffw a b p q = p
+formula_first op.Loadoffl a b p q = p
+formula_first op.Loadupdb a b p q = p
+formula_first op.Loadupib a b p q = p
+formula_first op.Ldresnearb a b p q = p
+formula_first op.Ldresnearl a b p q = p
+formula_first op.Ldreslinb a b p q = p
+formula_first op.Ldreslinl a b p q = p
 formula_first o a b p q =
     let r = row_fits o in
     let c = mod_below a (2 ^ wide o) (pow_pos (wide o)) in
     let d = mod_below b (2 ^ (8 * size_of_source o 1)) (pow_pos (8 * size_of_source o 1)) in
     let t = top_64 (8 * size_of_source o 1) (size_low (size_of_source o 1) r.size) in
-    first_law (row o).stem (wide o) (to o) (range_of (wide o) r.first) (range_of (to o) r.result) (widths_fit o) p q c (r.second b) (omega (arith, d, t))
+    first_law (row o).stem (wide o) (to o) (range_of (wide o) r.first) (range_of (to o) r.result) (widths_fit o) p q c (r.second refl b) (omega (arith, d, t))
 
 -- the sum of an opcode that has one
 abbrev pub sum_of : Op → ℕ → ℕ → ℕ
 sum_of o a b = sum_value (row o).stem (wide o) (to o) (source_of o 0 a) (source_of o 1 b)
 
 formula_sum : {z : Scene} {x y : CExpr} (o : Op) (a b : ℕ) → has_sum (row o).stem ≡ true → Gives z x (source_of o 0 a) → Gives z y (source_of o 1 b) → Gives z (sum (row o).stem (wide o) (to o) x y) (sum_of o a b)
+formula_sum op.Loadoffb a b h p q = absurd (let f : ⊥ = cc in f)
+formula_sum op.Loadoffw a b h p q = absurd (let f : ⊥ = cc in f)
+formula_sum op.Loadoffl a b h p q = absurd (let f : ⊥ = cc in f)
+formula_sum op.Loadupdb a b h p q = absurd (let f : ⊥ = cc in f)
+formula_sum op.Loadupib a b h p q = absurd (let f : ⊥ = cc in f)
+formula_sum op.Ldresnearb a b h p q = absurd (let f : ⊥ = cc in f)
+formula_sum op.Ldresnearl a b h p q = absurd (let f : ⊥ = cc in f)
+formula_sum op.Ldreslinb a b h p q = absurd (let f : ⊥ = cc in f)
+formula_sum op.Ldreslinl a b h p q = absurd (let f : ⊥ = cc in f)
 formula_sum o a b h p q =
     let r = row_fits o in
     let d = mod_below b (2 ^ (8 * size_of_source o 1)) (pow_pos (8 * size_of_source o 1)) in
     let t = top_64 (8 * size_of_source o 1) (size_low (size_of_source o 1) r.size) in
-    sum_law (row o).stem (wide o) (to o) (range_of (wide o) r.first) (widths_fit o) h p q (mod_below a (2 ^ wide o) (pow_pos (wide o))) (r.second b) (omega (arith, d, t))
+    sum_law (row o).stem (wide o) (to o) (range_of (wide o) r.first) (widths_fit o) h p q (mod_below a (2 ^ wide o) (pow_pos (wide o))) (r.second refl b) (omega (arith, d, t))
 
 formula_from : {z : Scene} {e : CExpr} (o : Op) (a b : ℕ) → has_sum (row o).stem ≡ true → Gives z e (sum_of o a b) → Gives z (from_sum (row o).stem (wide o) (to o) e) (formula o a b).0
 unfolding formula
+formula_from op.Loadoffb a b h g = absurd (let f : ⊥ = cc in f)
+formula_from op.Loadoffw a b h g = absurd (let f : ⊥ = cc in f)
+formula_from op.Loadoffl a b h g = absurd (let f : ⊥ = cc in f)
+formula_from op.Loadupdb a b h g = absurd (let f : ⊥ = cc in f)
+formula_from op.Loadupib a b h g = absurd (let f : ⊥ = cc in f)
+formula_from op.Ldresnearb a b h g = absurd (let f : ⊥ = cc in f)
+formula_from op.Ldresnearl a b h g = absurd (let f : ⊥ = cc in f)
+formula_from op.Ldreslinb a b h g = absurd (let f : ⊥ = cc in f)
+formula_from op.Ldreslinl a b h g = absurd (let f : ⊥ = cc in f)
 formula_from o a b h g =
     let r = row_fits o in
-    from_sum_law (source_of o 0 a) (source_of o 1 b) (row o).stem (wide o) (to o) (range_of (wide o) r.first) (range_of (to o) r.result) (widths_fit o) h g (mod_below a (2 ^ wide o) (pow_pos (wide o))) (r.second b)
+    from_sum_law (source_of o 0 a) (source_of o 1 b) (row o).stem (wide o) (to o) (range_of (wide o) r.first) (range_of (to o) r.result) (widths_fit o) h g (mod_below a (2 ^ wide o) (pow_pos (wide o))) (r.second refl b)
 
 abbrev is_split : Stem → Bool
 is_split stem.Split = true
