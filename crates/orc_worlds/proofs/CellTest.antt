@@ -3,10 +3,11 @@ use Rattle.std.proofs.Common.{◌≡◌, ℕ, zero, suc, ◌<◌, ◌&&◌, nat_
 use Rattle.std.proofs.lemmas.Bool.{cases_lt}
 use Rattle.std.proofs.lemmas.Bool.Decides.{nat_tests}
 use Rattle.orc_program.specs.declared.call.Call.{Call}
-use Rattle.orc_program.specs.Program.{FunctionValue, var_at, is_array}
+use Rattle.orc_program.specs.Program.{FunctionValue, var_at, is_array, has_far}
 use Rattle.orc_program.specs.Meaning.{rows}
 use Rattle.orc_program.specs.Good.{byte_at}
 use Rattle.orc_program.specs.Cut.{IsCell}
+use Rattle.orc_program.proofs.Near.{has_cell, element_of}
 
 -- one of the first n passes a test
 abbrev some_below : ℕ → (ℕ → Bool) → Bool
@@ -62,25 +63,25 @@ module _ (f : FunctionValue) (call : Call) (a : ℕ) where
   unfoldable pub is_cell : Bool
   is_cell = some_below (length f.vars) in_array
 
-  pub cell_found : is_cell ≡ true → IsCell f call a
+  pub cell_found : has_far f ≡ false → is_cell ≡ true → IsCell f call a
   unfolding is_cell
-  cell_found e =
+  cell_found near e =
       let p = found (length f.vars) in_array e in
       let x = both (is_array (var_at f.vars p.0)) (some_below (rows f call) (in_row p.0)) p.2 in
       let r = found (rows f call) (in_row p.0) x.1 in
       let i = found call.n (in_cell p.0 r.0) r.2 in
       let j = found (var_at f.vars p.0).size (at_byte p.0 r.0 i.0) i.2 in
-      (p.0, r.0, i.0, j.0, record { array = (p.1, x.0); row = r.1; element = i.1; inside = j.1 }, same_number a (byte_at f call p.0 r.0 i.0 j.0) j.2)
+      (p.0, r.0, i.0, j.0, record { array = (p.1, x.0); row = r.1; element = has_cell f call near p.0 i.0 i.1; inside = j.1 }, same_number a (byte_at f call p.0 r.0 i.0 j.0) j.2)
 
-  pub cell_passes : IsCell f call a → is_cell ≡ true
+  pub cell_passes : has_far f ≡ false → IsCell f call a → is_cell ≡ true
   unfolding is_cell
-  cell_passes h =
+  cell_passes near h =
       let p = h.0 in
       let r = h.1 in
       let i = h.2 in
       let j = h.3 in
       let b = h.4 in
       let bytes = passes (var_at f.vars p).size (at_byte p r i) j b.inside (number_same a (byte_at f call p r i j) h.5) in
-      let cells = passes call.n (in_cell p r) i b.element bytes in
+      let cells = passes call.n (in_cell p r) i (element_of f call near p i b.element) bytes in
       let lines = passes (rows f call) (in_row p) r b.row cells in
       passes (length f.vars) in_array p b.array.0 (ap (λ t. t && some_below (rows f call) (in_row p)) b.array.1 ∙ lines)

@@ -23,7 +23,7 @@ use Rattle.orc_worlds.specs.GoodJobs.{IsCodeOf, HasWidths, IsGoodJob}
 use Rattle.orc_worlds.specs.Whole.{words_of_part}
 use Rattle.orc_worlds.specs.Copying.{copied, two_bytes, CopiesInParts}
 use Rattle.orc_worlds.proofs.Separate.{good_jobs_separate, one_row_is_apart}
-use Rattle.orc_program.proofs.Near.{element_of}
+use Rattle.orc_program.proofs.Near.{has_cell, element_of}
 
 kept : is_function copied ≡ true
 unfolding is_function insn_fault patterns_of
@@ -114,7 +114,7 @@ mapped_in a h = go (covers (record { at = 4096; count = 2 }) a) (covers (record 
     go false false e x = absurd (true≢false (sym (rw e at (rw x at h))))
 
 cell_of : (p : ℕ) → IsArray copied p → (i : ℕ) → i < 2 → (a : ℕ) → a ≡ byte_at copied two_bytes.call p 0 i 0 → 0 < (var_at copied.vars p).size → IsCell copied two_bytes.call a
-cell_of p h i l a e s = (p, 0, i, 0, record { array = h; row = lit< tt; element = l; inside = s }, e)
+cell_of p h i l a e s = (p, 0, i, 0, record { array = h; row = lit< tt; element = has_cell copied two_bytes.call refl p i l; inside = s }, e)
 
 in_cell : (a : ℕ) → In a → IsCell copied two_bytes.call a
 in_cell a (inl x) = cell_of 0 (lit< tt, refl) x.0 x.1 a (let l = x.1 in x.2 ∙ (let q : 4096 + x.0 ≡ byte_at copied two_bytes.call 0 0 x.0 0 = omega (arith, l) in q)) (lit< tt)

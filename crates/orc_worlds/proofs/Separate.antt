@@ -140,13 +140,13 @@ module _ {target : Target} (f : FunctionValue) (entry : image.FunctionValue) (jo
   cell_low k l a h = in_segments job.memory a g.kept.within (cell_mapped k l a h)
 
   at_cell : (k a : ℕ) → IsCell f (part k) a → own k a ≡ segments a
-  at_cell k a h = ap (λ b. if b then segments a else own_of k a) (cell_passes f (part k) a h)
+  at_cell k a h = ap (λ b. if b then segments a else own_of k a) (cell_passes f (part k) a c.near h)
 
   above : (k : ℕ) → k < workers → (a : ℕ) → code_at ≤ a → own k a ≡ own_of k a
   above k l a high = go (is_cell f (part k) a) refl
     where
       go : (b : Bool) → is_cell f (part k) a ≡ b → own k a ≡ own_of k a
-      go true e = absurd (let low = cell_low k l a (cell_found f (part k) a e) in omega (arith, low, high))
+      go true e = absurd (let low = cell_low k l a (cell_found f (part k) a c.near e) in omega (arith, low, high))
       go false e = ap (λ b. if b then segments a else own_of k a) e
 
   -- a byte of it is a cell's or its own
@@ -154,14 +154,14 @@ module _ {target : Target} (f : FunctionValue) (entry : image.FunctionValue) (jo
   either k a v e = go (is_cell f (part k) a) refl
     where
       go : (b : Bool) → is_cell f (part k) a ≡ b → (IsCell f (part k) a × (segments a ≡ Some v)) ⊎ (own_of k a ≡ Some v)
-      go true h = inl (cell_found f (part k) a h, sym (ap (λ b. if b then segments a else own_of k a) h) ∙ e)
+      go true h = inl (cell_found f (part k) a c.near h, sym (ap (λ b. if b then segments a else own_of k a) h) ∙ e)
       go false h = inr (sym (ap (λ b. if b then segments a else own_of k a) h) ∙ e)
 
   mapped_either : (k a : ℕ) → IsMapped (own k) a → IsCell f (part k) a ⊎ InOwn k a
   mapped_either k a h = go (is_cell f (part k) a) refl
     where
       go : (b : Bool) → is_cell f (part k) a ≡ b → IsCell f (part k) a ⊎ InOwn k a
-      go true e = inl (cell_found f (part k) a e)
+      go true e = inl (cell_found f (part k) a c.near e)
       go false e = inr (in_own entry.dests (calls k) (long k) k a (sym (ap (λ b. is_some (if b then segments a else own_of k a)) e) ∙ h))
 
   within : (k : ℕ) → k < workers → Within (own k) w.memory
