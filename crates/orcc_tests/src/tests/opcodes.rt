@@ -5,8 +5,8 @@ use c_read::read_c;
 use c_run::{CEnd, CFunction, CTree, run_c};
 use orc_bits::Part;
 use orc_emul::{Store, are_low};
-use orc_ops::{Found, Kind, Op, eval, find, info};
-use orc_program::{Call, Place, is_bad_prefix};
+use orc_ops::{Found, Kind, Op, eval, far_of, find, info};
+use orc_program::{Call, Place, has_far, is_bad_prefix};
 use orc_text::read;
 use sqlite_items::Items;
 use std::alloc::{AllocError, Global};
@@ -93,6 +93,7 @@ fn translated(rt: &impl Abort, alloc: Global, text: &str) -> Result<CTree, Alloc
         functions: Items::new(alloc),
     };
     for f in program.functions.as_slice() {
+        assert!(rt; !has_far(f));
         tree.functions.push(emit(alloc, f)?)?;
     }
     let printed = print(alloc, &tree)?;
@@ -165,6 +166,7 @@ fn sources_of(op: Op, i: u8, j: u8, q: u8) -> (u64, u64) {
 
 /// Runs the function of an opcode on one element, and compares what it leaves.
 fn compare(rt: &impl Abort, c: &CFunction, store: &mut Store, op: Op, lanes: u8, i: u8, j: u8) {
+    assert!(rt; far_of(op).is_none());
     let row = info(op);
     for q in 0..lanes {
         let (a, b) = sources_of(op, i, j, q);
