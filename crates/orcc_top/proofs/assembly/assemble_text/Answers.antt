@@ -1,5 +1,5 @@
 use Rattle.std.proofs.Common.{◌∙◌, ap, map, length, arith}
-use Rattle.orc_program.specs.Program.{FunctionValue, ProgramValue}
+use Rattle.orc_program.specs.Program.{FunctionValue, ProgramValue, first_far_line}
 use Rattle.orc_program.specs.Kept.{all_distinct}
 use Rattle.orcc_top.specs.Texts.{ReadsNear}
 use Rattle.orcc_top.proofs.Entries.{program_kept}
@@ -11,6 +11,11 @@ bytes_of-requires-clause-few c = omega (arith, (program_kept (record { init = c.
 
 pub bytes_of-requires-clause-distinct : goal.bytes_of-requires-clause-distinct
 bytes_of-requires-clause-distinct c = ap (λ fs. all_distinct (map (λ (f : FunctionValue). f.name) fs)) c.as_slice.ensures ∙ (program_kept (record { init = c.program.inside.init; functions = c.program.inside.functions }) c.program.invariant).distinct
+
+pub bytes_of-requires-clause-near : goal.bytes_of-requires-clause-near
+bytes_of-requires-clause-near c =
+    let reads : ReadsNear c.args.text.now c.in-Ok.program = rw c.in-Ok.is at c.in_ok-program.ensures in
+    ap first_far_line (c.as_slice.ensures ∙ ap (λ (p : ProgramValue). p.functions) c.program.view_is) ∙ reads.near
 
 pub returns-in-Err-Pressure : goal.returns-in-Err-Pressure
 returns-in-Err-Pressure c =
