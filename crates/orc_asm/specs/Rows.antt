@@ -1,9 +1,9 @@
 -- The code of a function's rows: the compiler's plan.
-use Rattle.std.specs.Prelude.{ℕ, zero, suc, ◌+◌, Bool, if◌then◌else◌, pos, List, [], ◌∷◌, ◌++◌}
+use Rattle.std.specs.Prelude.{ℕ, zero, suc, ◌+◌, Bool, true, false, pos, List, [], ◌∷◌, ◌++◌}
 use Rattle.x86_ins.specs.declared.ins.AluOp.TheVariants.{Add, Sub}
 use Rattle.x86_ins.specs.declared.ins.Cond.TheVariants.{Ne}
 use Rattle.x86_ins.specs.declared.ins.Ins.{Ins}
-use Rattle.x86_ins.specs.declared.ins.Ins.TheVariants.{Load, Store, MovImm, Alu, AluImm, Test}
+use Rattle.x86_ins.specs.declared.ins.Ins.TheVariants.{Load, Store, Alu, AluImm, Test}
 use Rattle.x86_flow.specs.Flow.{Flow, Plain, Chain, Repeat}
 use Rattle.x86_flow.specs.Moves.{away}
 use Rattle.orc_asm.specs.declared.rows.SlotCode.{SlotCode}
@@ -29,15 +29,15 @@ arrays_code code dests sources = slots_code code 0 dests ++ slots_code code 4 so
 abbrev pub base_code : ℕ → List Ins
 base_code k = Load 0 (away 7 (base_word k)) ∷ Store 0 (away 4 (row_slot k)) ∷ []
 
--- the number of rows: the block's where the function has rows, and else 1
-abbrev pub number_code : Bool → Ins
-number_code two_d = if two_d then Load 0 (away 7 rows_word) else MovImm 0 1
+abbrev pub bases_code : ℕ → ℕ → List Ins
+bases_code dests sources = arrays_code base_code dests sources
 
-abbrev pub count_code : Bool → List Ins
-count_code two_d = number_code two_d ∷ Store 0 (away 4 rows_slot) ∷ Test 0 0 ∷ []
+-- all rows of the block are left, and whether there are rows
+abbrev pub count_code : List Ins
+count_code = Load 0 (away 7 rows_word) ∷ Store 0 (away 4 rows_slot) ∷ Test 0 0 ∷ []
 
-abbrev pub rows_code : Bool → ℕ → ℕ → List Ins
-rows_code two_d dests sources = arrays_code base_code dests sources ++ count_code two_d
+abbrev pub rows_code : ℕ → ℕ → List Ins
+rows_code dests sources = bases_code dests sources ++ count_code
 
 -- ---- a row
 
@@ -73,9 +73,10 @@ slot_code for_slot.Stride = stride_code
 abbrev pub row_flow : Flow → ℕ → ℕ → Flow
 row_flow elements dests sources = Chain (Plain (row_entry_code dests sources)) (Chain elements (Plain (row_step_code dests sources)))
 
--- all rows
+-- all rows: a loop where the function has rows, and else the start and the elements of the one row
 abbrev pub rows_flow : Flow → Bool → ℕ → ℕ → Flow
-rows_flow elements two_d dests sources = Chain (Plain (rows_code two_d dests sources)) (Repeat Ne (row_flow elements dests sources))
+rows_flow elements true dests sources = Chain (Plain (rows_code dests sources)) (Repeat Ne (row_flow elements dests sources))
+rows_flow elements false dests sources = Chain (Plain (bases_code dests sources)) (Chain (Plain (row_entry_code dests sources)) elements)
 
 -- rows between two lists
 abbrev pub whole_flow : List Ins → Flow → List Ins → Bool → ℕ → ℕ → Flow

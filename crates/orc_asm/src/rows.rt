@@ -1,13 +1,13 @@
 //! The lists of instructions around rows.
 
-ghost use Rattle.std.specs.Prelude.{◌≡◌, ◌<◌, ◌≤◌, ◌+◌, ◌++◌, All, IfOk, IsTrue, OnOk};
+ghost use Rattle.std.specs.Prelude.{◌≡◌, ◌<◌, ◌≤◌, ◌+◌, ◌++◌, All, IfOk, IsTrue, OnOk, true, false};
 ghost use Rattle.x86_ins.specs.Spelling.{has_spelling};
 ghost use Rattle.x86_flow.specs.Flow.{Plain, flat, size, spell_all, with_return};
 ghost use Rattle.x86_flow.specs.Moves.{away};
 ghost use Rattle.x86_flow.specs.Tree.{flat_of};
 ghost use Rattle.orc_frame.specs.Frame.{IsLayout};
 ghost use Rattle.orc_frame.specs.Layout.{row_slot, rows_slot};
-ghost use Rattle.orc_asm.specs.Rows.{slot_code, slots_code, arrays_code, base_code, stride_code, number_code, rows_code, row_entry_code, row_step_code, row_flow, whole_flow};
+ghost use Rattle.orc_asm.specs.Rows.{slot_code, slots_code, arrays_code, base_code, stride_code, bases_code, rows_code, row_entry_code, row_step_code, row_flow, rows_flow, whole_flow};
 
 use orc_bits::Code;
 use orc_frame::{BLOCK, ELEMENTS_WORD, Layout, ROWS_WORD, base_word, row_at, rows_at, stride_word};
@@ -145,26 +145,9 @@ fn push_arrays(
     push_slots(list, layout, what, 4, sources)
 }
 
-/// Moves the number of rows to RAX: the block's where the function has rows, and else 1.
-fn number(two_d: bool) -> Ins
-    ensures { result ≡ number_code two_d }
-{
-    if two_d {
-        Ins::Load {
-            dst: SCRATCH,
-            at: away(BLOCK, ROWS_WORD),
-        }
-    } else {
-        Ins::MovImm {
-            dst: SCRATCH,
-            value: 1,
-        }
-    }
-}
-
-/// What comes before the first row of a function with so many dests and sources.
-#[tactic(auto, using(crate::proofs::Row::Built::rows_whole))]
-pub fn rows_list(
+/// What makes the bases of a function's arrays those of its first row.
+#[tactic(auto, using(crate::proofs::Row::Built::bases_whole))]
+fn bases_list(
     alloc: Global,
     layout: &Layout,
     dests: usize,
@@ -173,11 +156,31 @@ pub fn rows_list(
     requires layout { IsLayout layout.now }
     requires dests { dests ≤ 4 }
     requires sources { sources ≤ 8 }
-    ensures { IfOk result (λ list. list ≡ rows_code layout.now.two_d dests sources) }
+    ensures { IfOk result (λ list. list ≡ bases_code dests sources) }
 {
     let mut list = InsList::new(alloc);
     push_arrays(&mut list, layout, SlotCode::Base, dests, sources)?;
-    list.push(number(layout.two_d))?;
+    Ok(list)
+}
+
+/// What comes before the first row of a function with rows.
+#[tactic(auto, using(crate::proofs::Row::Built::rows_whole))]
+fn rows_list(
+    alloc: Global,
+    layout: &Layout,
+    dests: usize,
+    sources: usize,
+) -> Result<InsList, AllocError>
+    requires layout { IsLayout layout.now }
+    requires dests { dests ≤ 4 }
+    requires sources { sources ≤ 8 }
+    ensures { IfOk result (λ list. list ≡ rows_code dests sources) }
+{
+    let mut list = bases_list(alloc, layout, dests, sources)?;
+    list.push(Ins::Load {
+        dst: SCRATCH,
+        at: away(BLOCK, ROWS_WORD),
+    })?;
     list.push(Ins::Store {
         src: SCRATCH,
         at: left_at(layout),
@@ -191,7 +194,7 @@ pub fn rows_list(
 
 /// What comes before the elements of a row.
 #[tactic(auto, using(crate::proofs::Row::Built::entry_whole))]
-pub fn row_entry_list(
+fn row_entry_list(
     alloc: Global,
     layout: &Layout,
     dests: usize,
@@ -217,7 +220,7 @@ pub fn row_entry_list(
 
 /// What comes after the elements of a row.
 #[tactic(auto, using(crate::proofs::Row::Built::step_whole))]
-pub fn row_step_list(
+fn row_step_list(
     alloc: Global,
     layout: &Layout,
     dests: usize,
@@ -268,6 +271,70 @@ fn row_bytes(
     Ok(row)
 }
 
+/// Adds the code of a function with rows: a loop over them.
+fn put_loop_of_rows(
+    alloc: Global,
+    code: &mut Vec<u8>,
+    layout: &Layout,
+    elements: &Flow,
+    dests: usize,
+    sources: usize,
+) -> Result<(), AllocError>
+    requires layout { IsLayout layout.now }
+    requires few { size (flat_of elements.now) ≤ 960000 }
+    requires dests { dests ≤ 4 }
+    requires sources { sources ≤ 8 }
+    ensures { OnOk result (code.new.items ≡ code.old.items ++ spell_all (flat (rows_flow (Plain (flat_of elements.now)) true dests sources))) }
+{
+    let starts = rows_list(alloc, layout, dests, sources)?;
+    let row = row_bytes(alloc, layout, elements, dests, sources)?;
+    put_list(code, starts.as_slice())?;
+    put_loop(code, Cond::Ne, &row)
+}
+
+/// Adds the code of a function without rows, which has one: its start and its elements.
+fn put_one_row(
+    alloc: Global,
+    code: &mut Vec<u8>,
+    layout: &Layout,
+    elements: &Flow,
+    dests: usize,
+    sources: usize,
+) -> Result<(), AllocError>
+    requires layout { IsLayout layout.now }
+    requires dests { dests ≤ 4 }
+    requires sources { sources ≤ 8 }
+    ensures { OnOk result (code.new.items ≡ code.old.items ++ spell_all (flat (rows_flow (Plain (flat_of elements.now)) false dests sources))) }
+{
+    let bases = bases_list(alloc, layout, dests, sources)?;
+    let enter = row_entry_list(alloc, layout, dests, sources)?;
+    put_list(code, bases.as_slice())?;
+    put_list(code, enter.as_slice())?;
+    put_flow(alloc, code, elements)
+}
+
+/// Adds the code of all rows, in which a tree does the elements of a row.
+fn put_rows(
+    alloc: Global,
+    code: &mut Vec<u8>,
+    layout: &Layout,
+    elements: &Flow,
+    dests: usize,
+    sources: usize,
+) -> Result<(), AllocError>
+    requires layout { IsLayout layout.now }
+    requires few { size (flat_of elements.now) ≤ 960000 }
+    requires dests { dests ≤ 4 }
+    requires sources { sources ≤ 8 }
+    ensures { OnOk result (code.new.items ≡ code.old.items ++ spell_all (flat (rows_flow (Plain (flat_of elements.now)) layout.now.two_d dests sources))) }
+{
+    if layout.two_d {
+        put_loop_of_rows(alloc, code, layout, elements, dests, sources)
+    } else {
+        put_one_row(alloc, code, layout, elements, dests, sources)
+    }
+}
+
 /// Code of rows between two lists, in which a tree does the elements of a row.
 pub fn whole_code(
     alloc: Global,
@@ -286,12 +353,9 @@ pub fn whole_code(
     requires sources { sources ≤ 8 }
     ensures { IfOk result (λ code. code ≡ spell_all (with_return (whole_flow first.now (Plain (flat_of elements.now)) last.now layout.now.two_d dests sources))) }
 {
-    let starts = rows_list(alloc, layout, dests, sources)?;
-    let row = row_bytes(alloc, layout, elements, dests, sources)?;
     let mut code = Vec::new(alloc);
     put_list(&mut code, first)?;
-    put_list(&mut code, starts.as_slice())?;
-    put_loop(&mut code, Cond::Ne, &row)?;
+    put_rows(alloc, &mut code, layout, elements, dests, sources)?;
     put_list(&mut code, last)?;
     put(&mut code, &Ins::Ret)?;
     Ok(Items::from_vec(code))

@@ -1,5 +1,5 @@
 -- The lists around rows, built one instruction or one slot after another.
-use Rattle.std.proofs.Common.{◌≡◌, ℕ, suc, ◌+◌, ◌<◌, ◌≤◌, Bool, pos, length, All, IsTrue, subst, List, [], ◌∷◌, ◌++◌, sym, ap, ◌∙◌, arith, append-nil, append_assoc}
+use Rattle.std.proofs.Common.{◌≡◌, ℕ, suc, ◌+◌, ◌<◌, ◌≤◌, pos, length, All, IsTrue, subst, List, [], ◌∷◌, ◌++◌, sym, ap, ap₂, ◌∙◌, arith, append-nil, append_assoc}
 use Rattle.x86_ins.specs.declared.ins.AluOp.TheVariants.{Sub}
 use Rattle.x86_ins.specs.declared.ins.Ins.{Ins}
 use Rattle.x86_ins.specs.declared.ins.Cond.TheVariants.{Ne}
@@ -13,9 +13,9 @@ use Rattle.x86_flow.specs.Moves.{away}
 use Rattle.orc_asm.specs.declared.rows.SlotCode.{SlotCode}
 use Rattle.orc_asm.specs.declared.rows.SlotCode.TheVariants as for_slot
 use Rattle.orc_frame.specs.Layout.{rows_slot}
-use Rattle.orc_frame.specs.Parts.{elements_word}
-use Rattle.orc_asm.specs.Rows.{slot_code, slots_code, arrays_code, number_code, rows_code, row_entry_code, row_step_code, row_flow}
-use Rattle.orc_asm.proofs.Row.Counts.{fine_rows, fine_row_entry, fine_row_step, row_bytes}
+use Rattle.orc_frame.specs.Parts.{elements_word, rows_word}
+use Rattle.orc_asm.specs.Rows.{slot_code, slots_code, arrays_code, bases_code, rows_code, row_entry_code, row_step_code, row_flow}
+use Rattle.orc_asm.proofs.Row.Counts.{fine_bases, fine_rows, fine_row_entry, fine_row_step, row_bytes}
 
 pub slots_none : (base : List Ins) (what : SlotCode) (first : ℕ) → base ≡ base ++ slots_code (slot_code what) first 0
 slots_none base what first = sym (append-nil base)
@@ -34,9 +34,11 @@ two a b c i j p q = q ∙ ap (λ l. l ++ j ∷ []) p ∙ append_assoc a (i ∷ [
 three : (a b c d : List Ins) (i j k : Ins) → b ≡ a ++ i ∷ [] → c ≡ b ++ j ∷ [] → d ≡ c ++ k ∷ [] → d ≡ a ++ i ∷ j ∷ k ∷ []
 three a b c d i j k p q r = r ∙ ap (λ l. l ++ k ∷ []) (two a b c i j p q) ∙ append_assoc a (i ∷ j ∷ []) (k ∷ [])
 
-pub rows_whole : (base a b c d : List Ins) (two_d : Bool) (dests sources : ℕ) → base ≡ [] → a ≡ base ++ arrays_code (slot_code for_slot.Base) dests sources → b ≡ a ++ number_code two_d ∷ [] → c ≡ b ++ Store 0 (away 4 rows_slot) ∷ [] → d ≡ c ++ Test 0 0 ∷ [] → d ≡ rows_code two_d dests sources
-rows_whole base a b c d two_d dests sources n p q r s =
-    three a b c d (number_code two_d) (Store 0 (away 4 rows_slot)) (Test 0 0) q r s ∙ ap (λ l. l ++ number_code two_d ∷ Store 0 (away 4 rows_slot) ∷ Test 0 0 ∷ []) (p ∙ ap (λ l. l ++ arrays_code (slot_code for_slot.Base) dests sources) n)
+pub bases_whole : (base a : List Ins) (dests sources : ℕ) → base ≡ [] → a ≡ base ++ arrays_code (slot_code for_slot.Base) dests sources → a ≡ bases_code dests sources
+bases_whole base a dests sources n p = p ∙ ap (λ l. l ++ arrays_code (slot_code for_slot.Base) dests sources) n
+
+pub rows_whole : (a b c d : List Ins) (dests sources : ℕ) → a ≡ bases_code dests sources → b ≡ a ++ Load 0 (away 7 rows_word) ∷ [] → c ≡ b ++ Store 0 (away 4 rows_slot) ∷ [] → d ≡ c ++ Test 0 0 ∷ [] → d ≡ rows_code dests sources
+rows_whole a b c d dests sources p q r s = three a b c d (Load 0 (away 7 rows_word)) (Store 0 (away 4 rows_slot)) (Test 0 0) q r s ∙ ap (λ l. l ++ Load 0 (away 7 rows_word) ∷ Store 0 (away 4 rows_slot) ∷ Test 0 0 ∷ []) p
 
 pub entry_whole : (base a b c : List Ins) (dests sources : ℕ) → base ≡ [] → a ≡ base ++ arrays_code (slot_code for_slot.Pointer) dests sources → b ≡ a ++ Load 1 (away 7 elements_word) ∷ [] → c ≡ b ++ Test 1 1 ∷ [] → c ≡ row_entry_code dests sources
 entry_whole base a b c dests sources n p q r =
@@ -51,36 +53,39 @@ step_whole base a b c d dests sources n p q r s =
 one_more : (a : List Ins) (i : Ins) → spell_all (a ++ i ∷ []) ≡ spell_all a ++ spelling i
 one_more a i = spell_append a (i ∷ []) ∙ ap (λ l. spell_all a ++ l) (append-nil (spelling i))
 
-pub row_assembled : (enter elements leave : List Ins) (c0 c1 c2 c3 : List ℕ) → c0 ≡ [] → c1 ≡ c0 ++ spell_all enter → c2 ≡ c1 ++ spell_all elements → c3 ≡ c2 ++ spell_all leave → c3 ≡ spell_all (enter ++ (elements ++ leave))
-row_assembled enter elements leave c0 c1 c2 c3 h0 h1 h2 h3 =
-    let a = spell_all enter in
-    let b = spell_all elements in
-    let c = spell_all leave in
-    let first : c1 ≡ a = h1 ∙ ap (λ l. l ++ a) h0 in
-    let second : c2 ≡ a ++ b = h2 ∙ ap (λ l. l ++ b) first in
-    h3 ∙ ap (λ l. l ++ c) second ∙ append_assoc a b c ∙ sym (spell_append enter (elements ++ leave) ∙ ap (λ l. a ++ l) (spell_append elements leave))
+-- a list and then a loop, behind other bytes
+pub loop_assembled : (starts body : List Ins) (t c0 c1 c2 : List ℕ) → t ≡ spell_all body → c1 ≡ c0 ++ spell_all starts → c2 ≡ c1 ++ loop_bytes Ne t → c2 ≡ c0 ++ spell_all (starts ++ loop_code Ne body)
+loop_assembled starts body t c0 c1 c2 ht h1 h2 =
+    let a = spell_all starts in
+    let b = spell_all (loop_code Ne body) in
+    h2 ∙ ap₂ (λ l m. l ++ m) h1 (ap (loop_bytes Ne) ht ∙ sym (loop_spelled Ne body)) ∙ append_assoc c0 a b ∙ ap (λ l. c0 ++ l) (sym (spell_append starts (loop_code Ne body)))
 
-pub whole_assembled : (first starts body last : List Ins) (t c0 c1 c2 c3 c4 c5 : List ℕ) → t ≡ spell_all body → c0 ≡ [] → c1 ≡ c0 ++ spell_all first → c2 ≡ c1 ++ spell_all starts → c3 ≡ c2 ++ loop_bytes Ne t → c4 ≡ c3 ++ spell_all last → c5 ≡ c4 ++ spelling Ret
-    → c5 ≡ spell_all ((first ++ ((starts ++ loop_code Ne body) ++ last)) ++ Ret ∷ [])
-whole_assembled first starts body last t c0 c1 c2 c3 c4 c5 ht h0 h1 h2 h3 h4 h5 =
+-- three lists, behind other bytes
+pub three_assembled : (first second third : List Ins) (c0 c1 c2 c3 : List ℕ) → c1 ≡ c0 ++ spell_all first → c2 ≡ c1 ++ spell_all second → c3 ≡ c2 ++ spell_all third → c3 ≡ c0 ++ spell_all (first ++ (second ++ third))
+three_assembled first second third c0 c1 c2 c3 h1 h2 h3 =
     let a = spell_all first in
-    let b = spell_all starts in
-    let c = spell_all (loop_code Ne body) in
-    let d = spell_all last in
-    let one : c1 ≡ a = h1 ∙ ap (λ l. l ++ a) h0 in
-    let two : c2 ≡ a ++ b = h2 ∙ ap (λ l. l ++ b) one in
-    let three : c3 ≡ a ++ (b ++ c) = h3 ∙ ap (λ l. l ++ loop_bytes Ne t) two ∙ ap (λ l. (a ++ b) ++ l) (ap (loop_bytes Ne) ht ∙ sym (loop_spelled Ne body)) ∙ append_assoc a b c in
-    let four : c4 ≡ a ++ ((b ++ c) ++ d) = h4 ∙ ap (λ l. l ++ d) three ∙ append_assoc a (b ++ c) d in
-    let middle : spell_all ((starts ++ loop_code Ne body) ++ last) ≡ (b ++ c) ++ d = spell_append (starts ++ loop_code Ne body) last ∙ ap (λ l. l ++ d) (spell_append starts (loop_code Ne body)) in
-    h5 ∙ ap (λ l. l ++ spelling Ret) (four ∙ sym (spell_append first ((starts ++ loop_code Ne body) ++ last) ∙ ap (λ l. a ++ l) middle)) ∙ sym (one_more (first ++ ((starts ++ loop_code Ne body) ++ last)) Ret)
+    let b = spell_all second in
+    let c = spell_all third in
+    let two : c2 ≡ c0 ++ (a ++ b) = h2 ∙ ap (λ l. l ++ b) h1 ∙ append_assoc c0 a b in
+    h3 ∙ ap (λ l. l ++ c) two ∙ append_assoc c0 (a ++ b) c ∙ ap (λ l. c0 ++ l) (append_assoc a b c ∙ sym (spell_append first (second ++ third) ∙ ap (λ l. a ++ l) (spell_append second third)))
+
+pub row_assembled : (enter elements leave : List Ins) (c0 c1 c2 c3 : List ℕ) → c0 ≡ [] → c1 ≡ c0 ++ spell_all enter → c2 ≡ c1 ++ spell_all elements → c3 ≡ c2 ++ spell_all leave → c3 ≡ spell_all (enter ++ (elements ++ leave))
+row_assembled enter elements leave c0 c1 c2 c3 h0 h1 h2 h3 = three_assembled enter elements leave c0 c1 c2 c3 h1 h2 h3 ∙ ap (λ l. l ++ spell_all (enter ++ (elements ++ leave))) h0
+
+-- lists around rows, and a return
+pub whole_assembled : (first rows last : List Ins) (c0 c1 c2 c3 c4 : List ℕ) → c0 ≡ [] → c1 ≡ c0 ++ spell_all first → c2 ≡ c1 ++ spell_all rows → c3 ≡ c2 ++ spell_all last → c4 ≡ c3 ++ spelling Ret → c4 ≡ spell_all ((first ++ (rows ++ last)) ++ Ret ∷ [])
+whole_assembled first rows last c0 c1 c2 c3 c4 h0 h1 h2 h3 h4 = h4 ∙ ap (λ l. l ++ spelling Ret) (row_assembled first rows last c0 c1 c2 c3 h0 h1 h2 h3) ∙ sym (one_more (first ++ (rows ++ last)) Ret)
 
 -- ---- what is asked of the lists
 
 abbrev AllSpelled : List Ins → Type 0
 AllSpelled is = All (λ i. IsTrue (has_spelling i)) is
 
-pub spelled_rows : (list : List Ins) (two_d : Bool) (dests sources : ℕ) → dests ≤ 4 → sources ≤ 8 → list ≡ rows_code two_d dests sources → All (λ i. IsTrue (has_spelling i)) list
-spelled_rows list two_d dests sources h g e = subst AllSpelled (sym e) (all_spelled (rows_code two_d dests sources) (fine_rows dests sources h g two_d))
+pub spelled_bases : (list : List Ins) (dests sources : ℕ) → dests ≤ 4 → sources ≤ 8 → list ≡ bases_code dests sources → All (λ i. IsTrue (has_spelling i)) list
+spelled_bases list dests sources h g e = subst AllSpelled (sym e) (all_spelled (bases_code dests sources) (fine_bases dests sources h g))
+
+pub spelled_rows : (list : List Ins) (dests sources : ℕ) → dests ≤ 4 → sources ≤ 8 → list ≡ rows_code dests sources → All (λ i. IsTrue (has_spelling i)) list
+spelled_rows list dests sources h g e = subst AllSpelled (sym e) (all_spelled (rows_code dests sources) (fine_rows dests sources h g))
 
 pub spelled_entry : (list : List Ins) (dests sources : ℕ) → dests ≤ 4 → sources ≤ 8 → list ≡ row_entry_code dests sources → All (λ i. IsTrue (has_spelling i)) list
 spelled_entry list dests sources h g e = subst AllSpelled (sym e) (all_spelled (row_entry_code dests sources) (fine_row_entry dests sources h g))

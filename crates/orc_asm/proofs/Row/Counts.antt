@@ -1,10 +1,10 @@
 -- The instructions of the lists around rows: they are allowed, and few.
-use Rattle.std.proofs.Common.{◌≡◌, ℕ, zero, suc, ◌+◌, ◌*◌, ◌^◌, ◌<◌, ◌≤◌, Bool, true, false, if◌then◌else◌, pos, List, ◌++◌, length, refl, ap, arith, suc-mul, length-append}
+use Rattle.std.proofs.Common.{◌≡◌, ℕ, zero, suc, ◌+◌, ◌*◌, ◌^◌, ◌<◌, ◌≤◌, Bool, true, false, if◌then◌else◌, pos, List, ◌++◌, length, ap, arith, refl, suc-mul, length-append}
 use Rattle.x86_ins.specs.declared.ins.AluOp.TheVariants.{Add, Sub}
 use Rattle.x86_ins.specs.declared.ins.Cond.TheVariants.{Ne}
 use Rattle.x86_ins.specs.declared.ins.Ins.{Ins}
-use Rattle.x86_ins.specs.declared.ins.Ins.TheVariants.{Load, Store, MovImm, Alu}
-use Rattle.x86_ins.specs.Spelling.{IsAllowed, spelling, reg_form, plus_form}
+use Rattle.x86_ins.specs.declared.ins.Ins.TheVariants.{Load, Store, Alu}
+use Rattle.x86_ins.specs.Spelling.{IsAllowed, spelling, reg_form}
 use Rattle.x86_ins.specs.Way.{Each}
 use Rattle.x86_flow.specs.Flow.{Flow, flat, size, loop_code}
 use Rattle.x86_flow.specs.Moves.{away}
@@ -15,7 +15,7 @@ use Rattle.x86_flow.proofs.Spelled.{IsFine, fine_load, fine_store, fine_alu_imm,
 use Rattle.orc_region.specs.Code.{pointer}
 use Rattle.orc_frame.specs.Layout.{row_slot, rows_slot}
 use Rattle.orc_frame.specs.Parts.{rows_word, base_word, stride_word}
-use Rattle.orc_asm.specs.Rows.{slots_code, arrays_code, base_code, number_code, count_code, rows_code, pointer_code, counter_code, row_entry_code, stride_code, one_less_code, row_step_code, row_flow, rows_flow}
+use Rattle.orc_asm.specs.Rows.{slots_code, arrays_code, base_code, bases_code, count_code, rows_code, pointer_code, counter_code, row_entry_code, stride_code, one_less_code, row_step_code, row_flow, rows_flow}
 use Rattle.orc_region.proofs.Block.Registers.{pointer_small}
 
 -- ---- lists of slots
@@ -46,14 +46,13 @@ module _ (by : ℕ → Bool) (by_stack : by 4 ≡ false) (by_block : by 7 ≡ fa
   none_7 : one (by 7) ≡ 0
   none_7 = ap one by_block
 
-  number_free : (two_d : Bool) → touch (number_code two_d) ≡ 0
-  number_free true = none_7
-  number_free false = refl
+  pub bases_free : (dests sources : ℕ) → weigh touch (bases_code dests sources) ≡ 0
+  bases_free dests sources = arrays_free base_code dests sources (λ k. omega (arith, none_7, none_4))
 
-  pub rows_free : (two_d : Bool) (dests sources : ℕ) → weigh touch (rows_code two_d dests sources) ≡ 0
-  rows_free two_d dests sources =
-      let last : weigh touch (count_code two_d) ≡ 0 = omega (arith, number_free two_d, none_4) in
-      omega (arith, weigh_append touch (arrays_code base_code dests sources) (count_code two_d), arrays_free base_code dests sources (λ k. omega (arith, none_7, none_4)), last)
+  pub rows_free : (dests sources : ℕ) → weigh touch (rows_code dests sources) ≡ 0
+  rows_free dests sources =
+      let last : weigh touch count_code ≡ 0 = omega (arith, none_7, none_4) in
+      omega (arith, weigh_append touch (bases_code dests sources) count_code, bases_free dests sources, last)
 
   pub row_entry_free : (dests sources : ℕ) → weigh touch (row_entry_code dests sources) ≡ 0
   row_entry_free dests sources =
@@ -72,11 +71,7 @@ slots_fine code first (suc n) few h = each_both IsFine (slots_code code first n)
 fine_word : (r d : ℕ) → r < 16 → d < 2 ^ 31 → (q : ℕ) → q < 16 → IsFine (Load q (away r d)) × IsFine (Store q (away r d))
 fine_word r d h l q g = (fine_load q (away r d) g h (fits_up d l), fine_store q (away r d) g h (fits_up d l))
 
--- RAX becomes 1, and RCX is added to it
-fine_one : IsFine (MovImm 0 1)
-unfolding spelling plus_form
-fine_one = record { allowed = ((omega arith, omega arith), refl); short = omega arith }
-
+-- RCX is added to RAX
 fine_add : IsFine (Alu Add 0 1)
 unfolding spelling reg_form
 fine_add = record { allowed = ((omega arith, omega arith), refl); short = omega arith }
@@ -87,8 +82,11 @@ module _ (dests sources : ℕ) where
 
   -- ---- how many there are
 
-  pub rows_count : (two_d : Bool) → length (rows_code two_d dests sources) ≡ 2 * (dests + sources) + 3
-  rows_count two_d = omega (arith, length-append (arrays_code base_code dests sources) (count_code two_d), arrays_count base_code 2 (λ k. refl))
+  pub bases_count : length (bases_code dests sources) ≡ 2 * (dests + sources)
+  bases_count = omega (arith, arrays_count base_code 2 (λ k. refl))
+
+  pub rows_count : length (rows_code dests sources) ≡ 2 * (dests + sources) + 3
+  rows_count = omega (arith, length-append (bases_code dests sources) count_code, bases_count)
 
   pub row_entry_count : length (row_entry_code dests sources) ≡ dests + sources + 2
   row_entry_count = omega (arith, length-append (arrays_code pointer_code dests sources) counter_code, arrays_count pointer_code 1 (λ k. refl))
@@ -100,14 +98,14 @@ module _ (dests sources : ℕ) where
     arrays_fine : (code : ℕ → List Ins) → ((k : ℕ) → k < 12 → Each IsFine (code k)) → Each IsFine (arrays_code code dests sources)
     arrays_fine code h = each_both IsFine (slots_code code 0 dests) (slots_code code 4 sources) (slots_fine code 0 dests (omega (arith, few_dests)) h) (slots_fine code 4 sources (omega (arith, few_sources)) h)
 
-    fine_number : (two_d : Bool) → IsFine (number_code two_d)
-    fine_number true = fine_load 0 (away 7 rows_word) (omega arith) (omega arith) (fits_up rows_word (omega arith))
-    fine_number false = fine_one
+    pub fine_bases : Each IsFine (bases_code dests sources)
+    fine_bases = arrays_fine base_code (λ k l. ((fine_word 7 (base_word k) (omega arith) (omega (arith, l)) 0 (omega arith)).0, ((fine_word 4 (row_slot k) (omega arith) (omega (arith, l)) 0 (omega arith)).1, tt)))
 
-    pub fine_rows : (two_d : Bool) → Each IsFine (rows_code two_d dests sources)
-    fine_rows two_d = each_both IsFine (arrays_code base_code dests sources) (count_code two_d)
-        (arrays_fine base_code (λ k l. ((fine_word 7 (base_word k) (omega arith) (omega (arith, l)) 0 (omega arith)).0, ((fine_word 4 (row_slot k) (omega arith) (omega (arith, l)) 0 (omega arith)).1, tt))))
-        (fine_number two_d, ((fine_word 4 rows_slot (omega arith) (omega arith) 0 (omega arith)).1, (fine_test 0 0 (omega arith) (omega arith), tt)))
+    pub fine_count : Each IsFine count_code
+    fine_count = ((fine_word 7 rows_word (omega arith) (omega arith) 0 (omega arith)).0, ((fine_word 4 rows_slot (omega arith) (omega arith) 0 (omega arith)).1, (fine_test 0 0 (omega arith) (omega arith), tt)))
+
+    pub fine_rows : Each IsFine (rows_code dests sources)
+    fine_rows = each_both IsFine (bases_code dests sources) count_code fine_bases fine_count
 
     pub fine_row_entry : Each IsFine (row_entry_code dests sources)
     fine_row_entry = each_both IsFine (arrays_code pointer_code dests sources) counter_code
@@ -143,16 +141,34 @@ module _ (dests sources : ℕ) where
 
       -- the code of rows has few bytes more than that of a row's elements
       pub rows_bytes : (two_d : Bool) → size (flat (rows_flow elements two_d dests sources)) ≤ size (flat elements) + 1024
-      rows_bytes two_d =
-          let first = rows_code two_d dests sources in
+      rows_bytes true =
+          let first = rows_code dests sources in
           let body = flat (row_flow elements dests sources) in
-          omega (arith, size_both first (loop_code Ne body), loop_size Ne body, row_bytes, size_within first (fine_rows two_d), rows_count two_d, few_dests, few_sources)
+          omega (arith, size_both first (loop_code Ne body), loop_size Ne body, row_bytes, size_within first fine_rows, rows_count, few_dests, few_sources)
+      rows_bytes false =
+          let first = bases_code dests sources in
+          let enter = row_entry_code dests sources in
+          omega (
+            arith,
+            size_both first (enter ++ flat elements),
+            size_both enter (flat elements),
+            size_within first fine_bases,
+            size_within enter fine_row_entry,
+            bases_count,
+            row_entry_count,
+            few_dests,
+            few_sources,
+          )
 
       -- and is allowed where that is
       pub rows_allowed : (two_d : Bool) → size (flat elements) ≤ 960000 → Each IsAllowed (flat elements) → Each IsAllowed (flat (rows_flow elements two_d dests sources))
-      rows_allowed two_d few h =
+      rows_allowed true few h =
           let enter = row_entry_code dests sources in
           let go_on = row_step_code dests sources in
           let body = flat (row_flow elements dests sources) in
           let all : Each IsAllowed body = each_both IsAllowed enter (flat elements ++ go_on) (all_allowed enter fine_row_entry) (each_both IsAllowed (flat elements) go_on h (all_allowed go_on fine_row_step)) in
-          each_both IsAllowed (rows_code two_d dests sources) (loop_code Ne body) (all_allowed (rows_code two_d dests sources) (fine_rows two_d)) (loop_fine Ne body (omega (arith, row_bytes, few)) all)
+          each_both IsAllowed (rows_code dests sources) (loop_code Ne body) (all_allowed (rows_code dests sources) fine_rows) (loop_fine Ne body (omega (arith, row_bytes, few)) all)
+      rows_allowed false few h =
+          let first = bases_code dests sources in
+          let enter = row_entry_code dests sources in
+          each_both IsAllowed first (enter ++ flat elements) (all_allowed first fine_bases) (each_both IsAllowed enter (flat elements) (all_allowed enter fine_row_entry) h)

@@ -1,5 +1,5 @@
 -- The lists around a row: what they leave in registers and in the frame.
-use Rattle.std.proofs.Common.{◌≡◌, ◌≢◌, ℕ, zero, suc, ◌+◌, ◌%◌, ◌^◌, ◌<◌, ◌≤◌, ◌==◌, not, Bool, true, false, if◌then◌else◌, pos, List, Some, bit_and, Ok, refl, sym, ap, ◌∙◌, subst, arith, ◌⊎◌, inl, inr, ⊎_elim}
+use Rattle.std.proofs.Common.{◌≡◌, ◌≢◌, ℕ, zero, suc, ◌+◌, ◌%◌, ◌^◌, ◌<◌, ◌≤◌, ◌==◌, not, false, pos, List, Some, bit_and, Ok, refl, sym, ap, ◌∙◌, subst, arith, ◌⊎◌, inl, inr, ⊎_elim}
 use Rattle.std.proofs.lemmas.Bool.{cases_eq}
 use Rattle.std.proofs.lemmas.Grind.{common_steps}
 use Rattle.orc_bits.specs.Lanes.{byte_of}
@@ -17,10 +17,10 @@ use Rattle.x86_flow.specs.Does.{Line}
 use Rattle.x86_flow.proofs.Moves.{line_append}
 use Rattle.x86_flow.proofs.Words.{load_word, store_word}
 use Rattle.x86_flow.proofs.Frame.{word_same, word_stored}
-use Rattle.orc_frame.specs.Parts.{InBlock, elements_word, base_word, stride_word, block_size}
+use Rattle.orc_frame.specs.Parts.{InBlock, elements_word, rows_word, base_word, stride_word, block_size}
 use Rattle.orc_region.specs.Code.{pointer}
 use Rattle.orc_frame.specs.Layout.{row_slot, rows_slot, frame_size, left_slot}
-use Rattle.orc_asm.specs.Rows.{slots_code, arrays_code, base_code, number_code, count_code, rows_code, pointer_code, counter_code, row_entry_code, stride_code, one_less_code, row_step_code}
+use Rattle.orc_asm.specs.Rows.{slots_code, arrays_code, base_code, bases_code, count_code, pointer_code, counter_code, row_entry_code, stride_code, one_less_code, row_step_code}
 use Rattle.orc_region.proofs.Block.Registers.{not_1, not_4, not_7, pointer_one}
 use Rattle.orc_region.proofs.Turn.Advancing.{IsSlot}
 
@@ -272,48 +272,34 @@ module _ (rsp rdi : ℕ) (stack_low : rsp + (frame_size + 8) ≤ 2 ^ 47) (block_
     not_thirteen : (k : ℕ) → IsSlot dests sources k → 13 ≡ k → ⊥
     not_thirteen k t e = ⊎_elim (λ l. omega (arith, l, few_dests, e)) (λ l. omega (arith, l.1, few_sources, e)) t
 
-    number_works : (two_d : Bool) (m : ℕ) (u : Core) → u.gpr 7 ≡ rdi → word u.memory (rdi + 8) ≡ Some m → work (number_code two_d) u ≡ Ok (with_gpr u 0 (if two_d then m else 1))
-    number_works true m u e h = load_word u 0 7 rdi 8 m e (omega (arith, block_low)) h
-    number_works false m u e h = refl
+    -- the words of slots become the arrays' bases
+    pub bases_line : (base : ℕ → ℕ) (c : Core) → c.gpr 4 ≡ rsp → c.gpr 7 ≡ rdi → Calmly c → ((x : ℕ) → InRows x → IsMapped c.memory x)
+        → ((k : ℕ) → IsSlot dests sources k → word c.memory (rdi + base_word k) ≡ Some (base k)) → ((k : ℕ) → IsSlot dests sources k → base k < 2 ^ 64) → (d : Core) × Line Q (bases_code dests sources) c d × Renewed Q base_code base dests sources c d
+    bases_line base c s b calmly there words small = arrays_line Q base_code base dests sources few_dests few_sources c s b (λ k l t u h e. base_line c base k l calmly there (words k t) (small k t) u h)
 
-    number_calm : (c : Core) → Calmly c → (two_d : Bool) (u : Core) → OnWay c u → Q u (number_code two_d)
-    number_calm c calmly true u w = at_block c calmly 8 (omega arith) _ u w refl
-    number_calm c calmly false u w = at_none c calmly _ u w refl
-
-    count_line : (two_d : Bool) (m : ℕ) (base : ℕ → ℕ) (c : Core) → Calmly c → ((x : ℕ) → InRows x → IsMapped c.memory x) → word c.memory (rdi + 8) ≡ Some m → (if two_d then m else 1) < 2 ^ 64
-        → (u : Core) → OnWay c u → ((k : ℕ) → IsSlot dests sources k → word u.memory (rsp + row_slot k) ≡ Some (base k)) → (d : Core) × Line Q (count_code two_d) u d × Passed dests sources base (if two_d then m else 1) u d
-    count_line two_d m base c calmly there word_m small u h bases =
-        let v = if two_d then m else 1 in
-        let u1 : Core = with_gpr u 0 v in
-        let s = store_slot 13 (omega arith) u1 h.stack small (λ x r. h.mapped x (there x r)) in
+    -- and all rows are left
+    pub count_line : (m : ℕ) (base : ℕ → ℕ) (c : Core) → c.gpr 4 ≡ rsp → c.gpr 7 ≡ rdi → Calmly c → ((x : ℕ) → InRows x → IsMapped c.memory x) → word c.memory (rdi + rows_word) ≡ Some m → m < 2 ^ 64
+        → ((k : ℕ) → IsSlot dests sources k → word c.memory (rsp + row_slot k) ≡ Some (base k)) → (d : Core) × Line Q count_code c d × Passed dests sources base m c d
+    count_line m base c stack block calmly there word_m small bases =
+        let h : OnWay c c = record { stack = stack; block = block; outside = λ x out. refl; mapped = λ x t. t; xmm = refl } in
+        let u1 : Core = with_gpr c 0 m in
+        let loads : work (Load 0 (away 7 rows_word)) c ≡ Ok u1 = load_word c 0 7 rdi rows_word m block (omega (arith, block_low)) word_m in
+        let s = store_slot 13 (omega arith) u1 stack small there in
         let u2 = stored 13 u1 in
-        let d : Core = with_flags u2 (Some (flags_of false false (bit_and v v))) in
-        let w1 = way_with c u u1 h refl refl refl refl in
-        let w2 : OnWay u d = record { stack = h.stack; block = h.block; outside = λ x out. s.outside x (λ r. out (in_rows 13 x (omega arith) r)); mapped = s.mapped; xmm = refl } in
-        let w3 : OnWay u u2 = record { stack = h.stack; block = h.block; outside = w2.outside; mapped = s.mapped; xmm = refl } in (
+        let d : Core = with_flags u2 (Some (flags_of false false (bit_and m m))) in
+        let w1 = way_with c c u1 h refl refl refl refl in
+        let w2 : OnWay c u2 = record { stack = stack; block = block; outside = λ x out. s.outside x (λ r. out (in_rows 13 x (omega arith) r)); mapped = s.mapped; xmm = refl } in (
           d,
-          (number_calm c calmly two_d u h, (u1, number_works two_d m u h.block (block_word c u h 8 m (omega arith) word_m), (at_slot c calmly 13 (omega arith) _ u1 w1 refl, (u2, s.works, (at_none c calmly _ u2 (way_on c u u2 h w3) refl, (d, refl, refl)))))),
+          (at_block c calmly rows_word (omega arith) _ c h refl, (u1, loads, (at_slot c calmly 13 (omega arith) _ u1 w1 refl, (u2, s.works, (at_none c calmly _ u2 w2 refl, (d, refl, refl)))))),
           record {
-            gpr = λ r p q. change_other u.gpr 0 v r p;
+            gpr = λ r p q. change_other c.gpr 0 m r p;
             has = record {
-              bases = λ k t. slot_apart 13 k (omega arith) (slot_small k t) (λ e. not_thirteen k t e) d.memory u.memory s.outside ∙ bases k t;
+              bases = λ k t. slot_apart 13 k (omega arith) (slot_small k t) (λ e. not_thirteen k t e) d.memory c.memory s.outside ∙ bases k t;
               rows = s.holds;
-              tests = ap (λ x. Some (not (x == 0))) (both_is v);
+              tests = ap (λ x. Some (not (x == 0))) (both_is m);
             };
-            way = w2;
+            way = record { stack = stack; block = block; outside = w2.outside; mapped = s.mapped; xmm = refl };
           },
-        )
-
-    -- the words of slots become the arrays' bases, and the number of rows is left
-    pub rows_line : (two_d : Bool) (m : ℕ) (base : ℕ → ℕ) (c : Core) → c.gpr 4 ≡ rsp → c.gpr 7 ≡ rdi → Calmly c → ((x : ℕ) → InRows x → IsMapped c.memory x)
-        → ((k : ℕ) → IsSlot dests sources k → word c.memory (rdi + base_word k) ≡ Some (base k)) → ((k : ℕ) → IsSlot dests sources k → base k < 2 ^ 64) → word c.memory (rdi + 8) ≡ Some m → (if two_d then m else 1) < 2 ^ 64
-        → (d : Core) × Line Q (rows_code two_d dests sources) c d × Passed dests sources base (if two_d then m else 1) c d
-    rows_line two_d m base c s b calmly there words small word_m few =
-        let a = arrays_line Q base_code base dests sources few_dests few_sources c s b (λ k l t u h e. base_line c base k l calmly there (words k t) (small k t) u h) in
-        let z = count_line two_d m base c calmly there word_m few a.0 a.2.way a.2.holds in (
-          z.0,
-          line_append Q (arrays_code base_code dests sources) (count_code two_d) c a.0 z.0 a.1 z.1,
-          record { gpr = λ r p q. z.2.gpr r p q ∙ a.2.gpr r p q; has = z.2.has; way = way_on c a.0 z.0 a.2.way z.2.way },
         )
 
     -- ---- the start of a row

@@ -17,20 +17,19 @@ use Rattle.orc_frame.specs.Parts.{InBlock, InSums, InReturn, sum_word}
 use Rattle.orc_frame.specs.GoodCall.{GoodCall}
 use Rattle.orc_frame.specs.Function.{subject_of}
 use Rattle.orc_frame.specs.Frame.{saved}
-use Rattle.orc_asm.specs.Rows.{rows_code, whole_flow}
+use Rattle.orc_asm.specs.Rows.{whole_flow}
 use Rattle.orc_asm.proofs.Row.Emulated.{end_with}
 use Rattle.orc_region.proofs.Calls.Cells.{Arrays, call}
 use Rattle.orc_region.proofs.Calls.Wide.{by_pointer, cell_weight}
-use Rattle.orc_asm.proofs.Row.Counts.{rows_count, rows_free}
 use Rattle.orc_asm.proofs.Row.Lines.{InRows}
-use Rattle.orc_asm.proofs.Row.Loop.{rsp, Frame, Dests, stack_low, Steady, Ready, Ended, begin, rows_done}
+use Rattle.orc_asm.proofs.Row.Loop.{rsp, Frame, Dests, stack_low, Steady, Ready, Ended, rows_by}
 
 -- a list that goes by RSP and RDI alone weighs nothing
 pub own_free : (list : List Ins) → AreOwn list → weigh cell_weight list ≡ 0
 own_free list h = weigh_free cell_weight list (h by_pointer refl refl)
 
-lists_around : (v : Ins → ℕ) (first starts body last : List Ins) (some : ℕ) → weigh v starts ≡ 0 → weigh v body ≤ some → weigh v (first ++ ((starts ++ body) ++ last)) ≤ weigh v first + some + weigh v last
-lists_around v first starts body last some e l = omega (arith, weigh_append v first ((starts ++ body) ++ last), weigh_append v (starts ++ body) last, weigh_append v starts body, e, l)
+lists_around : (v : Ins → ℕ) (first rows last : List Ins) (some : ℕ) → weigh v rows ≤ some → weigh v (first ++ (rows ++ last)) ≤ weigh v first + some + weigh v last
+lists_around v first rows last some l = omega (arith, weigh_append v first (rows ++ last), weigh_append v rows last, l)
 
 module _ (f : FunctionValue) (known : Arrays f) (code : Placed) (s : Point) (args : Arguments) (back : ℕ) (good : GoodCall (subject_of f) code s args back) where
   abbrev pub lowered : ℕ
@@ -99,15 +98,12 @@ module _ (f : FunctionValue) (known : Arrays f) (code : Placed) (s : Point) (arg
       pub path : (done : List Ins) × (d : Core) × Does Q (whole_flow first elements last f.two_d (count_of kind.Dest f.vars) (count_of kind.Source f.vars)) s.core done d × Passed done d
       path =
           let a = parts.begins in
-          let b = begin f known code s args back good parts.Kept Q calmly parts.kept_on a.0 a.2 in
-          let x = rows_done f known code s args back good parts.Kept Q calmly parts.kept_on elements each by_pointer refl refl some parts.does (start s.core.memory) b.0 b.2 in
+          let x = rows_by f known code s args back good parts.Kept Q calmly parts.kept_on elements each by_pointer refl refl some parts.does f.two_d refl a.0 a.2 in
           let z = parts.ends x.0 x.2 x.4.steady in
-          let starts = rows_code f.two_d (count_of kind.Dest f.vars) (count_of kind.Source f.vars) in
-          let rest = (starts ++ x.1) ++ last in
           let d = z.0 in (
-            first ++ rest,
+            first ++ (x.1 ++ last),
             d,
-            (first, rest, a.0, (a.1, refl), (starts ++ x.1, last, x.2, (starts, x.1, b.0, (b.1, refl), x.3, refl), (z.1, refl), refl), refl),
+            (first, x.1 ++ last, a.0, (a.1, refl), (x.1, last, x.2, x.3, (z.1, refl), refl), refl),
             record {
               end = x.0;
               emulated = x.4.emulated;
@@ -116,14 +112,7 @@ module _ (f : FunctionValue) (known : Arrays f) (code : Placed) (s : Point) (arg
               words = z.2.words;
               agree = λ t nf ns. z.2.outside t nf ns ∙ x.4.steady.agree t nf;
               still = record { stack = inl z.2.stack; quiet = λ t nc nf ns. z.2.outside t nf ns ∙ x.4.steady.quiet t nc nf };
-              light = lists_around cell_weight first starts x.1 last (rows (subject_of f) args * some) (rows_free by_pointer refl refl f.two_d (count_of kind.Dest f.vars) (count_of kind.Source f.vars)) x.6;
-              short = omega (
-                arith,
-                length-append first rest,
-                length-append (starts ++ x.1) last,
-                length-append starts x.1,
-                rows_count (count_of kind.Dest f.vars) (count_of kind.Source f.vars) f.two_d,
-                x.5,
-              );
+              light = lists_around cell_weight first x.1 last (rows (subject_of f) args * some) x.6;
+              short = omega (arith, length-append first (x.1 ++ last), length-append x.1 last, x.5);
             },
           )
