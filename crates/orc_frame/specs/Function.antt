@@ -1,12 +1,12 @@
 -- Functions of the language as calls see them.
-use Rattle.std.specs.Prelude.{◌≡◌, ℕ, ◌+◌, List, Option, Some, None, Result, Ok, Err, slice_index}
+use Rattle.std.specs.Prelude.{◌≡◌, ℕ, ◌+◌, ◌*◌, List, Option, Some, None, Result, Ok, Err, slice_index, if◌then◌else◌}
 use Rattle.std.specs.List.{count_by, sum_by}
 use Rattle.orc_bits.specs.Memory.{Memory}
 use Rattle.orc_program.specs.declared.program.Var.{Var}
 use Rattle.orc_program.specs.declared.program.VarKind.TheVariants as kind
 use Rattle.orc_program.specs.declared.program.Insn.{Insn}
 use Rattle.orc_program.specs.declared.call.Call.{Call}
-use Rattle.orc_program.specs.Program.{FunctionValue, count_of}
+use Rattle.orc_program.specs.Program.{FunctionValue, count_of, is_far}
 use Rattle.orc_program.specs.Meaning.{Gap, emulate}
 use Rattle.orc_program.specs.Facts.{facts_of, call_meets}
 use Rattle.orc_program.specs.Good.{IsByte, GoodArrays, byte_at}
@@ -19,9 +19,9 @@ abbrev pub end_of : Result (Memory × List ℕ) Gap → Option End
 end_of (Ok e) = Some (record { memory = e.0; sums = slice_index e.1 })
 end_of (Err g) = None
 
--- how many operands of an instruction are arrays
-abbrev pub array_operands : List Var → Insn → ℕ
-array_operands vars insn = count_by (is_array_operand vars) insn.results.items + count_by (is_array_operand vars) insn.sources.items
+-- how often an instruction's operands may touch cells while n elements are done at once: one time for each that is an array, but 2n times for the array of a far load
+abbrev pub array_operands : ℕ → List Var → Insn → ℕ
+array_operands n vars insn = count_by (is_array_operand vars) insn.results.items + (if is_far insn then 2 * n else count_by (is_array_operand vars) insn.sources.items)
 
 -- the address is that of a byte of a cell
 pub record IsCellByte (f : FunctionValue) (call : Call) (a : ℕ) : Type 0 where
@@ -47,5 +47,5 @@ subject_of f = record {
   lanes = lanes f;
   whole = has_whole_turns f;
   turns = turns f;
-  operands = sum_by (array_operands f.vars) f.insns;
+  operands = sum_by (array_operands (lanes f) f.vars) f.insns;
 }

@@ -32,7 +32,7 @@ pub record Subject : Type 1 where
   pub good : Call → Memory → Type 0
   -- none where a cell isn't mapped
   pub emulate : Call → Memory → Option End
-  -- elements at once, whether they divide n by the facts, the bound on turns in a row from n, and the operands that are arrays
+  -- elements at once, whether they divide n by the facts, the bound on turns in a row from n, and how often a turn may touch cells
   pub lanes : ℕ
   pub whole : Bool
   pub turns : ℕ → ℕ

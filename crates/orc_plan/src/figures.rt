@@ -2,13 +2,14 @@
 
 ghost use Rattle.std.specs.Prelude.{◌≡◌, ◌*◌, ◌≤◌, length, map, max};
 ghost use Rattle.std.specs.List.{fold, sum_by};
+ghost use Rattle.orc_ops.specs.Far.{far_of, far_weight};
 ghost use Rattle.orc_program.specs.Checks.{operand_sizes};
-ghost use Rattle.orc_program.specs.Need.{largest, declared_size, insn_size, lanes, spills, cost, cost_for, source_cost, result_cost, insn_cost};
+ghost use Rattle.orc_program.specs.Need.{largest, declared_size, insn_size, lanes, spills, cost, cost_for, source_cost, result_cost, op_cost, insn_cost};
 
 use crate::counting::widest_need;
 use crate::lowering::lower;
 use crate::placing::REGISTERS;
-use orc_ops::{Op, Target, class_for};
+use orc_ops::{Far, Op, Target, class_for, far_of};
 use orc_program::variables::kind_at;
 use orc_program::{Function, Insn, Operand, Var, VarKind, is_count, result_size, source_size};
 
@@ -138,35 +139,67 @@ fn results_cost(spills: bool, vars: &[Var], operands: &[Operand]) -> u32
     result_cost(spills, vars, *operand) + results_cost(spills, vars, rest)
 }
 
-/// The cost of an instruction: its sources', its results', and the class of its opcode for the target.
-fn insn_cost(spills: bool, vars: &[Var], insn: &Insn, target: Target) -> u32
-    ensures cost { result ≡ insn_cost target spills vars.now insn.now }
-    ensures few { result ≤ 300 }
+/// The greatest number of instructions that bring the values of a far load for `count` elements to a register.
+fn far_weight(far: Far, count: u8) -> u32
+    ensures weight { result ≡ far_weight far count }
+    ensures few { result ≤ 17000 }
+{
+    let count = u32::from(count);
+    match far {
+        Far::Loadoffb | Far::Loadoffw | Far::Loadoffl => 16,
+        Far::Loadupdb | Far::Loadupib | Far::Ldresnearb | Far::Ldresnearl => 16 + 24 * count,
+        Far::Ldreslinb => 16 + 32 * count,
+        Far::Ldreslinl => 16 + 64 * count,
+    }
+}
+
+/// The cost of an opcode: that of a far load for so many elements, else its class for the target.
+fn op_cost(op: Op, lanes: u8, target: Target) -> u32
+    ensures cost { result ≡ op_cost target lanes op (far_of op) }
+    ensures few { result ≤ 17000 }
+{
+    match far_of(op) {
+        Some(far) => far_weight(far, lanes),
+        None => u32::from(class_for(op, target)),
+    }
+}
+
+/// The cost of an instruction: its sources', its results', and its opcode's.
+fn insn_cost(spills: bool, lanes: u8, vars: &[Var], insn: &Insn, target: Target) -> u32
+    ensures cost { result ≡ insn_cost target lanes spills vars.now insn.now }
+    ensures few { result ≤ 18000 }
 {
     let sources = sources_cost(vars, insn.sources.as_slice());
     let results = results_cost(spills, vars, insn.results.as_slice());
-    sources + results + u32::from(class_for(insn.op, target))
+    sources + results + op_cost(insn.op, lanes, target)
 }
 
 /// The cost of instructions.
-fn cost_of(spills: bool, vars: &[Var], insns: &[Insn], target: Target) -> u32
+fn cost_of(spills: bool, lanes: u8, vars: &[Var], insns: &[Insn], target: Target) -> u32
     requires { length insns.now ≤ 100 }
-    ensures cost { result ≡ sum_by (insn_cost target spills vars.now) insns.now }
-    ensures few { result ≤ 300 * length insns.now }
+    ensures cost { result ≡ sum_by (insn_cost target lanes spills vars.now) insns.now }
+    ensures few { result ≤ 18000 * length insns.now }
 {
     let [insn, rest @ ..] = insns else {
         return 0;
     };
-    insn_cost(spills, vars, insn, target) + cost_of(spills, vars, rest, target)
+    insn_cost(spills, lanes, vars, insn, target) + cost_of(spills, lanes, vars, rest, target)
 }
 
 /// The sum over all instructions of the class of the opcode for the target, 2 for each source that is a dest or a source variable, 1 for
 /// each other source, and 2 for each result that is a dest or an accumulator; a result that is a temp costs 1 where some instruction needs
-/// more than ten values of temps at once, else nothing.
+/// more than ten values of temps at once, else nothing. A far load has in place of the class the greatest number of instructions that bring
+/// its values for as many elements as are done at once.
 pub fn cost_for(f: &Function, target: Target) -> u32
     ensures { result ≡ cost_for f.now target }
 {
-    cost_of(spills(f), f.vars.as_slice(), f.insns.as_slice(), target)
+    cost_of(
+        spills(f),
+        lanes(f),
+        f.vars.as_slice(),
+        f.insns.as_slice(),
+        target,
+    )
 }
 
 /// The cost for SSE2: [`cost_for`] of [`Target::Sse2`].

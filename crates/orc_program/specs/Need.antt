@@ -1,8 +1,11 @@
 -- Need, lanes, cost and steps.
-use Rattle.std.specs.Prelude.{ℕ, zero, suc, ◌+◌, ◌-◌, ◌*◌, ◌/◌, ◌%◌, min, max, Bool, not, ◌&&◌, ◌||◌, ◌==◌, nat_lt, nat_le, List, [], ◌∷◌, if◌then◌else◌, length, drop, slice_index, map}
+use Rattle.std.specs.Prelude.{ℕ, zero, suc, ◌+◌, ◌-◌, ◌*◌, ◌/◌, ◌%◌, min, max, Bool, not, ◌&&◌, ◌||◌, ◌==◌, nat_lt, nat_le, List, [], ◌∷◌, Option, Some, None, if◌then◌else◌, length, drop, slice_index, map}
 use Rattle.std.specs.List.{list_any, count_by, sum_by, range_with_len, fold}
+use Rattle.orc_ops.specs.declared.far.Far.{Far}
+use Rattle.orc_ops.specs.declared.opcode.Op.{Op}
 use Rattle.orc_ops.specs.declared.target.Target.{Target}
 use Rattle.orc_ops.specs.declared.target.Target.TheVariants as target
+use Rattle.orc_ops.specs.Far.{far_of, far_weight}
 use Rattle.orc_ops.specs.Targets.{class_for}
 use Rattle.orc_program.specs.declared.program.Var.{Var}
 use Rattle.orc_program.specs.declared.program.VarKind.TheVariants as kind
@@ -115,13 +118,18 @@ source_cost vars o = if is_array_operand vars o then 2 else 1
 abbrev pub result_cost : Bool → List Var → Operand → ℕ
 result_cost spills vars o = if operand_is kind.Dest vars o || operand_is kind.Accumulator vars o then 2 else (if spills && is_temp vars o then 1 else 0)
 
--- the cost of an instruction: its sources', its results', and the class of its opcode for the target
-abbrev pub insn_cost : Target → Bool → List Var → Insn → ℕ
-insn_cost target spills vars insn = sum_by (source_cost vars) insn.sources.items + sum_by (result_cost spills vars) insn.results.items + class_for insn.op target
+-- the cost of an opcode: w for L elements of the far load that it is, or else its class for the target
+abbrev pub op_cost : Target → ℕ → Op → Option Far → ℕ
+op_cost target lanes op None = class_for op target
+op_cost target lanes op (Some far) = far_weight far lanes
+
+-- the cost of an instruction: its sources', its results', and its opcode's
+abbrev pub insn_cost : Target → ℕ → Bool → List Var → Insn → ℕ
+insn_cost target lanes spills vars insn = sum_by (source_cost vars) insn.sources.items + sum_by (result_cost spills vars) insn.results.items + op_cost target lanes insn.op (far_of insn.op)
 
 -- E: the sum over all instructions
 abbrev pub cost_for : FunctionValue → Target → ℕ
-cost_for f target = sum_by (insn_cost target (spills f) f.vars) f.insns
+cost_for f target = sum_by (insn_cost target (lanes f) (spills f) f.vars) f.insns
 
 abbrev pub cost : FunctionValue → ℕ
 cost f = cost_for f target.Sse2

@@ -38,7 +38,7 @@ dis_refusal input = if begins_elf input then option_map (λ e. Object e) (first_
 abbrev pub refusal_within : Command → List ℕ → Option Refusal
 refusal_within (Asm target) input = option_or (near_refusal input) (pressure_refusal input)
 refusal_within C input = near_refusal input
-refusal_within (Check target) input = near_refusal input
+refusal_within (Check target) input = fault_refusal input
 refusal_within Fmt input = fault_refusal input
 refusal_within Run input = run_refusal input
 refusal_within Dis input = dis_refusal input

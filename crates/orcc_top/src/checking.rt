@@ -5,7 +5,7 @@ ghost use Rattle.orcc_top.specs.Figures.{figures_line, figures_text};
 ghost use Rattle.orcc_top.specs.Replies.{Replies};
 
 use crate::command::Command;
-use crate::parsing::read_near;
+use crate::parsing::read_text;
 use crate::reply::Reply;
 use orc_ops::Target;
 use orc_plan::{cost_for, lanes, lower, widest_need};
@@ -59,7 +59,7 @@ pub fn check_text(alloc: Global, text: &[u8], target: Target) -> Result<Reply, A
     requires { length text.now ≤ 1048576 }
     ensures { IfOk result (λ reply. Replies (Command.Check target) text.now reply) }
 {
-    match read_near(alloc, text)? {
+    match read_text(alloc, text)? {
         Ok(program) => {
             let mut out = Vec::new(alloc);
             put_all(alloc, &mut out, program.functions.as_slice(), target)?;

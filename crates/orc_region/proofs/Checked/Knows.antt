@@ -7,6 +7,7 @@ use Rattle.orc_bits.proofs.LaneLaws.{change_other, change_same}
 use Rattle.orc_ops.specs.declared.opcode.Op.{Op}
 use Rattle.orc_ops.specs.declared.target.Target.{Target as CodeTarget}
 use Rattle.orc_ops.specs.Table.{row, size_of_result, size_of_source}
+use Rattle.orc_ops.specs.Far.{far_of}
 use Rattle.orc_ops.specs.Targets.{class_for}
 use Rattle.orc_program.specs.declared.program.Operand.{Operand}
 use Rattle.orc_program.specs.declared.program.Operand.TheVariants as operand
@@ -17,8 +18,9 @@ use Rattle.orc_program.specs.declared.call.Call.{Call}
 use Rattle.orc_program.specs.Program.{FunctionValue, var_at, same_kind, is_array_kind, count_of, count_before, places_of, has_far}
 use Rattle.orc_program.specs.Slots.{slot_of, size_of_slot}
 use Rattle.orc_program.specs.Checks.{way_of}
-use Rattle.orc_program.specs.Need.{made_by, is_array_operand, source_cost, spills, result_cost, insn_cost, cost_for}
+use Rattle.orc_program.specs.Need.{made_by, is_array_operand, lanes, source_cost, spills, result_cost, op_cost, insn_cost, cost_for}
 use Rattle.orc_program.specs.Kept.{is_function}
+use Rattle.orc_program.proofs.Near.{near_op}
 use Rattle.orc_program.proofs.PatternLaws.{patterns_few}
 use Rattle.x86_flow.specs.Moves.{IsWidth}
 use Rattle.x86_ins.specs.Way.{Each}
@@ -572,18 +574,18 @@ module _ (f : FunctionValue) (h : is_function f ≡ true) (at : List ℕ) (count
   fit_from target temps (insn ∷ insns) [] d fits is = absurd is
   fit_from target temps (insn ∷ insns) (a ∷ rest) d fits is = (fit_one temps insn insns a d.0 fits.0 is.0.0, fit_from target (temps ++ made_by f.vars insn) insns rest d.1 fits.1 is.1)
 
-  weight_within : {target : CodeTarget} (temps : List ℕ) (insn : Insn) (rest : List Insn) (a : Action) → IsPlanned f at temps insn rest → IsAction target (seats_of f at) count (step_at f temps insn) a → weight a ≤ insn_cost target (spills f) f.vars insn
+  weight_within : {target : CodeTarget} (temps : List ℕ) (insn : Insn) (rest : List Insn) (a : Action) → IsPlanned f at temps insn rest → IsAction target (seats_of f at) count (step_at f temps insn) a → weight a ≤ insn_cost target (lanes f) (spills f) f.vars insn
   weight_within {target} temps insn rest a d is =
       let sources : from_weights a.sources ≡ from_weights (sources_at f at temps insn) = ap from_weights is.sources in
       let results : to_weights a.to ≡ to_weights (targets_at f at temps insn) = ap to_weights is.to in
-      let class : class_for a.op target ≡ class_for insn.op target = ap (λ o. class_for o target) is.op in
+      let class : class_for a.op target ≡ op_cost target (lanes f) insn.op (far_of insn.op) = ap (λ o. class_for o target) is.op ∙ sym (ap (op_cost target (lanes f) insn.op) (near_op insn d.near)) in
       omega (arith, sources, results, class, is.few, (from_few temps insn rest d).cost, (to_few temps insn rest d).cost)
 
-  weights_from : (target : CodeTarget) (temps : List ℕ) (insns : List Insn) (actions : List Action) → ArePlanned f at temps insns → AreActions target (seats_of f at) count (steps_from f temps insns) actions → weights actions ≤ sum_by (insn_cost target (spills f) f.vars) insns
+  weights_from : (target : CodeTarget) (temps : List ℕ) (insns : List Insn) (actions : List Action) → ArePlanned f at temps insns → AreActions target (seats_of f at) count (steps_from f temps insns) actions → weights actions ≤ sum_by (insn_cost target (lanes f) (spills f) f.vars) insns
   weights_from target temps [] [] d is = omega arith
   weights_from target temps [] (a ∷ rest) d is = absurd is
   weights_from target temps (insn ∷ insns) [] d is = absurd is
-  weights_from target temps (insn ∷ insns) (a ∷ rest) d is = omega (arith, weight_within temps insn insns a d.0 is.0.0, weights_from target (temps ++ made_by f.vars insn) insns rest d.1 is.1, sum_by-cons (insn_cost target (spills f) f.vars) insn insns)
+  weights_from target temps (insn ∷ insns) (a ∷ rest) d is = omega (arith, weight_within temps insn insns a d.0 is.0.0, weights_from target (temps ++ made_by f.vars insn) insns rest d.1 is.1, sum_by-cons (insn_cost target (lanes f) (spills f) f.vars) insn insns)
 
   -- ---- what is asked of a step whose code is to be given
 

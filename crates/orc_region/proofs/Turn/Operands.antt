@@ -1,5 +1,5 @@
 -- The arrays among the operands of a function's actions are those of its instructions.
-use Rattle.std.proofs.Common.{◌≡◌, ℕ, ◌+◌, ◌*◌, ◌≤◌, Bool, true, false, true≢false, ◌||◌, cond, List, [], ◌∷◌, ◌++◌, length, map, refl, sym, ap, ◌∙◌, arith}
+use Rattle.std.proofs.Common.{◌≡◌, ℕ, ◌+◌, ◌*◌, ◌≤◌, Bool, true, false, true≢false, ◌||◌, cond, if◌then◌else◌, List, [], ◌∷◌, ◌++◌, length, map, refl, sym, ap, ◌∙◌, arith}
 use Rattle.std.specs.List.{count_by, sum_by}
 use Rattle.std.proofs.lemmas.List.Sums.{sum_by-cons}
 use Rattle.orc_ops.specs.declared.opcode.Op.{Op}
@@ -11,7 +11,7 @@ use Rattle.orc_program.specs.declared.program.Insn.{Insn}
 use Rattle.orc_program.specs.Program.{FunctionValue, var_at, count_of, same_kind, is_array_kind, has_far}
 use Rattle.orc_program.specs.Slots.{size_of_slot}
 use Rattle.orc_program.specs.Kept.{is_function}
-use Rattle.orc_program.specs.Need.{made_by, is_array_operand}
+use Rattle.orc_program.specs.Need.{made_by, is_array_operand, lanes}
 use Rattle.orc_plan.specs.declared.steps.Step.{Step}
 use Rattle.orc_plan.specs.Lowered.{result_items, source_items, step_of, steps_after, steps_of}
 use Rattle.orc_frame.specs.Function.{array_operands, subject_of}
@@ -79,18 +79,20 @@ module _ (f : FunctionValue) (at : List ℕ) where
   to_all op prefix (x ∷ y ∷ []) (t ∷ u ∷ v ∷ more) d = absurd d
   to_all op prefix (x ∷ y ∷ z ∷ rest) ts d = absurd d
 
-  one_action : {target : CodeTarget} (count : ℕ) (temps : List ℕ) (insn : Insn) (rest : List Insn) (a : Action) → IsPlanned f at temps insn rest → IsAction target (seats_of f at) count (step_of f.vars (patterns_in f) temps insn) a → from_arrays a.sources + to_arrays a.to ≤ array_operands f.vars insn
+  one_action : {target : CodeTarget} (count : ℕ) (temps : List ℕ) (insn : Insn) (rest : List Insn) (a : Action) → IsPlanned f at temps insn rest → IsAction target (seats_of f at) count (step_of f.vars (patterns_in f) temps insn) a → from_arrays a.sources + to_arrays a.to ≤ array_operands (lanes f) f.vars insn
   one_action count temps insn rest a d is =
       let sources = from_all temps (steps_after f.vars (patterns_in f) temps (insn ∷ rest)) insn.op insn.prefix insn.sources.items (map (source_of (seats_of f at)) (source_items f.vars (patterns_in f) temps insn.op 0 insn.sources.items)) d.sources in
       let results = to_all insn.op insn.prefix insn.results.items (map (target_of at) (result_items f.vars (length temps) insn.results.items)) d.to in
-      omega (arith, ap from_arrays is.sources, ap to_arrays is.to, sources, results)
+      let one_each : array_operands (lanes f) f.vars insn ≡ count_by (is_array_operand f.vars) insn.results.items + count_by (is_array_operand f.vars) insn.sources.items =
+      ap (λ b. count_by (is_array_operand f.vars) insn.results.items + (if b then 2 * lanes f else count_by (is_array_operand f.vars) insn.sources.items)) d.near in
+      omega (arith, ap from_arrays is.sources, ap to_arrays is.to, sources, results, one_each)
 
-  arrays_from : (target : CodeTarget) (count : ℕ) (temps : List ℕ) (insns : List Insn) (actions : List Action) → ArePlanned f at temps insns → AreActions target (seats_of f at) count (steps_after f.vars (patterns_in f) temps insns) actions → arrays_of actions ≤ sum_by (array_operands f.vars) insns
+  arrays_from : (target : CodeTarget) (count : ℕ) (temps : List ℕ) (insns : List Insn) (actions : List Action) → ArePlanned f at temps insns → AreActions target (seats_of f at) count (steps_after f.vars (patterns_in f) temps insns) actions → arrays_of actions ≤ sum_by (array_operands (lanes f) f.vars) insns
   arrays_from target count temps [] [] d is = omega arith
   arrays_from target count temps [] (a ∷ rest) d is = absurd is
   arrays_from target count temps (insn ∷ insns) [] d is = absurd is
   arrays_from target count temps (insn ∷ insns) (a ∷ rest) d is =
-      omega (arith, one_action count temps insn insns a d.0 is.0.0, arrays_from target count (temps ++ made_by f.vars insn) insns rest d.1 is.1, sum_by-cons (array_operands f.vars) insn insns)
+      omega (arith, one_action count temps insn insns a d.0 is.0.0, arrays_from target count (temps ++ made_by f.vars insn) insns rest d.1 is.1, sum_by-cons (array_operands (lanes f) f.vars) insn insns)
 
 -- the actions of a function's steps
 pub arrays_few : (target : CodeTarget) (f : FunctionValue) → is_function f ≡ true → has_far f ≡ false → (at : List ℕ) → AllPlaced f at → (count : ℕ) (actions : List Action) → AreActions target (seats_of f at) count (steps_of f) actions → arrays_of actions ≤ (subject_of f).operands

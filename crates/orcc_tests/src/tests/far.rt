@@ -4,14 +4,15 @@ use orcc_top::Status;
 use std::alloc::{AllocError, Global};
 
 /// Far loads from a source of bytes at 8192 to a dest at 4096: the line, the number of elements, the bytes of the dest, the segment of the
-/// source, and what `emulate` writes.
-const LOADS: [(&str, &str, &str, &str, &str); 4] = [
+/// source, what `emulate` writes, and the figures of `check`.
+const LOADS: [(&str, &str, &str, &str, &str, &str); 4] = [
     (
         "ldreslinb d1, s1, 0, 32768\n",
         "4",
         "00000000",
         r#"{"at":8192,"bytes":"0064c8"}"#,
         "end emulated\nmem 4096 00326496\nmem 8192 0064c8\n",
+        "f need 0 lanes 4 cost 150\n",
     ),
     (
         "loadupib d1, s1\n",
@@ -19,6 +20,7 @@ const LOADS: [(&str, &str, &str, &str, &str); 4] = [
         "00000000",
         r#"{"at":8192,"bytes":"102030"}"#,
         "end emulated\nmem 4096 10182028\nmem 8192 102030\n",
+        "f need 0 lanes 16 cost 404\n",
     ),
     (
         "loadoffb d1, s1, -1\n",
@@ -26,6 +28,7 @@ const LOADS: [(&str, &str, &str, &str, &str); 4] = [
         "0000",
         r#"{"at":8191,"bytes":"0a0b"}"#,
         "end emulated\nmem 4096 0a0b\nmem 8191 0a0b\n",
+        "f need 0 lanes 4 cost 21\n",
     ),
     (
         "loadupdb d1, s1\n",
@@ -33,6 +36,7 @@ const LOADS: [(&str, &str, &str, &str, &str); 4] = [
         "00000000",
         r#"{"at":8192,"bytes":"10"}"#,
         "end unmapped 0 2 8193\n",
+        "f need 0 lanes 16 cost 404\n",
     ),
 ];
 
@@ -44,7 +48,7 @@ fn text_of(alloc: Global, line: &str) -> Result<String, AllocError> {
 #[test]
 fn far_loads_are_emulated_and_have_no_code(rt: HostRuntime) -> Result<(), AllocError> {
     let alloc = rt.alloc();
-    for (line, n, dest, source, said) in LOADS {
+    for (line, n, dest, source, said, figures) in LOADS {
         let text = text_of(alloc, line)?;
         let input = format!(in alloc;
             "{text}%%\n{{\"function\":\"f\",\"n\":{n},\"m\":1,\"arrays\":[{{\"base\":4096,\"stride\":0}},{{\"base\":8192,\"stride\":0}}],\"params\":[],\"memory\":[{{\"at\":4096,\"bytes\":\"{dest}\"}},{source}],\"budget\":1}}"
@@ -54,7 +58,11 @@ fn far_loads_are_emulated_and_have_no_code(rt: HostRuntime) -> Result<(), AllocE
         assert!(rt; ran.output.as_slice() == said.as_bytes(), "{line}");
         let shown = run(alloc, &["fmt"], text.as_bytes())?;
         assert!(rt; shown.output.as_slice() == text.as_bytes(), "{line}");
-        for word in ["c", "asm", "asm41", "obj", "check", "check41"] {
+        for word in ["check", "check41"] {
+            let checked = run(alloc, &[word], text.as_bytes())?;
+            assert!(rt; checked.output.as_slice() == figures.as_bytes(), "{word} {line}");
+        }
+        for word in ["c", "asm", "asm41", "obj"] {
             let refused = run(alloc, &[word], text.as_bytes())?;
             assert_eq!(rt; refused.status, Status::Refused, "{word} {line}");
             assert!(rt;
