@@ -88,7 +88,7 @@ fn scalars_of(source: &FarSource) -> ArrayVec<i32, 2>
     scalars
 }
 
-/// The plan of the values' part.
+/// The plan of the values' part, whose code writes no memory.
 fn plan_of(source: &FarSource) -> FarPlan
     ensures { result ≡ plan_of source.now }
 {
