@@ -14,7 +14,6 @@ use Rattle.x86_ins.specs.Way.{Each}
 use Rattle.x86_ins.specs.Machine.{Core, with_gpr, with_memory, alu_core, moved, access, load, save, work}
 use Rattle.x86_flow.specs.Does.{Line}
 use Rattle.x86_flow.specs.Moves.{IsWidth, away}
-use Rattle.x86_flow.specs.Touching.{touch_weight}
 use Rattle.x86_flow.proofs.Frame.{word_stored}
 use Rattle.x86_flow.proofs.Moves.{line_append}
 use Rattle.x86_flow.proofs.Touching.{touches_none}
@@ -22,10 +21,10 @@ use Rattle.orc_ops.specs.declared.far.Far.{Far}
 use Rattle.orc_ops.specs.Far.{far_size, far_first, far_second, far_part, far_blend, other}
 use Rattle.orc_resample.specs.declared.turn.FarSource.{FarSource}
 use Rattle.orc_resample.specs.Code.{slot, scratch, gather_with, plan_of, enter_code, leave_code, bring_code}
-use Rattle.orc_resample.specs.Ready.{IsPlan, Source, Ready, IsScratch, Keeps, Gathered, OnTheWay, cell, element, some_or_zero, IsRead, value_at, InWord, InPlan, is_pointer}
-use Rattle.orc_resample.specs.Bring.{pattern_at, IsKept, IsSpare, LiesIn, AreApart, IsFarSource, InWords, AtHand, Stays, Brought, is_array, InOwn, OnTurn, Brings}
+use Rattle.orc_resample.specs.Ready.{IsPlan, Source, Ready, IsScratch, Keeps, Gathered, OnTheWay, cell, element, some_or_zero, IsRead, value_at, InWord, InPlan}
+use Rattle.orc_resample.specs.Bring.{pattern_at, IsKept, IsSpare, LiesIn, AreApart, IsFarSource, InWords, AtHand, Stays, Brought, InOwn, OnTurn, Brings}
 use Rattle.orc_resample.proofs.Gathered.{line_bounded, gathers}
-use Rattle.orc_resample.proofs.Touched.{gather_agrees, agree_each}
+use Rattle.orc_resample.proofs.Touched.{Agrees, gather_agrees, agree_each}
 
 -- ---- memories that agree on some bytes
 
@@ -156,13 +155,13 @@ module _ (count : ℕ) (source : FarSource) (is : IsFarSource source) (s : Sourc
 
   -- at a store to a word that is written, and at loads of the frame's words
   at_store : (u : Core) (q : ℕ) (z : ℤ) → IsSpare source z → Stays source c u → Q u (Store q (slot z))
-  at_store u q z spare t = (t, λ x w. inl (refl, inl (z, spare, subst (λ g. InWord (moved g z) x) t.stack w)))
+  at_store u q z spare t = (t, λ x w. inl (refl, inl (z, spare, subst (λ g. InWord (moved g z) x) t.stack w)), refl)
 
   at_spare : (u : Core) (q : ℕ) (z : ℤ) → IsSpare source z → Stays source c u → Q u (Load q (slot z))
-  at_spare u q z spare t = (t, λ x w. inl (refl, inl (z, spare, subst (λ g. InWord (moved g z) x) t.stack w)))
+  at_spare u q z spare t = (t, λ x w. inl (refl, inl (z, spare, subst (λ g. InWord (moved g z) x) t.stack w)), refl)
 
   at_kept : (u : Core) (q : ℕ) (z : ℤ) → IsKept source z → Stays source c u → Q u (Load q (slot z))
-  at_kept u q z kept t = (t, λ x w. inl (refl, inr (inl (z, kept, subst (λ g. InWord (moved g z) x) t.stack w))))
+  at_kept u q z kept t = (t, λ x w. inl (refl, inr (inl (z, kept, subst (λ g. InWord (moved g z) x) t.stack w))), refl)
 
   -- ---- before the values' part
 
@@ -211,7 +210,7 @@ module _ (count : ℕ) (source : FarSource) (is : IsFarSource source) (s : Sourc
       ∙ ap (λ o. access 8 c1.memory (c.gpr 7) o (λ w. with_gpr c1 0 w)) (word_kept c1 stays_1 (c.gpr 7) (λ x w h. at.apart x h (inr w)) ∙ at.number)
 
   at_sum : Q c1 (Load 0 (away 7 0))
-  at_sum = (stays_1, λ x w. inl (refl, inr (inr (w.0, w.1, w.2 ∙ ap (λ a. (a + w.0) % 2 ^ 64) at_block))))
+  at_sum = (stays_1, λ x w. inl (refl, inr (inr (w.0, w.1, w.2 ∙ ap (λ a. (a + w.0) % 2 ^ 64) at_block))), refl)
 
   entered : Line Q (enter_code source) c c5
   entered = (
@@ -225,12 +224,12 @@ module _ (count : ℕ) (source : FarSource) (is : IsFarSource source) (s : Sourc
           c2,
           loads_sum,
           (
-            (stays_2, λ x w. absurd (touches_none (Alu Sub 0 1) c2 refl x w)),
+            (stays_2, λ x w. absurd (touches_none (Alu Sub 0 1) c2 refl x w), refl),
             (
               c3,
               refl,
               (
-                (stays_3, λ x w. absurd (touches_none (AluImm Sub 0 (pos source.lowered)) c3 refl x w)),
+                (stays_3, λ x w. absurd (touches_none (AluImm Sub 0 (pos source.lowered)) c3 refl x w), refl),
                 (
                   c4,
                   refl,
@@ -291,8 +290,8 @@ module _ (count : ℕ) (source : FarSource) (is : IsFarSource source) (s : Sourc
   in_own x (inr (inl w)) = inr (inl (source.array, inr (inl refl), w))
   in_own x (inr (inr (j, l, w))) = inr (inl (pattern_at source j, inr (inr (j, l, refl)), w))
 
-  on_turn : (u : Core) (i : Ins) → touch_weight is_array i ≡ touch_weight is_pointer i → OnTheWay source.far count (plan_of source) s c5 u i → Q u i
-  on_turn u i same h = (stays_on u h.0, λ x t. ⊎_elim (λ n. inl (same ∙ n.0, in_own x n.1)) (λ f. inr (same ∙ f.0, f.1)) (h.1 x t))
+  on_turn : (u : Core) (i : Ins) → Agrees i → OnTheWay source.far count (plan_of source) s c5 u i → Q u i
+  on_turn u i agrees h = (stays_on u h.0, λ x t. ⊎_elim (λ n. inl (agrees.0 ∙ n.0, in_own x n.1)) (λ f. inr (agrees.0 ∙ f.0, f.1)) (h.1 x t), agrees.1)
 
   -- ---- behind it
 
@@ -349,7 +348,7 @@ module _ (count : ℕ) (source : FarSource) (is : IsFarSource source) (s : Sourc
       let r = gathers source.far count (plan_of source) is_plan width (each_front IsIns list (leave_code source) rest) s c5 (ready (each_front IsIns (enter_code source) (list ++ leave_code source) ranges)) in
       let d = r.0 in
       let e = d2 d r.2 in
-      let middle : Line Q list c5 d = line_each (λ i. touch_weight is_array i ≡ touch_weight is_pointer i) (OnTheWay source.far count (plan_of source) s c5) Q on_turn list c5 d (agree_each list (gather_agrees source.far (plan_of source) count width)) r.1 in
+      let middle : Line Q list c5 d = line_each Agrees (OnTheWay source.far count (plan_of source) s c5) Q on_turn list c5 d (agree_each list (gather_agrees source.far (plan_of source) count width)) r.1 in
       let line : Line Q (bring_code source count) c e = line_append Q (enter_code source) (list ++ leave_code source) c c5 e entered (line_append Q list (leave_code source) c5 d e middle (left d r.2)) in (
         e,
         line,

@@ -1,5 +1,5 @@
 -- By which registers the code inside a turn touches memory, how long it is, and that its instructions are allowed.
-use Rattle.std.proofs.Common.{◌≡◌, ℕ, zero, suc, ◌+◌, ◌-◌, ◌*◌, ◌≤◌, ◌==◌, ◌&&◌, Bool, true, length, List, [], ◌∷◌, ◌++◌, refl, ap, ◌∙◌, arith, length-append}
+use Rattle.std.proofs.Common.{◌≡◌, ℕ, zero, suc, ◌+◌, ◌-◌, ◌*◌, ◌≤◌, ◌==◌, ◌&&◌, Bool, true, false, not, true≢false, length, List, [], ◌∷◌, ◌++◌, refl, sym, ap, ◌∙◌, arith, length-append}
 use Rattle.x86_ins.specs.declared.ins.Ins.{Ins}
 use Rattle.x86_ins.specs.Spelling.{IsIns, IsAllowed}
 use Rattle.x86_ins.specs.Way.{Each}
@@ -13,14 +13,17 @@ use Rattle.orc_resample.specs.declared.plan.FarPlan.{FarPlan}
 use Rattle.orc_resample.specs.declared.turn.FarSource.{FarSource}
 use Rattle.orc_resample.specs.Code.{element_of, elements_code, row_code, gather_with, plan_of, enter_code, leave_code, bring_code}
 use Rattle.orc_resample.specs.Ready.{is_pointer, far_count}
-use Rattle.orc_resample.specs.Bring.{is_array, array_count}
+use Rattle.orc_resample.specs.Bring.{is_array, array_count, is_vector_store}
 use Rattle.orc_resample.proofs.Counted.{both, all_spelled, spelled_append, allowed, gather_short, gather_far, gather_spelled}
 
 -- ---- the values' part reads by RSP and RAX alone
 
--- an instruction that counts with RDI as without
+-- an instruction that counts with RDI as without, and stores no vector register
 abbrev agrees : Ins → Bool
-agrees i = touch_weight is_array i == touch_weight is_pointer i
+agrees i = (touch_weight is_array i == touch_weight is_pointer i) && not (is_vector_store i)
+
+abbrev pub Agrees : Ins → Type 0
+Agrees i = (touch_weight is_array i ≡ touch_weight is_pointer i) × (is_vector_store i ≡ false)
 
 abbrev pub all_agree : List Ins → Bool
 all_agree [] = true
@@ -62,13 +65,20 @@ gather_agrees Ldreslinl plan count is = elements_agree Ldreslinl plan count coun
 equal_of : (x y : ℕ) → (x == y) ≡ true → x ≡ y
 equal_of x y h = grind (arith)
 
-pub agree_each : (list : List Ins) → all_agree list ≡ true → Each (λ i. touch_weight is_array i ≡ touch_weight is_pointer i) list
-agree_each [] h = tt
-agree_each (i ∷ list) h = let s = both (agrees i) (all_agree list) h in (equal_of (touch_weight is_array i) (touch_weight is_pointer i) s.0, agree_each list s.1)
+not_true : (b : Bool) → not b ≡ true → b ≡ false
+not_true true h = absurd (true≢false (sym h))
+not_true false h = refl
 
-agree_count : (list : List Ins) → all_agree list ≡ true → array_count list ≡ far_count list
+agreed : (i : Ins) → agrees i ≡ true → Agrees i
+agreed i h = let s = both (touch_weight is_array i == touch_weight is_pointer i) (not (is_vector_store i)) h in (equal_of (touch_weight is_array i) (touch_weight is_pointer i) s.0, not_true (is_vector_store i) s.1)
+
+pub agree_each : (list : List Ins) → all_agree list ≡ true → Each Agrees list
+agree_each [] h = tt
+agree_each (i ∷ list) h = let s = both (agrees i) (all_agree list) h in (agreed i s.0, agree_each list s.1)
+
+agree_count : (list : List Ins) → Each Agrees list → array_count list ≡ far_count list
 agree_count [] h = refl
-agree_count (i ∷ list) h = let s = both (agrees i) (all_agree list) h in omega (arith, equal_of (touch_weight is_array i) (touch_weight is_pointer i) s.0, agree_count list s.1)
+agree_count (i ∷ list) h = omega (arith, h.0.0, agree_count list h.1)
 
 array_append : (x y : List Ins) → array_count (x ++ y) ≡ array_count x + array_count y
 array_append [] y = let q : array_count y ≡ 0 + array_count y = omega arith in q
@@ -80,7 +90,7 @@ pub bring_touches : (source : FarSource) (count : ℕ) → IsWidth (count * far_
 bring_touches source count is =
     let list = gather_with source.far (plan_of source) count 0 1 7 in
     let some : far_count list ≤ 2 * count = gather_far source.far count (plan_of source) is in
-    let same : array_count list ≡ far_count list = agree_count list (gather_agrees source.far (plan_of source) count is) in
+    let same : array_count list ≡ far_count list = agree_count list (agree_each list (gather_agrees source.far (plan_of source) count is)) in
     let front : array_count (enter_code source ++ (list ++ leave_code source)) ≡ array_count (list ++ leave_code source) = omega arith in
     let behind : array_count (list ++ leave_code source) ≡ array_count list + 0 = array_append list (leave_code source) in
     omega (arith, some, same, front, behind)

@@ -1,8 +1,9 @@
 -- What a far load's code needs of a state inside a turn of a function's loop, and what it leaves.
-use Rattle.std.specs.Prelude.{◌≡◌, ◌≢◌, ℕ, ◌+◌, ◌%◌, ◌^◌, ◌<◌, ◌≤◌, ◌⊎◌, ◌==◌, ◌||◌, ℤ, pos, negsuc, Bool, not, List, [], ◌∷◌, length, get_or, Some}
+use Rattle.std.specs.Prelude.{◌≡◌, ◌≢◌, ℕ, ◌+◌, ◌%◌, ◌^◌, ◌<◌, ◌≤◌, ◌⊎◌, ◌==◌, ◌||◌, ℤ, pos, negsuc, Bool, true, false, not, List, [], ◌∷◌, length, get_or, Some}
 use Rattle.orc_bits.specs.Lanes.{lane}
 use Rattle.orc_bits.specs.Memory.{word, IsMapped}
 use Rattle.x86_ins.specs.declared.ins.Ins.{Ins}
+use Rattle.x86_ins.specs.declared.ins.Ins.TheVariants.{VecStore}
 use Rattle.x86_ins.specs.Machine.{Core, Bounded, Touches, moved}
 use Rattle.x86_flow.specs.Does.{Line}
 use Rattle.x86_flow.specs.Touching.{touch_weight}
@@ -95,9 +96,14 @@ InOwn source c x = InWords (IsSpare source) (c.gpr 4) x ⊎ (InWords (IsKept sou
 abbrev pub Reaches : ℕ → FarSource → Source → Core → Core → Ins → Type 0
 Reaches count source s c u i = (x : ℕ) → Touches i u x → ((touch_weight is_array i ≡ 0) × InOwn source c x) ⊎ ((touch_weight is_array i ≡ 1) × AmongCells source.far count s x)
 
+-- an instruction that stores a vector register
+abbrev pub is_vector_store : Ins → Bool
+is_vector_store (VecStore op r at) = true
+is_vector_store _ = false
+
 -- what holds before each instruction on the way from c
 abbrev pub OnTurn : ℕ → FarSource → Source → Core → Core → Ins → Type 0
-OnTurn count source s c u i = Stays source c u × Reaches count source s c u i
+OnTurn count source s c u i = Stays source c u × Reaches count source s c u i × (is_vector_store i ≡ false)
 
 -- from every state with all at hand, the list leads to the values
 abbrev pub Brings : ℕ → FarSource → List Ins → Type 0
