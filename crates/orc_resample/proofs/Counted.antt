@@ -114,15 +114,15 @@ gather_far Ldreslinl count plan is = omega (arith, elements_far Ldreslinl plan c
 
 -- ---- all are allowed
 
-abbrev all_spelled : List Ins → Bool
+abbrev pub all_spelled : List Ins → Bool
 all_spelled [] = true
 all_spelled (i ∷ is) = has_spelling i && all_spelled is
 
-both : (s t : Bool) → (s && t) ≡ true → (s ≡ true) × (t ≡ true)
+pub both : (s t : Bool) → (s && t) ≡ true → (s ≡ true) × (t ≡ true)
 both true t h = (refl, h)
 both false t h = absurd (true≢false (sym h))
 
-spelled_append : (x y : List Ins) → all_spelled x ≡ true → all_spelled y ≡ true → all_spelled (x ++ y) ≡ true
+pub spelled_append : (x y : List Ins) → all_spelled x ≡ true → all_spelled y ≡ true → all_spelled (x ++ y) ≡ true
 spelled_append [] y p q = q
 spelled_append (i ∷ x) y p q = let h = both (has_spelling i) (all_spelled x) p in ap (λ b. b && all_spelled (x ++ y)) h.0 ∙ spelled_append x y h.1 q
 
@@ -144,7 +144,7 @@ elements_spelled far plan count a b e (suc n) = spelled_append (elements_code fa
 row_spelled : (width a : ℕ) → IsWidth width → all_spelled (row_code width a) ≡ true
 row_spelled width a is = each_width (λ w. all_spelled (row_code w a) ≡ true) refl refl refl refl refl width is
 
-gather_spelled : (far : Far) (count : ℕ) (plan : FarPlan) → IsWidth (count * far_size far) → all_spelled (gather_code far count plan) ≡ true
+pub gather_spelled : (far : Far) (count : ℕ) (plan : FarPlan) → IsWidth (count * far_size far) → all_spelled (gather_code far count plan) ≡ true
 gather_spelled Loadoffb count plan is = row_spelled (count * 1) (scratch plan 0) is
 gather_spelled Loadoffw count plan is = row_spelled (count * 2) (scratch plan 0) is
 gather_spelled Loadoffl count plan is = row_spelled (count * 4) (scratch plan 0) is
@@ -155,7 +155,7 @@ gather_spelled Ldresnearl count plan is = elements_spelled Ldresnearl plan count
 gather_spelled Ldreslinb count plan is = elements_spelled Ldreslinb plan count (scratch plan 0) (scratch plan 1) (scratch plan 2) count
 gather_spelled Ldreslinl count plan is = elements_spelled Ldreslinl plan count (scratch plan 0) (scratch plan 1) (scratch plan 2) count
 
-allowed : (list : List Ins) → all_spelled list ≡ true → Each IsIns list → Each IsAllowed list
+pub allowed : (list : List Ins) → all_spelled list ≡ true → Each IsIns list → Each IsAllowed list
 allowed [] h r = r
 allowed (i ∷ list) h r = let s = both (has_spelling i) (all_spelled list) h in ((r.0, s.0), allowed list s.1 r.1)
 

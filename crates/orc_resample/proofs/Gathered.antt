@@ -27,7 +27,7 @@ use Rattle.orc_resample.proofs.Counted.{room_of}
 
 -- ---- registers stay below 2 ^ 64, and bytes below 256
 
-line_bounded : (Q : Core → Ins → Type 0) (is : List Ins) (c d : Core) → Each IsIns is → Bounded c → Line Q is c d → Bounded d
+pub line_bounded : (Q : Core → Ins → Type 0) (is : List Ins) (c d : Core) → Each IsIns is → Bounded c → Line Q is c d → Bounded d
 line_bounded Q [] c d h b line = subst Bounded line b
 line_bounded Q (i ∷ is) c d h b line = line_bounded Q is line.1.0 d h.1 (work_bounded i c line.1.0 h.0 b line.1.1) line.1.2
 

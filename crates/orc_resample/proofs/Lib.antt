@@ -10,3 +10,5 @@ pub mod Singles
 pub mod Longs
 pub mod Rows
 pub mod Gathered
+pub mod Touched
+pub mod Brought

@@ -1,5 +1,5 @@
 -- The code that gathers a far load's values: the compiler's plan.
-use Rattle.std.specs.Prelude.{ℕ, zero, suc, ◌+◌, ◌-◌, ◌*◌, ◌==◌, ℤ, pos, Bool, true, false, List, [], ◌∷◌, ◌++◌, get_or, if◌then◌else◌}
+use Rattle.std.specs.Prelude.{ℕ, zero, suc, ◌+◌, ◌-◌, ◌*◌, ◌==◌, ℤ, pos, Bool, true, false, List, [], ◌∷◌, ◌++◌, get_or, None, if◌then◌else◌}
 use Rattle.x86_ins.specs.declared.ins.Addr.{Addr}
 use Rattle.x86_ins.specs.declared.ins.VecOp.TheVariants.{Punpcklbw, Packuswb, Por, Pxor}
 use Rattle.x86_ins.specs.declared.ins.VecImmOp.TheVariants.{Pslldq, Psrlw}
@@ -7,12 +7,13 @@ use Rattle.x86_ins.specs.declared.ins.MoveOp.TheVariants.{Movd, Movq, Movdqu}
 use Rattle.x86_ins.specs.declared.ins.AluOp.TheVariants.{Add, Sub, And}
 use Rattle.x86_ins.specs.declared.ins.ShiftOp.TheVariants.{Shl, Shr, Sar}
 use Rattle.x86_ins.specs.declared.ins.Ins.{Ins}
-use Rattle.x86_ins.specs.declared.ins.Ins.TheVariants.{Vec, VecImm, VecLoad, FromGpr, ToGpr, Move, Load, Load8, Load16, Alu, AluImm, Shift, Imul, Lea}
+use Rattle.x86_ins.specs.declared.ins.Ins.TheVariants.{Vec, VecImm, VecLoad, FromGpr, ToGpr, Move, Load, Store, Load8, Load16, Alu, AluImm, Shift, Imul, Lea}
 use Rattle.x86_flow.specs.Moves.{away}
 use Rattle.orc_ops.specs.declared.far.Far.{Far}
 use Rattle.orc_ops.specs.declared.far.Far.TheVariants.{Loadoffb, Loadoffw, Loadoffl, Loadupdb, Loadupib, Ldresnearb, Ldresnearl, Ldreslinb}
 use Rattle.orc_ops.specs.Far.{far_size}
 use Rattle.orc_resample.specs.declared.plan.FarPlan.{FarPlan}
+use Rattle.orc_resample.specs.declared.turn.FarSource.{FarSource}
 
 -- a displacement from RSP
 abbrev pub slot : ℤ → Addr
@@ -153,3 +154,27 @@ gather_with far plan count a b e =
 
 abbrev pub gather_code : Far → ℕ → FarPlan → List Ins
 gather_code far count plan = gather_with far plan count (scratch plan 0) (scratch plan 1) (scratch plan 2)
+
+-- ---- inside a turn
+
+-- the plan of the values' part: the scratch registers are RAX, RCX and RDI
+abbrev pub plan_of : FarSource → FarPlan
+plan_of source = record {
+  array = source.array;
+  scalars = source.scalars;
+  index = source.index;
+  work = source.work;
+  scratch = 0 ∷ 1 ∷ 7 ∷ [];
+  odd = None;
+}
+
+-- RCX waits in the frame, and the first element's number is n less RCX and what it is lowered by
+abbrev pub enter_code : FarSource → List Ins
+enter_code source = Store 1 (slot source.work) ∷ Load 0 (away 7 0) ∷ Alu Sub 0 1 ∷ AluImm Sub 0 (pos source.lowered) ∷ Store 0 (slot source.index) ∷ []
+
+-- RDI and RCX are as before
+abbrev pub leave_code : FarSource → List Ins
+leave_code source = Load 7 (slot source.block) ∷ Load 1 (slot source.work) ∷ []
+
+abbrev pub bring_code : FarSource → ℕ → List Ins
+bring_code source count = enter_code source ++ (gather_with source.far (plan_of source) count 0 1 7 ++ leave_code source)

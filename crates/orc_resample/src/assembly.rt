@@ -214,7 +214,7 @@ fn push_row_of(
 }
 
 /// Adds the code for `count` elements.
-fn push_values(
+pub fn push_values(
     list: &mut InsList,
     plan: &FarPlan,
     far: Far,

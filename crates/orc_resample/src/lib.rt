@@ -4,10 +4,12 @@
 mod assembly;
 mod pieces;
 mod plan;
+mod turn;
 
 pub use assembly::gather;
 pub use orc_ops::{Reach, blend, reach};
 pub use plan::FarPlan;
+pub use turn::{FarSource, bring};
 
 #[cfg(test)]
 mod tests;

@@ -28,14 +28,14 @@ const SECOND: Xmm = Xmm { number: 2 };
 const ZEROS: Xmm = Xmm { number: 3 };
 
 /// The address of a slot of the frame.
-fn slot(disp: i32) -> Addr
+pub fn slot(disp: i32) -> Addr
     ensures { result ≡ slot disp }
 {
     Addr { base: STACK, disp }
 }
 
 /// `op dst, src`.
-fn alu(op: AluOp, dst: Gpr, src: Gpr) -> Ins
+pub fn alu(op: AluOp, dst: Gpr, src: Gpr) -> Ins
     ensures { result ≡ ins.Alu op dst src }
 {
     Ins::Alu { op, dst, src }
@@ -49,7 +49,7 @@ fn shift(op: ShiftOp, dst: Gpr, count: u8) -> Ins
 }
 
 /// `mov dst, [rsp + disp]`.
-fn load(dst: Gpr, disp: i32) -> Ins
+pub fn load(dst: Gpr, disp: i32) -> Ins
     ensures { result ≡ ins.Load dst (slot disp) }
 {
     Ins::Load {
@@ -105,7 +105,7 @@ pub fn look_through(list: &[Ins])
 }
 
 /// Adds instructions.
-fn push_each(list: &mut InsList, more: &[Ins]) -> Result<(), AllocError>
+pub fn push_each(list: &mut InsList, more: &[Ins]) -> Result<(), AllocError>
     ensures { OnOk result (list.new ≡ list.old ++ more.now) }
 {
     for ins in more {

@@ -1,0 +1,111 @@
+-- By which registers the code inside a turn touches memory, how long it is, and that its instructions are allowed.
+use Rattle.std.proofs.Common.{◌≡◌, ℕ, zero, suc, ◌+◌, ◌-◌, ◌*◌, ◌≤◌, ◌==◌, ◌&&◌, Bool, true, false, not, true≢false, length, List, [], ◌∷◌, ◌++◌, refl, sym, ap, ◌∙◌, arith, length-append}
+use Rattle.x86_ins.specs.declared.ins.Ins.{Ins}
+use Rattle.x86_ins.specs.Spelling.{IsIns, IsAllowed}
+use Rattle.x86_ins.specs.Way.{Each}
+use Rattle.x86_flow.specs.Moves.{IsWidth}
+use Rattle.x86_flow.specs.Touching.{touch_weight}
+use Rattle.x86_flow.proofs.Moves.{each_width}
+use Rattle.orc_ops.specs.declared.far.Far.{Far}
+use Rattle.orc_ops.specs.declared.far.Far.TheVariants.{Loadoffb, Loadoffw, Loadoffl, Loadupdb, Loadupib, Ldresnearb, Ldresnearl, Ldreslinb, Ldreslinl}
+use Rattle.orc_ops.specs.Far.{far_size, far_weight}
+use Rattle.orc_resample.specs.declared.plan.FarPlan.{FarPlan}
+use Rattle.orc_resample.specs.declared.turn.FarSource.{FarSource}
+use Rattle.orc_resample.specs.Code.{element_of, elements_code, row_code, gather_with, plan_of, enter_code, leave_code, bring_code}
+use Rattle.orc_resample.specs.Ready.{is_pointer, far_count}
+use Rattle.orc_resample.specs.Bring.{is_array, array_count, is_vector_store}
+use Rattle.orc_resample.proofs.Counted.{both, all_spelled, spelled_append, allowed, gather_short, gather_far, gather_spelled}
+
+-- ---- the values' part reads by RSP and RAX alone
+
+-- an instruction that counts with RDI as without, and stores no vector register
+abbrev agrees : Ins → Bool
+agrees i = (touch_weight is_array i == touch_weight is_pointer i) && not (is_vector_store i)
+
+abbrev pub Agrees : Ins → Type 0
+Agrees i = (touch_weight is_array i ≡ touch_weight is_pointer i) × (is_vector_store i ≡ false)
+
+abbrev pub all_agree : List Ins → Bool
+all_agree [] = true
+all_agree (i ∷ is) = agrees i && all_agree is
+
+agree_append : (x y : List Ins) → all_agree x ≡ true → all_agree y ≡ true → all_agree (x ++ y) ≡ true
+agree_append [] y p q = q
+agree_append (i ∷ x) y p q = let h = both (agrees i) (all_agree x) p in ap (λ b. b && all_agree (x ++ y)) h.0 ∙ agree_append x y h.1 q
+
+element_agrees : (far : Far) (plan : FarPlan) (k : ℕ) → all_agree (element_of far plan k 0 1 7) ≡ true
+element_agrees Loadoffb plan k = refl
+element_agrees Loadoffw plan k = refl
+element_agrees Loadoffl plan k = refl
+element_agrees Loadupdb plan k = refl
+element_agrees Loadupib plan k = refl
+element_agrees Ldresnearb plan k = refl
+element_agrees Ldresnearl plan k = refl
+element_agrees Ldreslinb plan k = refl
+element_agrees Ldreslinl plan k = refl
+
+elements_agree : (far : Far) (plan : FarPlan) (count n : ℕ) → all_agree (elements_code far plan count 0 1 7 n) ≡ true
+elements_agree far plan count zero = refl
+elements_agree far plan count (suc n) = agree_append (elements_code far plan count 0 1 7 n) (element_of far plan (count - 1 - n) 0 1 7) (elements_agree far plan count n) (element_agrees far plan (count - 1 - n))
+
+row_agrees : (width : ℕ) → IsWidth width → all_agree (row_code width 0) ≡ true
+row_agrees width is = each_width (λ w. all_agree (row_code w 0) ≡ true) refl refl refl refl refl width is
+
+pub gather_agrees : (far : Far) (plan : FarPlan) (count : ℕ) → IsWidth (count * far_size far) → all_agree (gather_with far plan count 0 1 7) ≡ true
+gather_agrees Loadoffb plan count is = row_agrees (count * 1) is
+gather_agrees Loadoffw plan count is = row_agrees (count * 2) is
+gather_agrees Loadoffl plan count is = row_agrees (count * 4) is
+gather_agrees Loadupdb plan count is = elements_agree Loadupdb plan count count
+gather_agrees Loadupib plan count is = elements_agree Loadupib plan count count
+gather_agrees Ldresnearb plan count is = elements_agree Ldresnearb plan count count
+gather_agrees Ldresnearl plan count is = elements_agree Ldresnearl plan count count
+gather_agrees Ldreslinb plan count is = elements_agree Ldreslinb plan count count
+gather_agrees Ldreslinl plan count is = elements_agree Ldreslinl plan count count
+
+equal_of : (x y : ℕ) → (x == y) ≡ true → x ≡ y
+equal_of x y h = grind (arith)
+
+not_true : (b : Bool) → not b ≡ true → b ≡ false
+not_true true h = absurd (true≢false (sym h))
+not_true false h = refl
+
+agreed : (i : Ins) → agrees i ≡ true → Agrees i
+agreed i h = let s = both (touch_weight is_array i == touch_weight is_pointer i) (not (is_vector_store i)) h in (equal_of (touch_weight is_array i) (touch_weight is_pointer i) s.0, not_true (is_vector_store i) s.1)
+
+pub agree_each : (list : List Ins) → all_agree list ≡ true → Each Agrees list
+agree_each [] h = tt
+agree_each (i ∷ list) h = let s = both (agrees i) (all_agree list) h in (agreed i s.0, agree_each list s.1)
+
+agree_count : (list : List Ins) → Each Agrees list → array_count list ≡ far_count list
+agree_count [] h = refl
+agree_count (i ∷ list) h = omega (arith, h.0.0, agree_count list h.1)
+
+array_append : (x y : List Ins) → array_count (x ++ y) ≡ array_count x + array_count y
+array_append [] y = let q : array_count y ≡ 0 + array_count y = omega arith in q
+array_append (i ∷ x) y = let h = array_append x y in let q : touch_weight is_array i + array_count (x ++ y) ≡ touch_weight is_array i + array_count x + array_count y = omega (arith, h) in q
+
+-- ---- the whole list
+
+pub bring_touches : (source : FarSource) (count : ℕ) → IsWidth (count * far_size source.far) → array_count (bring_code source count) ≤ 2 * count
+bring_touches source count is =
+    let list = gather_with source.far (plan_of source) count 0 1 7 in
+    let some : far_count list ≤ 2 * count = gather_far source.far count (plan_of source) is in
+    let same : array_count list ≡ far_count list = agree_count list (agree_each list (gather_agrees source.far (plan_of source) count is)) in
+    let front : array_count (enter_code source ++ (list ++ leave_code source)) ≡ array_count (list ++ leave_code source) = omega arith in
+    let behind : array_count (list ++ leave_code source) ≡ array_count list + 0 = array_append list (leave_code source) in
+    omega (arith, some, same, front, behind)
+
+pub bring_short : (source : FarSource) (count : ℕ) → IsWidth (count * far_size source.far) → length (bring_code source count) ≤ far_weight source.far count + 7
+bring_short source count is =
+    let list = gather_with source.far (plan_of source) count 0 1 7 in
+    let some : length list ≤ far_weight source.far count = gather_short source.far count (plan_of source) is in
+    let front : length (enter_code source ++ (list ++ leave_code source)) ≡ 5 + length (list ++ leave_code source) = omega arith in
+    let behind : length (list ++ leave_code source) ≡ length list + 2 = length-append list (leave_code source) in
+    omega (arith, some, front, behind)
+
+pub bring_allowed : (source : FarSource) (count : ℕ) → IsWidth (count * far_size source.far) → Each IsIns (bring_code source count) → Each IsAllowed (bring_code source count)
+bring_allowed source count is =
+    let list = gather_with source.far (plan_of source) count 0 1 7 in
+    let some : all_spelled list ≡ true = gather_spelled source.far count (plan_of source) is in
+    let behind : all_spelled (list ++ leave_code source) ≡ true = spelled_append list (leave_code source) some refl in
+    allowed (bring_code source count) behind
