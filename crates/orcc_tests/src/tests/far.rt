@@ -5,7 +5,7 @@ use std::alloc::{AllocError, Global};
 
 /// Far loads from a source of bytes at 8192 to a dest at 4096: the line, the number of elements, the bytes of the dest, the segment of the
 /// source, what `emulate` writes, and the figures of `check`.
-const LOADS: [(&str, &str, &str, &str, &str, &str); 4] = [
+const LOADS: [(&str, &str, &str, &str, &str, &str); 7] = [
     (
         "ldreslinb d1, s1, 0, 32768\n",
         "4",
@@ -38,6 +38,31 @@ const LOADS: [(&str, &str, &str, &str, &str, &str); 4] = [
         "end unmapped 0 2 8193\n",
         "f need 0 lanes 16 cost 404\n",
     ),
+    // a step downwards, one of exactly an element, and places past the end of 32 bits
+    (
+        "ldresnearb d1, s1, 131072, -65536\n",
+        "3",
+        "000000",
+        r#"{"at":8192,"bytes":"0a0b0c"}"#,
+        "end emulated\nmem 4096 0c0b0a\nmem 8192 0a0b0c\n",
+        "f need 0 lanes 4 cost 118\n",
+    ),
+    (
+        "ldreslinb d1, s1, 0, 65536\n",
+        "2",
+        "0000",
+        r#"{"at":8192,"bytes":"0a0b0c"}"#,
+        "end emulated\nmem 4096 0a0b\nmem 8192 0a0b0c\n",
+        "f need 0 lanes 4 cost 150\n",
+    ),
+    (
+        "ldresnearb d1, s1, 2147483647, 2147483647\n",
+        "2",
+        "0000",
+        r#"{"at":40959,"bytes":"0a"},{"at":73727,"bytes":"0b"}"#,
+        "end emulated\nmem 4096 0a0b\nmem 40959 0a\nmem 73727 0b\n",
+        "f need 0 lanes 4 cost 118\n",
+    ),
 ];
 
 /// The text of a function with the line.
@@ -46,7 +71,7 @@ fn text_of(alloc: Global, line: &str) -> Result<String, AllocError> {
 }
 
 #[test]
-fn far_loads_are_emulated_and_have_no_code(rt: HostRuntime) -> Result<(), AllocError> {
+fn far_loads_have_meaning_and_figures_and_no_code(rt: HostRuntime) -> Result<(), AllocError> {
     let alloc = rt.alloc();
     for (line, n, dest, source, said, figures) in LOADS {
         let text = text_of(alloc, line)?;
