@@ -1,5 +1,5 @@
 -- The code of a function: it is allowed, its bytes are few, and it runs as the function means.
-use Rattle.std.proofs.Common.{◌≡◌, Bool, ℕ, ◌+◌, ◌*◌, ◌≤◌, true, List, [], ◌∷◌, ◌++◌, length, refl, sym, ap, ap₂, ◌∙◌, subst, arith, length-append, All, IsTrue, zero, suc}
+use Rattle.std.proofs.Common.{◌≡◌, Bool, ℕ, ◌+◌, ◌*◌, ◌≤◌, true, false, List, [], ◌∷◌, ◌++◌, length, refl, sym, ap, ap₂, ◌∙◌, subst, arith, length-append, All, IsTrue, zero, suc}
 use Rattle.orc_ops.specs.declared.target.Target.{Target}
 use Rattle.orc_program.specs.declared.program.VarKind.TheVariants as kind
 use Rattle.orc_program.specs.Program.{FunctionValue, count_of}
@@ -190,6 +190,11 @@ module _ {target : Target} (f : FunctionValue) (h : is_function f ≡ true) (l :
       bound : (args : Call) → weigh cell_weight front + rows_of (subject_of f) args * ((subject_of f).turns args.n * some) + weigh cell_weight behind ≡ 0 + rows_of (subject_of f) args * ((subject_of f).turns args.n * some) + 0
       bound args = ap₂ (λ a b. a + rows_of (subject_of f) args * ((subject_of f).turns args.n * some) + b) first_free last_free
 
+-- the code of a row's elements may stand in the flow as its list
+same_list : (first : List Ins) (elements : Flow) (last : List Ins) (two_d : Bool) (d s : ℕ) → with_return (whole_flow first (Plain (flat elements)) last two_d d s) ≡ with_return (whole_flow first elements last two_d d s)
+same_list first elements last true d s = refl
+same_list first elements last false d s = refl
+
 -- as the bytes are built from the lists around the rows and the tree that does their elements
 pub whole_runs : (target : Target) (f : FunctionValue) → is_function f ≡ true → (l : Layout) (first last : List Ins) → Lists f l first last → (at : List ℕ) (tree : Tree) → IsElements f target at tree → (begins ends : List Ins) → begins ≡ first ++ resident_loads_code at (length l.acc_sizes.items) (length l.patterns.items) → ends ≡ sum_stores_code at (length l.acc_sizes.items) ++ last → (bytes : List ℕ) (two_d : Bool) (d s : ℕ) → two_d ≡ f.two_d → d ≡ count_of kind.Dest f.vars → s ≡ count_of kind.Source f.vars
     → bytes ≡ spell_all (with_return (whole_flow begins (Plain (flat_of tree)) ends two_d d s)) → RunsFully f target bytes × HasCodeLength bytes
@@ -199,7 +204,8 @@ whole_runs target f h l first last x at tree (fewer, wide, aligned, large, turns
     let is : bytes ≡ spell_all (with_return (flow f h l first last x at fewer wide aligned large turns)) =
     e ∙ ap₂ (λ y z. spell_all (with_return (whole_flow y (Plain (flat_of tree)) z two_d d s))) p q
     ∙ ap (λ r. spell_all (with_return (whole_flow loads (Plain (flat_of tree)) stores r d s))) a ∙ ap₂ (λ d s. spell_all (with_return (whole_flow loads (Plain (flat_of tree)) stores f.two_d d s))) b c
-    ∙ ap (λ t. spell_all (with_return (whole_flow loads (Plain t) stores f.two_d (count_of kind.Dest f.vars) (count_of kind.Source f.vars)))) t in
+    ∙ ap (λ t. spell_all (with_return (whole_flow loads (Plain t) stores f.two_d (count_of kind.Dest f.vars) (count_of kind.Source f.vars)))) t
+    ∙ ap spell_all (same_list loads (elements_of f fewer wide aligned large) stores f.two_d (count_of kind.Dest f.vars) (count_of kind.Source f.vars)) in
     (subst (RunsFully f target) (sym is) (code_runs f h l first last x at fewer wide aligned large turns), subst HasCodeLength (sym is) (code_length f h l first last x at fewer wide aligned large turns))
 
 -- ---- the lists around the rows are spelled

@@ -85,7 +85,10 @@ fn far_loads_have_meaning_and_figures_and_no_code(rt: HostRuntime) -> Result<(),
         assert!(rt; shown.output.as_slice() == text.as_bytes(), "{line}");
         for word in ["check", "check41"] {
             let checked = run(alloc, &[word], text.as_bytes())?;
-            assert!(rt; checked.output.as_slice() == figures.as_bytes(), "{word} {line}");
+            assert!(rt;
+                checked.output.as_slice() == figures.as_bytes(),
+                "{word} {line}"
+            );
         }
         for word in ["c", "asm", "asm41", "obj"] {
             let refused = run(alloc, &[word], text.as_bytes())?;
