@@ -24,7 +24,7 @@ use Rattle.orc_region.proofs.Calls.Residents.{fine_loads, fine_stores}
 use Rattle.orc_region.proofs.Sizes.Loops.{Fits}
 use Rattle.orc_region.proofs.Targeted.Blocks.{resident_loads_for, sum_stores_for}
 use Rattle.orc_asm.specs.Function.{HasOnly}
-use Rattle.orc_asm.specs.Rows.{slots_code, arrays_code, base_code, pointer_code, stride_code, bases_code, count_code, counter_code, one_less_code, rows_code, row_entry_code, row_step_code, row_flow, rows_flow, whole_flow}
+use Rattle.orc_asm.specs.Rows.{slots_code, arrays_code, base_code, pointer_code, start_code, stride_code, count_code, counter_code, one_less_code, rows_code, row_entry_code, one_row_code, row_step_code, row_flow, rows_flow, whole_flow}
 use Rattle.orc_asm.proofs.Row.Counts.{rows_allowed}
 
 -- ---- around the elements of a row
@@ -37,14 +37,14 @@ module _ (t : Target) where
   arrays_for : (code : ℕ → List Ins) → ((k : ℕ) → IsCodeFor t (code k)) → (dests sources : ℕ) → IsCodeFor t (arrays_code code dests sources)
   arrays_for code h dests sources = behind_for t (slots_code code 0 dests) (slots_code code 4 sources) (slots_for code h 0 dests) (slots_for code h 4 sources)
 
-  bases_for : (dests sources : ℕ) → IsCodeFor t (bases_code dests sources)
-  bases_for dests sources = arrays_for base_code (λ k. refl) dests sources
-
   starts_for : (dests sources : ℕ) → IsCodeFor t (rows_code dests sources)
-  starts_for dests sources = behind_for t (bases_code dests sources) count_code (bases_for dests sources) refl
+  starts_for dests sources = behind_for t (arrays_code base_code dests sources) count_code (arrays_for base_code (λ k. refl) dests sources) refl
 
   entry_for : (dests sources : ℕ) → IsCodeFor t (row_entry_code dests sources)
   entry_for dests sources = behind_for t (arrays_code pointer_code dests sources) counter_code (arrays_for pointer_code (λ k. refl) dests sources) refl
+
+  one_row_for : (dests sources : ℕ) → IsCodeFor t (one_row_code dests sources)
+  one_row_for dests sources = behind_for t (arrays_code start_code dests sources) counter_code (arrays_for start_code (λ k. refl) dests sources) refl
 
   step_for : (dests sources : ℕ) → IsCodeFor t (row_step_code dests sources)
   step_for dests sources = behind_for t (arrays_code stride_code dests sources) one_less_code (arrays_for stride_code (λ k. refl) dests sources) refl
@@ -56,7 +56,7 @@ module _ (t : Target) where
       let row = flat (row_flow (Plain elements) dests sources) in
       let row_is : IsCodeFor t row = behind_for t enter (elements ++ step) (entry_for dests sources) (behind_for t elements step k (step_for dests sources)) in
       behind_for t (rows_code dests sources) (loop_code Ne row) (starts_for dests sources) (behind_for t row (again_jump Ne (size row) ∷ []) row_is refl)
-  rows_for elements false dests sources k = behind_for t (bases_code dests sources) (row_entry_code dests sources ++ elements) (bases_for dests sources) (behind_for t (row_entry_code dests sources) elements (entry_for dests sources) k)
+  rows_for elements false dests sources k = behind_for t (one_row_code dests sources) elements (one_row_for dests sources) k
 
   whole_for : (first elements last : List Ins) (two_d : Bool) (dests sources : ℕ) → IsCodeFor t first → IsCodeFor t elements → IsCodeFor t last → IsCodeFor t (with_return (whole_flow first (Plain elements) last two_d dests sources))
   whole_for first elements last two_d dests sources h k m =

@@ -29,15 +29,12 @@ arrays_code code dests sources = slots_code code 0 dests ++ slots_code code 4 so
 abbrev pub base_code : ℕ → List Ins
 base_code k = Load 0 (away 7 (base_word k)) ∷ Store 0 (away 4 (row_slot k)) ∷ []
 
-abbrev pub bases_code : ℕ → ℕ → List Ins
-bases_code dests sources = arrays_code base_code dests sources
-
 -- all rows of the block are left, and whether there are rows
 abbrev pub count_code : List Ins
 count_code = Load 0 (away 7 rows_word) ∷ Store 0 (away 4 rows_slot) ∷ Test 0 0 ∷ []
 
 abbrev pub rows_code : ℕ → ℕ → List Ins
-rows_code dests sources = bases_code dests sources ++ count_code
+rows_code dests sources = arrays_code base_code dests sources ++ count_code
 
 -- ---- a row
 
@@ -51,6 +48,13 @@ counter_code = Load 1 (away 7 elements_word) ∷ Test 1 1 ∷ []
 
 abbrev pub row_entry_code : ℕ → ℕ → List Ins
 row_entry_code dests sources = arrays_code pointer_code dests sources ++ counter_code
+
+-- the start of the one row of a function without rows: an array's pointer becomes its base, which the frame has too
+abbrev pub start_code : ℕ → List Ins
+start_code k = Load (pointer k) (away 7 (base_word k)) ∷ Store (pointer k) (away 4 (row_slot k)) ∷ []
+
+abbrev pub one_row_code : ℕ → ℕ → List Ins
+one_row_code dests sources = arrays_code start_code dests sources ++ counter_code
 
 -- an array's row goes on by its stride
 abbrev pub stride_code : ℕ → List Ins
@@ -67,6 +71,7 @@ row_step_code dests sources = arrays_code stride_code dests sources ++ one_less_
 abbrev pub slot_code : SlotCode → ℕ → List Ins
 slot_code for_slot.Base = base_code
 slot_code for_slot.Pointer = pointer_code
+slot_code for_slot.Start = start_code
 slot_code for_slot.Stride = stride_code
 
 -- a row does its elements by this code
@@ -76,7 +81,7 @@ row_flow elements dests sources = Chain (Plain (row_entry_code dests sources)) (
 -- all rows: a loop where the function has rows, and else the start and the elements of the one row
 abbrev pub rows_flow : Flow → Bool → ℕ → ℕ → Flow
 rows_flow elements true dests sources = Chain (Plain (rows_code dests sources)) (Repeat Ne (row_flow elements dests sources))
-rows_flow elements false dests sources = Chain (Plain (bases_code dests sources)) (Chain (Plain (row_entry_code dests sources)) elements)
+rows_flow elements false dests sources = Chain (Plain (one_row_code dests sources)) elements
 
 -- rows between two lists
 abbrev pub whole_flow : List Ins → Flow → List Ins → Bool → ℕ → ℕ → Flow

@@ -7,7 +7,7 @@ ghost use Rattle.x86_flow.specs.Moves.{away};
 ghost use Rattle.x86_flow.specs.Tree.{flat_of};
 ghost use Rattle.orc_frame.specs.Frame.{IsLayout};
 ghost use Rattle.orc_frame.specs.Layout.{row_slot, rows_slot};
-ghost use Rattle.orc_asm.specs.Rows.{slot_code, slots_code, arrays_code, base_code, stride_code, bases_code, rows_code, row_entry_code, row_step_code, row_flow, rows_flow, whole_flow};
+ghost use Rattle.orc_asm.specs.Rows.{slot_code, slots_code, arrays_code, base_code, start_code, stride_code, rows_code, counter_code, row_entry_code, row_step_code, row_flow, rows_flow, whole_flow};
 
 use orc_bits::Code;
 use orc_frame::{BLOCK, ELEMENTS_WORD, Layout, ROWS_WORD, base_word, row_at, rows_at, stride_word};
@@ -25,6 +25,8 @@ pub enum SlotCode {
     Base,
     /// Its pointer becomes the base of the row.
     Pointer,
+    /// Its base and its pointer become that of the only row.
+    Start,
     /// Its row goes on by its stride.
     Stride,
 }
@@ -58,6 +60,22 @@ fn push_base(list: &mut InsList, layout: &Layout, slot: usize) -> Result<(), All
     })?;
     list.push(Ins::Store {
         src: SCRATCH,
+        at: base_at(layout, slot),
+    })
+}
+
+/// Adds what makes an array's pointer and its base that of the only row.
+fn push_start(list: &mut InsList, layout: &Layout, slot: usize) -> Result<(), AllocError>
+    requires layout { IsLayout layout.now }
+    requires slot { slot < 12 }
+    ensures { OnOk result (list.new ≡ list.old ++ start_code slot) }
+{
+    list.push(Ins::Load {
+        dst: pointer(slot),
+        at: away(BLOCK, base_word(slot)),
+    })?;
+    list.push(Ins::Store {
+        src: pointer(slot),
         at: base_at(layout, slot),
     })
 }
@@ -104,6 +122,7 @@ fn push_slot(
             dst: pointer(slot),
             at: base_at(layout, slot),
         }),
+        SlotCode::Start => push_start(list, layout, slot),
         SlotCode::Stride => push_stride(list, layout, slot),
     }
 }
@@ -145,24 +164,6 @@ fn push_arrays(
     push_slots(list, layout, what, 4, sources)
 }
 
-/// What makes the bases of a function's arrays those of its first row.
-#[tactic(auto, using(crate::proofs::Row::Built::bases_whole))]
-fn bases_list(
-    alloc: Global,
-    layout: &Layout,
-    dests: usize,
-    sources: usize,
-) -> Result<InsList, AllocError>
-    requires layout { IsLayout layout.now }
-    requires dests { dests ≤ 4 }
-    requires sources { sources ≤ 8 }
-    ensures { IfOk result (λ list. list ≡ bases_code dests sources) }
-{
-    let mut list = InsList::new(alloc);
-    push_arrays(&mut list, layout, SlotCode::Base, dests, sources)?;
-    Ok(list)
-}
-
 /// What comes before the first row of a function with rows.
 #[tactic(auto, using(crate::proofs::Row::Built::rows_whole))]
 fn rows_list(
@@ -176,7 +177,8 @@ fn rows_list(
     requires sources { sources ≤ 8 }
     ensures { IfOk result (λ list. list ≡ rows_code dests sources) }
 {
-    let mut list = bases_list(alloc, layout, dests, sources)?;
+    let mut list = InsList::new(alloc);
+    push_arrays(&mut list, layout, SlotCode::Base, dests, sources)?;
     list.push(Ins::Load {
         dst: SCRATCH,
         at: away(BLOCK, ROWS_WORD),
@@ -192,21 +194,22 @@ fn rows_list(
     Ok(list)
 }
 
-/// What comes before the elements of a row.
+/// What comes before the elements of a row: what is done for each array, and the number of elements goes to the counter.
 #[tactic(auto, using(crate::proofs::Row::Built::entry_whole))]
-fn row_entry_list(
+fn entry_list(
     alloc: Global,
     layout: &Layout,
+    what: SlotCode,
     dests: usize,
     sources: usize,
 ) -> Result<InsList, AllocError>
     requires layout { IsLayout layout.now }
     requires dests { dests ≤ 4 }
     requires sources { sources ≤ 8 }
-    ensures { IfOk result (λ list. list ≡ row_entry_code dests sources) }
+    ensures { IfOk result (λ list. list ≡ arrays_code (slot_code what) dests sources ++ counter_code) }
 {
     let mut list = InsList::new(alloc);
-    push_arrays(&mut list, layout, SlotCode::Pointer, dests, sources)?;
+    push_arrays(&mut list, layout, what, dests, sources)?;
     list.push(Ins::Load {
         dst: COUNTER,
         at: away(BLOCK, ELEMENTS_WORD),
@@ -262,7 +265,7 @@ fn row_bytes(
     requires sources { sources ≤ 8 }
     ensures { IfOk result (λ bytes. bytes.items ≡ spell_all (flat (row_flow (Plain (flat_of elements.now)) dests sources))) }
 {
-    let enter = row_entry_list(alloc, layout, dests, sources)?;
+    let enter = entry_list(alloc, layout, SlotCode::Pointer, dests, sources)?;
     let leave = row_step_list(alloc, layout, dests, sources)?;
     let mut row = Vec::new(alloc);
     put_list(&mut row, enter.as_slice())?;
@@ -306,9 +309,7 @@ fn put_one_row(
     requires sources { sources ≤ 8 }
     ensures { OnOk result (code.new.items ≡ code.old.items ++ spell_all (flat (rows_flow (Plain (flat_of elements.now)) false dests sources))) }
 {
-    let bases = bases_list(alloc, layout, dests, sources)?;
-    let enter = row_entry_list(alloc, layout, dests, sources)?;
-    put_list(code, bases.as_slice())?;
+    let enter = entry_list(alloc, layout, SlotCode::Start, dests, sources)?;
     put_list(code, enter.as_slice())?;
     put_flow(alloc, code, elements)
 }

@@ -14,8 +14,8 @@ use Rattle.orc_asm.specs.declared.rows.SlotCode.{SlotCode}
 use Rattle.orc_asm.specs.declared.rows.SlotCode.TheVariants as for_slot
 use Rattle.orc_frame.specs.Layout.{rows_slot}
 use Rattle.orc_frame.specs.Parts.{elements_word, rows_word}
-use Rattle.orc_asm.specs.Rows.{slot_code, slots_code, arrays_code, bases_code, rows_code, row_entry_code, row_step_code, row_flow}
-use Rattle.orc_asm.proofs.Row.Counts.{fine_bases, fine_rows, fine_row_entry, fine_row_step, row_bytes}
+use Rattle.orc_asm.specs.Rows.{slot_code, slots_code, arrays_code, counter_code, rows_code, row_entry_code, one_row_code, row_step_code, row_flow}
+use Rattle.orc_asm.proofs.Row.Counts.{fine_rows, fine_row_entry, fine_one_row, fine_row_step, row_bytes}
 
 pub slots_none : (base : List Ins) (what : SlotCode) (first : ℕ) → base ≡ base ++ slots_code (slot_code what) first 0
 slots_none base what first = sym (append-nil base)
@@ -34,15 +34,12 @@ two a b c i j p q = q ∙ ap (λ l. l ++ j ∷ []) p ∙ append_assoc a (i ∷ [
 three : (a b c d : List Ins) (i j k : Ins) → b ≡ a ++ i ∷ [] → c ≡ b ++ j ∷ [] → d ≡ c ++ k ∷ [] → d ≡ a ++ i ∷ j ∷ k ∷ []
 three a b c d i j k p q r = r ∙ ap (λ l. l ++ k ∷ []) (two a b c i j p q) ∙ append_assoc a (i ∷ j ∷ []) (k ∷ [])
 
-pub bases_whole : (base a : List Ins) (dests sources : ℕ) → base ≡ [] → a ≡ base ++ arrays_code (slot_code for_slot.Base) dests sources → a ≡ bases_code dests sources
-bases_whole base a dests sources n p = p ∙ ap (λ l. l ++ arrays_code (slot_code for_slot.Base) dests sources) n
+pub rows_whole : (base a b c d : List Ins) (dests sources : ℕ) → base ≡ [] → a ≡ base ++ arrays_code (slot_code for_slot.Base) dests sources → b ≡ a ++ Load 0 (away 7 rows_word) ∷ [] → c ≡ b ++ Store 0 (away 4 rows_slot) ∷ [] → d ≡ c ++ Test 0 0 ∷ [] → d ≡ rows_code dests sources
+rows_whole base a b c d dests sources n p q r s =
+    three a b c d (Load 0 (away 7 rows_word)) (Store 0 (away 4 rows_slot)) (Test 0 0) q r s ∙ ap (λ l. l ++ Load 0 (away 7 rows_word) ∷ Store 0 (away 4 rows_slot) ∷ Test 0 0 ∷ []) (p ∙ ap (λ l. l ++ arrays_code (slot_code for_slot.Base) dests sources) n)
 
-pub rows_whole : (a b c d : List Ins) (dests sources : ℕ) → a ≡ bases_code dests sources → b ≡ a ++ Load 0 (away 7 rows_word) ∷ [] → c ≡ b ++ Store 0 (away 4 rows_slot) ∷ [] → d ≡ c ++ Test 0 0 ∷ [] → d ≡ rows_code dests sources
-rows_whole a b c d dests sources p q r s = three a b c d (Load 0 (away 7 rows_word)) (Store 0 (away 4 rows_slot)) (Test 0 0) q r s ∙ ap (λ l. l ++ Load 0 (away 7 rows_word) ∷ Store 0 (away 4 rows_slot) ∷ Test 0 0 ∷ []) p
-
-pub entry_whole : (base a b c : List Ins) (dests sources : ℕ) → base ≡ [] → a ≡ base ++ arrays_code (slot_code for_slot.Pointer) dests sources → b ≡ a ++ Load 1 (away 7 elements_word) ∷ [] → c ≡ b ++ Test 1 1 ∷ [] → c ≡ row_entry_code dests sources
-entry_whole base a b c dests sources n p q r =
-    two a b c (Load 1 (away 7 elements_word)) (Test 1 1) q r ∙ ap (λ l. l ++ Load 1 (away 7 elements_word) ∷ Test 1 1 ∷ []) (p ∙ ap (λ l. l ++ arrays_code (slot_code for_slot.Pointer) dests sources) n)
+pub entry_whole : (what : SlotCode) (base a b c : List Ins) (dests sources : ℕ) → base ≡ [] → a ≡ base ++ arrays_code (slot_code what) dests sources → b ≡ a ++ Load 1 (away 7 elements_word) ∷ [] → c ≡ b ++ Test 1 1 ∷ [] → c ≡ arrays_code (slot_code what) dests sources ++ counter_code
+entry_whole what base a b c dests sources n p q r = two a b c (Load 1 (away 7 elements_word)) (Test 1 1) q r ∙ ap (λ l. l ++ counter_code) (p ∙ ap (λ l. l ++ arrays_code (slot_code what) dests sources) n)
 
 pub step_whole : (base a b c d : List Ins) (dests sources : ℕ) → base ≡ [] → a ≡ base ++ arrays_code (slot_code for_slot.Stride) dests sources → b ≡ a ++ Load 0 (away 4 rows_slot) ∷ [] → c ≡ b ++ AluImm Sub 0 (pos 1) ∷ [] → d ≡ c ++ Store 0 (away 4 rows_slot) ∷ [] → d ≡ row_step_code dests sources
 step_whole base a b c d dests sources n p q r s =
@@ -60,14 +57,12 @@ loop_assembled starts body t c0 c1 c2 ht h1 h2 =
     let b = spell_all (loop_code Ne body) in
     h2 ∙ ap₂ (λ l m. l ++ m) h1 (ap (loop_bytes Ne) ht ∙ sym (loop_spelled Ne body)) ∙ append_assoc c0 a b ∙ ap (λ l. c0 ++ l) (sym (spell_append starts (loop_code Ne body)))
 
--- three lists, behind other bytes
+-- two or three lists, behind other bytes
+pub two_assembled : (first second : List Ins) (c0 c1 c2 : List ℕ) → c1 ≡ c0 ++ spell_all first → c2 ≡ c1 ++ spell_all second → c2 ≡ c0 ++ spell_all (first ++ second)
+two_assembled first second c0 c1 c2 h1 h2 = h2 ∙ ap (λ l. l ++ spell_all second) h1 ∙ append_assoc c0 (spell_all first) (spell_all second) ∙ ap (λ l. c0 ++ l) (sym (spell_append first second))
+
 pub three_assembled : (first second third : List Ins) (c0 c1 c2 c3 : List ℕ) → c1 ≡ c0 ++ spell_all first → c2 ≡ c1 ++ spell_all second → c3 ≡ c2 ++ spell_all third → c3 ≡ c0 ++ spell_all (first ++ (second ++ third))
-three_assembled first second third c0 c1 c2 c3 h1 h2 h3 =
-    let a = spell_all first in
-    let b = spell_all second in
-    let c = spell_all third in
-    let two : c2 ≡ c0 ++ (a ++ b) = h2 ∙ ap (λ l. l ++ b) h1 ∙ append_assoc c0 a b in
-    h3 ∙ ap (λ l. l ++ c) two ∙ append_assoc c0 (a ++ b) c ∙ ap (λ l. c0 ++ l) (append_assoc a b c ∙ sym (spell_append first (second ++ third) ∙ ap (λ l. a ++ l) (spell_append second third)))
+three_assembled first second third c0 c1 c2 c3 h1 h2 h3 = two_assembled first (second ++ third) c0 c1 c3 h1 (two_assembled second third c1 c2 c3 h2 h3)
 
 pub row_assembled : (enter elements leave : List Ins) (c0 c1 c2 c3 : List ℕ) → c0 ≡ [] → c1 ≡ c0 ++ spell_all enter → c2 ≡ c1 ++ spell_all elements → c3 ≡ c2 ++ spell_all leave → c3 ≡ spell_all (enter ++ (elements ++ leave))
 row_assembled enter elements leave c0 c1 c2 c3 h0 h1 h2 h3 = three_assembled enter elements leave c0 c1 c2 c3 h1 h2 h3 ∙ ap (λ l. l ++ spell_all (enter ++ (elements ++ leave))) h0
@@ -81,8 +76,8 @@ whole_assembled first rows last c0 c1 c2 c3 c4 h0 h1 h2 h3 h4 = h4 ∙ ap (λ l.
 abbrev AllSpelled : List Ins → Type 0
 AllSpelled is = All (λ i. IsTrue (has_spelling i)) is
 
-pub spelled_bases : (list : List Ins) (dests sources : ℕ) → dests ≤ 4 → sources ≤ 8 → list ≡ bases_code dests sources → All (λ i. IsTrue (has_spelling i)) list
-spelled_bases list dests sources h g e = subst AllSpelled (sym e) (all_spelled (bases_code dests sources) (fine_bases dests sources h g))
+pub spelled_one_row : (list : List Ins) (dests sources : ℕ) → dests ≤ 4 → sources ≤ 8 → list ≡ one_row_code dests sources → All (λ i. IsTrue (has_spelling i)) list
+spelled_one_row list dests sources h g e = subst AllSpelled (sym e) (all_spelled (one_row_code dests sources) (fine_one_row dests sources h g))
 
 pub spelled_rows : (list : List Ins) (dests sources : ℕ) → dests ≤ 4 → sources ≤ 8 → list ≡ rows_code dests sources → All (λ i. IsTrue (has_spelling i)) list
 spelled_rows list dests sources h g e = subst AllSpelled (sym e) (all_spelled (rows_code dests sources) (fine_rows dests sources h g))

@@ -15,7 +15,7 @@ use Rattle.x86_flow.proofs.Spelled.{IsFine, fine_load, fine_store, fine_alu_imm,
 use Rattle.orc_region.specs.Code.{pointer}
 use Rattle.orc_frame.specs.Layout.{row_slot, rows_slot}
 use Rattle.orc_frame.specs.Parts.{rows_word, base_word, stride_word}
-use Rattle.orc_asm.specs.Rows.{slots_code, arrays_code, base_code, bases_code, count_code, rows_code, pointer_code, counter_code, row_entry_code, stride_code, one_less_code, row_step_code, row_flow, rows_flow}
+use Rattle.orc_asm.specs.Rows.{slots_code, arrays_code, base_code, count_code, rows_code, pointer_code, counter_code, row_entry_code, start_code, one_row_code, stride_code, one_less_code, row_step_code, row_flow, rows_flow}
 use Rattle.orc_region.proofs.Block.Registers.{pointer_small}
 
 -- ---- lists of slots
@@ -46,18 +46,20 @@ module _ (by : ℕ → Bool) (by_stack : by 4 ≡ false) (by_block : by 7 ≡ fa
   none_7 : one (by 7) ≡ 0
   none_7 = ap one by_block
 
-  pub bases_free : (dests sources : ℕ) → weigh touch (bases_code dests sources) ≡ 0
-  bases_free dests sources = arrays_free base_code dests sources (λ k. omega (arith, none_7, none_4))
-
   pub rows_free : (dests sources : ℕ) → weigh touch (rows_code dests sources) ≡ 0
   rows_free dests sources =
       let last : weigh touch count_code ≡ 0 = omega (arith, none_7, none_4) in
-      omega (arith, weigh_append touch (bases_code dests sources) count_code, bases_free dests sources, last)
+      omega (arith, weigh_append touch (arrays_code base_code dests sources) count_code, arrays_free base_code dests sources (λ k. omega (arith, none_7, none_4)), last)
 
   pub row_entry_free : (dests sources : ℕ) → weigh touch (row_entry_code dests sources) ≡ 0
   row_entry_free dests sources =
       let last : weigh touch counter_code ≡ 0 = omega (arith, none_7) in
       omega (arith, weigh_append touch (arrays_code pointer_code dests sources) counter_code, arrays_free pointer_code dests sources (λ k. omega (arith, none_4)), last)
+
+  pub one_row_free : (dests sources : ℕ) → weigh touch (one_row_code dests sources) ≡ 0
+  one_row_free dests sources =
+      let last : weigh touch counter_code ≡ 0 = omega (arith, none_7) in
+      omega (arith, weigh_append touch (arrays_code start_code dests sources) counter_code, arrays_free start_code dests sources (λ k. omega (arith, none_7, none_4)), last)
 
   pub row_step_free : (dests sources : ℕ) → weigh touch (row_step_code dests sources) ≡ 0
   row_step_free dests sources =
@@ -82,14 +84,14 @@ module _ (dests sources : ℕ) where
 
   -- ---- how many there are
 
-  pub bases_count : length (bases_code dests sources) ≡ 2 * (dests + sources)
-  bases_count = omega (arith, arrays_count base_code 2 (λ k. refl))
-
   pub rows_count : length (rows_code dests sources) ≡ 2 * (dests + sources) + 3
-  rows_count = omega (arith, length-append (bases_code dests sources) count_code, bases_count)
+  rows_count = omega (arith, length-append (arrays_code base_code dests sources) count_code, arrays_count base_code 2 (λ k. refl))
 
   pub row_entry_count : length (row_entry_code dests sources) ≡ dests + sources + 2
   row_entry_count = omega (arith, length-append (arrays_code pointer_code dests sources) counter_code, arrays_count pointer_code 1 (λ k. refl))
+
+  pub one_row_count : length (one_row_code dests sources) ≡ 2 * (dests + sources) + 2
+  one_row_count = omega (arith, length-append (arrays_code start_code dests sources) counter_code, arrays_count start_code 2 (λ k. refl))
 
   pub row_step_count : length (row_step_code dests sources) ≡ 4 * (dests + sources) + 3
   row_step_count = omega (arith, length-append (arrays_code stride_code dests sources) one_less_code, arrays_count stride_code 4 (λ k. refl))
@@ -98,18 +100,26 @@ module _ (dests sources : ℕ) where
     arrays_fine : (code : ℕ → List Ins) → ((k : ℕ) → k < 12 → Each IsFine (code k)) → Each IsFine (arrays_code code dests sources)
     arrays_fine code h = each_both IsFine (slots_code code 0 dests) (slots_code code 4 sources) (slots_fine code 0 dests (omega (arith, few_dests)) h) (slots_fine code 4 sources (omega (arith, few_sources)) h)
 
-    pub fine_bases : Each IsFine (bases_code dests sources)
+    fine_bases : Each IsFine (arrays_code base_code dests sources)
     fine_bases = arrays_fine base_code (λ k l. ((fine_word 7 (base_word k) (omega arith) (omega (arith, l)) 0 (omega arith)).0, ((fine_word 4 (row_slot k) (omega arith) (omega (arith, l)) 0 (omega arith)).1, tt)))
 
-    pub fine_count : Each IsFine count_code
+    fine_count : Each IsFine count_code
     fine_count = ((fine_word 7 rows_word (omega arith) (omega arith) 0 (omega arith)).0, ((fine_word 4 rows_slot (omega arith) (omega arith) 0 (omega arith)).1, (fine_test 0 0 (omega arith) (omega arith), tt)))
 
     pub fine_rows : Each IsFine (rows_code dests sources)
-    fine_rows = each_both IsFine (bases_code dests sources) count_code fine_bases fine_count
+    fine_rows = each_both IsFine (arrays_code base_code dests sources) count_code fine_bases fine_count
 
     pub fine_row_entry : Each IsFine (row_entry_code dests sources)
     fine_row_entry = each_both IsFine (arrays_code pointer_code dests sources) counter_code
         (arrays_fine pointer_code (λ k l. ((fine_word 4 (row_slot k) (omega arith) (omega (arith, l)) (pointer k) (pointer_small k l)).0, tt)))
+        ((fine_word 7 0 (omega arith) (omega arith) 1 (omega arith)).0, (fine_test 1 1 (omega arith) (omega arith), tt))
+
+    pub fine_one_row : Each IsFine (one_row_code dests sources)
+    fine_one_row = each_both IsFine (arrays_code start_code dests sources) counter_code
+        (arrays_fine start_code (λ k l. (
+          (fine_word 7 (base_word k) (omega arith) (omega (arith, l)) (pointer k) (pointer_small k l)).0,
+          ((fine_word 4 (row_slot k) (omega arith) (omega (arith, l)) (pointer k) (pointer_small k l)).1, tt),
+        )))
         ((fine_word 7 0 (omega arith) (omega arith) 1 (omega arith)).0, (fine_test 1 1 (omega arith) (omega arith), tt))
 
     pub fine_row_step : Each IsFine (row_step_code dests sources)
@@ -146,19 +156,8 @@ module _ (dests sources : ℕ) where
           let body = flat (row_flow elements dests sources) in
           omega (arith, size_both first (loop_code Ne body), loop_size Ne body, row_bytes, size_within first fine_rows, rows_count, few_dests, few_sources)
       rows_bytes false =
-          let first = bases_code dests sources in
-          let enter = row_entry_code dests sources in
-          omega (
-            arith,
-            size_both first (enter ++ flat elements),
-            size_both enter (flat elements),
-            size_within first fine_bases,
-            size_within enter fine_row_entry,
-            bases_count,
-            row_entry_count,
-            few_dests,
-            few_sources,
-          )
+          let first = one_row_code dests sources in
+          omega (arith, size_both first (flat elements), size_within first fine_one_row, one_row_count, few_dests, few_sources)
 
       -- and is allowed where that is
       pub rows_allowed : (two_d : Bool) → size (flat elements) ≤ 960000 → Each IsAllowed (flat elements) → Each IsAllowed (flat (rows_flow elements two_d dests sources))
@@ -168,7 +167,4 @@ module _ (dests sources : ℕ) where
           let body = flat (row_flow elements dests sources) in
           let all : Each IsAllowed body = each_both IsAllowed enter (flat elements ++ go_on) (all_allowed enter fine_row_entry) (each_both IsAllowed (flat elements) go_on h (all_allowed go_on fine_row_step)) in
           each_both IsAllowed (rows_code dests sources) (loop_code Ne body) (all_allowed (rows_code dests sources) fine_rows) (loop_fine Ne body (omega (arith, row_bytes, few)) all)
-      rows_allowed false few h =
-          let first = bases_code dests sources in
-          let enter = row_entry_code dests sources in
-          each_both IsAllowed first (enter ++ flat elements) (all_allowed first fine_bases) (each_both IsAllowed enter (flat elements) (all_allowed enter fine_row_entry) h)
+      rows_allowed false few h = each_both IsAllowed (one_row_code dests sources) (flat elements) (all_allowed (one_row_code dests sources) fine_one_row) h

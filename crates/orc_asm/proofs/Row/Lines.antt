@@ -20,7 +20,7 @@ use Rattle.x86_flow.proofs.Frame.{word_same, word_stored}
 use Rattle.orc_frame.specs.Parts.{InBlock, elements_word, rows_word, base_word, stride_word, block_size}
 use Rattle.orc_region.specs.Code.{pointer}
 use Rattle.orc_frame.specs.Layout.{row_slot, rows_slot, frame_size, left_slot}
-use Rattle.orc_asm.specs.Rows.{slots_code, arrays_code, base_code, bases_code, count_code, pointer_code, counter_code, row_entry_code, stride_code, one_less_code, row_step_code}
+use Rattle.orc_asm.specs.Rows.{slots_code, arrays_code, base_code, count_code, rows_code, pointer_code, counter_code, row_entry_code, start_code, one_row_code, stride_code, one_less_code, row_step_code}
 use Rattle.orc_region.proofs.Block.Registers.{not_1, not_4, not_7, pointer_one}
 use Rattle.orc_region.proofs.Turn.Advancing.{IsSlot}
 
@@ -92,26 +92,26 @@ module _ (rsp rdi : ℕ) (stack_low : rsp + (frame_size + 8) ≤ 2 ^ 47) (block_
       nothing : (j n : ℕ) → j < n → n ≡ 0 → ⊥
       nothing j n l e = omega (arith, l, e)
 
-  -- ---- RAX is stored to the word of a slot
+  -- ---- a register is stored to the word of a slot
 
-  abbrev stored : ℕ → Core → Core
-  stored k c = with_memory c (fill 8 c.memory (rsp + row_slot k) (byte_of 8 (c.gpr 0)))
+  abbrev stored : ℕ → ℕ → Core → Core
+  stored r k c = with_memory c (fill 8 c.memory (rsp + row_slot k) (byte_of 8 (c.gpr r)))
 
   -- what that leaves
-  record SlotStored (k : ℕ) (c : Core) : Type 0 where
-    works : work (Store 0 (away 4 (row_slot k))) c ≡ Ok (stored k c)
-    holds : word (stored k c).memory (rsp + row_slot k) ≡ Some (c.gpr 0)
-    outside : (x : ℕ) → (InSlot k x → ⊥) → (stored k c).memory x ≡ c.memory x
-    mapped : (x : ℕ) → IsMapped c.memory x → IsMapped (stored k c).memory x
+  record SlotStored (r k : ℕ) (c : Core) : Type 0 where
+    works : work (Store r (away 4 (row_slot k))) c ≡ Ok (stored r k c)
+    holds : word (stored r k c).memory (rsp + row_slot k) ≡ Some (c.gpr r)
+    outside : (x : ℕ) → (InSlot k x → ⊥) → (stored r k c).memory x ≡ c.memory x
+    mapped : (x : ℕ) → IsMapped c.memory x → IsMapped (stored r k c).memory x
 
-  store_slot : (k : ℕ) → k < 14 → (c : Core) → c.gpr 4 ≡ rsp → c.gpr 0 < 2 ^ 64 → ((x : ℕ) → InRows x → IsMapped c.memory x) → SlotStored k c
-  store_slot k l c e small there =
+  store_slot : (r k : ℕ) → k < 14 → (c : Core) → c.gpr 4 ≡ rsp → c.gpr r < 2 ^ 64 → ((x : ℕ) → InRows x → IsMapped c.memory x) → SlotStored r k c
+  store_slot r k l c e small there =
       let a = rsp + row_slot k in
       let w = slot_low k l in record {
-        works = store_word c 0 4 rsp (row_slot k) e w (λ x m u. there x (in_rows k x l (m, u)));
-        holds = word_stored c.memory a (c.gpr 0) (omega (arith, w)) small;
-        outside = λ x out. fill_out 8 c.memory a (byte_of 8 (c.gpr 0)) x (omega (arith, w)) (λ j s q. out (omega (arith, q), omega (arith, q, s)));
-        mapped = λ x h. fill_mapped 8 c.memory a (byte_of 8 (c.gpr 0)) x h;
+        works = store_word c r 4 rsp (row_slot k) e w (λ x m u. there x (in_rows k x l (m, u)));
+        holds = word_stored c.memory a (c.gpr r) (omega (arith, w)) small;
+        outside = λ x out. fill_out 8 c.memory a (byte_of 8 (c.gpr r)) x (omega (arith, w)) (λ j s q. out (omega (arith, q), omega (arith, q, s)));
+        mapped = λ x h. fill_mapped 8 c.memory a (byte_of 8 (c.gpr r)) x h;
       }
 
   -- the word of another slot stands
@@ -260,11 +260,15 @@ module _ (rsp rdi : ℕ) (stack_low : rsp + (frame_size + 8) ≤ 2 ^ 47) (block_
         let v = base k in
         let u1 : Core = with_gpr u 0 v in
         let loads : work (Load 0 (away 7 (base_word k))) u ≡ Ok u1 = load_word u 0 7 rdi (base_word k) v h.block (omega (arith, block_low, l)) (block_word c u h (base_word k) v (omega (arith, l)) e) in
-        let s = store_slot k (omega (arith, l)) u1 h.stack small (λ x r. h.mapped x (there x r)) in (
-          stored k u1,
-          (at_block c calmly (base_word k) (omega (arith, l)) _ u h refl, (u1, loads, (at_slot c calmly k (omega (arith, l)) _ u1 (way_with c u u1 h refl refl refl refl) refl, (stored k u1, s.works, refl)))),
+        let s = store_slot 0 k (omega (arith, l)) u1 h.stack small (λ x r. h.mapped x (there x r)) in (
+          stored 0 k u1,
+          (at_block c calmly (base_word k) (omega (arith, l)) _ u h refl, (u1, loads, (at_slot c calmly k (omega (arith, l)) _ u1 (way_with c u u1 h refl refl refl refl) refl, (stored 0 k u1, s.works, refl)))),
           record { gpr = λ r p q. change_other u.gpr 0 v r p; holds = s.holds; outside = s.outside; mapped = s.mapped; xmm = refl },
         )
+
+    -- a dest is no source
+    far_dest : (k j : ℕ) → k < dests → 4 ≤ j → k ≡ j → ⊥
+    far_dest k j l m e = omega (arith, l, m, e, few_dests)
 
     slot_small : (k : ℕ) → IsSlot dests sources k → k < 14
     slot_small k t = ⊎_elim (λ l. omega (arith, l, few_dests)) (λ l. omega (arith, l.1, few_sources)) t
@@ -272,20 +276,15 @@ module _ (rsp rdi : ℕ) (stack_low : rsp + (frame_size + 8) ≤ 2 ^ 47) (block_
     not_thirteen : (k : ℕ) → IsSlot dests sources k → 13 ≡ k → ⊥
     not_thirteen k t e = ⊎_elim (λ l. omega (arith, l, few_dests, e)) (λ l. omega (arith, l.1, few_sources, e)) t
 
-    -- the words of slots become the arrays' bases
-    pub bases_line : (base : ℕ → ℕ) (c : Core) → c.gpr 4 ≡ rsp → c.gpr 7 ≡ rdi → Calmly c → ((x : ℕ) → InRows x → IsMapped c.memory x)
-        → ((k : ℕ) → IsSlot dests sources k → word c.memory (rdi + base_word k) ≡ Some (base k)) → ((k : ℕ) → IsSlot dests sources k → base k < 2 ^ 64) → (d : Core) × Line Q (bases_code dests sources) c d × Renewed Q base_code base dests sources c d
-    bases_line base c s b calmly there words small = arrays_line Q base_code base dests sources few_dests few_sources c s b (λ k l t u h e. base_line c base k l calmly there (words k t) (small k t) u h)
-
-    -- and all rows are left
-    pub count_line : (m : ℕ) (base : ℕ → ℕ) (c : Core) → c.gpr 4 ≡ rsp → c.gpr 7 ≡ rdi → Calmly c → ((x : ℕ) → InRows x → IsMapped c.memory x) → word c.memory (rdi + rows_word) ≡ Some m → m < 2 ^ 64
+    -- all rows are left
+    count_line : (m : ℕ) (base : ℕ → ℕ) (c : Core) → c.gpr 4 ≡ rsp → c.gpr 7 ≡ rdi → Calmly c → ((x : ℕ) → InRows x → IsMapped c.memory x) → word c.memory (rdi + rows_word) ≡ Some m → m < 2 ^ 64
         → ((k : ℕ) → IsSlot dests sources k → word c.memory (rsp + row_slot k) ≡ Some (base k)) → (d : Core) × Line Q count_code c d × Passed dests sources base m c d
     count_line m base c stack block calmly there word_m small bases =
         let h : OnWay c c = record { stack = stack; block = block; outside = λ x out. refl; mapped = λ x t. t; xmm = refl } in
         let u1 : Core = with_gpr c 0 m in
         let loads : work (Load 0 (away 7 rows_word)) c ≡ Ok u1 = load_word c 0 7 rdi rows_word m block (omega (arith, block_low)) word_m in
-        let s = store_slot 13 (omega arith) u1 stack small there in
-        let u2 = stored 13 u1 in
+        let s = store_slot 0 13 (omega arith) u1 stack small there in
+        let u2 = stored 0 13 u1 in
         let d : Core = with_flags u2 (Some (flags_of false false (bit_and m m))) in
         let w1 = way_with c c u1 h refl refl refl refl in
         let w2 : OnWay c u2 = record { stack = stack; block = block; outside = λ x out. s.outside x (λ r. out (in_rows 13 x (omega arith) r)); mapped = s.mapped; xmm = refl } in (
@@ -300,6 +299,19 @@ module _ (rsp rdi : ℕ) (stack_low : rsp + (frame_size + 8) ≤ 2 ^ 47) (block_
             };
             way = record { stack = stack; block = block; outside = w2.outside; mapped = s.mapped; xmm = refl };
           },
+        )
+
+    -- the words of slots become the arrays' bases, and all rows are left
+    pub rows_line : (m : ℕ) (base : ℕ → ℕ) (c : Core) → c.gpr 4 ≡ rsp → c.gpr 7 ≡ rdi → Calmly c → ((x : ℕ) → InRows x → IsMapped c.memory x)
+        → ((k : ℕ) → IsSlot dests sources k → word c.memory (rdi + base_word k) ≡ Some (base k)) → ((k : ℕ) → IsSlot dests sources k → base k < 2 ^ 64) → word c.memory (rdi + rows_word) ≡ Some m → m < 2 ^ 64
+        → (d : Core) × Line Q (rows_code dests sources) c d × Passed dests sources base m c d
+    rows_line m base c s b calmly there words small word_m few =
+        let a = arrays_line Q base_code base dests sources few_dests few_sources c s b (λ k l t u h e. base_line c base k l calmly there (words k t) (small k t) u h) in
+        let w = a.2.way in
+        let z = count_line m base a.0 w.stack w.block (calmly_on c a.0 calmly w) (λ x r. w.mapped x (there x r)) (block_word c a.0 w rows_word m (omega arith) word_m) few a.2.holds in (
+          z.0,
+          line_append Q (arrays_code base_code dests sources) count_code c a.0 z.0 a.1 z.1,
+          record { gpr = λ r p q. z.2.gpr r p q ∙ a.2.gpr r p q; has = z.2.has; way = way_on c a.0 z.0 w z.2.way },
         )
 
     -- ---- the start of a row
@@ -372,8 +384,88 @@ module _ (rsp rdi : ℕ) (stack_low : rsp + (frame_size + 8) ≤ 2 ^ 47) (block_
         none : (a : ℕ) → a + 0 ≡ a
         none a = omega arith
 
-        far_dest : (k j : ℕ) → k < dests → 4 ≤ j → k ≡ j → ⊥
-        far_dest k j l m e = omega (arith, l, m, e, few_dests)
+    -- ---- the start of the only row
+
+    start_line : (base : ℕ → ℕ) (c : Core) → Calmly c → ((x : ℕ) → InRows x → IsMapped c.memory x) → (k : ℕ) → k < 12 → word c.memory (rdi + base_word k) ≡ Some (base k) → base k < 2 ^ 64
+        → (u : Core) → OnWay c u → (d : Core) × Line Q (start_code k) u d × OnWay c d × (d.gpr (pointer k) ≡ base k) × ((r : ℕ) → r ≢ pointer k → d.gpr r ≡ u.gpr r)
+    start_line base c calmly there k l e small u h =
+        let v = base k in
+        let q = pointer k in
+        let low : k < 14 = omega (arith, l) in
+        let u1 : Core = with_gpr u q v in
+        let loads : work (Load q (away 7 (base_word k))) u ≡ Ok u1 = load_word u q 7 rdi (base_word k) v h.block (omega (arith, block_low, l)) (block_word c u h (base_word k) v (omega (arith, l)) e) in
+        let stack : u1.gpr 4 ≡ u.gpr 4 = change_other u.gpr q v 4 (λ z. not_4 k (sym z)) in
+        let block : u1.gpr 7 ≡ u.gpr 7 = change_other u.gpr q v 7 (λ z. not_7 k (sym z)) in
+        let here : u1.gpr q ≡ v = change_same u.gpr q v in
+        let w1 = way_with c u u1 h stack block refl refl in
+        let s = store_slot q k low u1 w1.stack (subst (λ n. n < 2 ^ 64) (sym here) small) (λ x r. h.mapped x (there x r)) in
+        let d = stored q k u1 in (
+          d,
+          (at_block c calmly (base_word k) (omega (arith, l)) _ u h refl, (u1, loads, (at_slot c calmly k low _ u1 w1 refl, (d, s.works, refl)))),
+          way_on c u1 d w1 (record { stack = w1.stack; block = w1.block; outside = λ x out. s.outside x (λ r. out (in_rows k x low r)); mapped = s.mapped; xmm = refl }),
+          here,
+          λ r ne. change_other u.gpr q v r ne,
+        )
+
+    -- so many slots have begun
+    record Begun (base : ℕ → ℕ) (first n : ℕ) (c u d : Core) : Type 0 where
+      pointers : (k : ℕ) → first ≤ k → k < first + n → d.gpr (pointer k) ≡ base k
+      others : (r : ℕ) → ((k : ℕ) → first ≤ k → k < first + n → r ≢ pointer k) → d.gpr r ≡ u.gpr r
+      way : OnWay c d
+
+    begun_line : (base : ℕ → ℕ) (c : Core) → Calmly c → ((x : ℕ) → InRows x → IsMapped c.memory x) → (first n : ℕ) → first + n ≤ 12 → ((k : ℕ) → first ≤ k → k < first + n → word c.memory (rdi + base_word k) ≡ Some (base k)) → ((k : ℕ) → first ≤ k → k < first + n → base k < 2 ^ 64)
+        → (u : Core) → OnWay c u → (d : Core) × Line Q (slots_code start_code first n) u d × Begun base first n c u d
+    begun_line base c calmly there first zero few words small u h = (u, refl, record { pointers = λ k l m. absurd (omega (arith, l, m)); others = λ r h. refl; way = h })
+    begun_line base c calmly there first (suc n) few words small u h =
+        let a = begun_line base c calmly there first n (omega (arith, few)) (λ k l m. words k l (omega (arith, m))) (λ k l m. small k l (omega (arith, m))) u h in
+        let k = first + n in
+        let x = start_line base c calmly there k (omega (arith, few)) (words k (omega arith) (omega arith)) (small k (omega arith) (omega arith)) a.0 a.2.way in (
+          x.0,
+          line_append Q (slots_code start_code first n) (start_code k) u a.0 x.0 a.1 x.1,
+          record {
+            pointers = λ j l m. ⊎_elim
+                (λ e. subst (λ i. x.0.gpr (pointer i) ≡ base i) (sym e) x.3)
+                (λ ne. x.4 (pointer j) (λ e. ne (pointer_one j k e)) ∙ a.2.pointers j l (omega (arith, m, ne)))
+                (cases_eq j k);
+            others = λ r h. x.4 r (h k (omega arith) (omega arith)) ∙ a.2.others r (λ j l m. h j l (omega (arith, m)));
+            way = x.2;
+          },
+        )
+
+    -- what it leaves
+    pub record OnlyEntered (base : ℕ → ℕ) (n : ℕ) (c d : Core) : Type 0 where
+      pub pointers : (k : ℕ) → IsSlot dests sources k → d.gpr (pointer k) ≡ base k
+      pub counter : d.gpr 1 ≡ n
+      pub tests : test Ne d.flags ≡ Some (not (d.gpr 1 == 0))
+      pub way : OnWay c d
+
+    -- the pointers become the block's bases, and the counter the number of elements
+    pub one_row_line : (base : ℕ → ℕ) (n : ℕ) (c : Core) → c.gpr 4 ≡ rsp → c.gpr 7 ≡ rdi → Calmly c → ((x : ℕ) → InRows x → IsMapped c.memory x)
+        → ((k : ℕ) → IsSlot dests sources k → word c.memory (rdi + base_word k) ≡ Some (base k)) → ((k : ℕ) → IsSlot dests sources k → base k < 2 ^ 64) → word c.memory (rdi + elements_word) ≡ Some n
+        → (d : Core) × Line Q (one_row_code dests sources) c d × OnlyEntered base n c d
+    one_row_line base n c s b calmly there words small word_n =
+        let h : OnWay c c = record { stack = s; block = b; outside = λ x out. refl; mapped = λ x t. t; xmm = refl } in
+        let a = begun_line base c calmly there 0 dests (omega (arith, few_dests)) (λ k l m. words k (inl (omega (arith, m)))) (λ k l m. small k (inl (omega (arith, m)))) c h in
+        let z = begun_line base c calmly there 4 sources (omega (arith, few_sources)) (λ k l m. words k (inr (l, m))) (λ k l m. small k (inr (l, m))) a.0 a.2.way in
+        let u = z.0 in
+        let w = z.2.way in
+        let u1 : Core = with_gpr u 1 n in
+        let counts : work (Load 1 (away 7 elements_word)) u ≡ Ok u1 = load_word u 1 7 rdi elements_word n w.block (omega (arith, block_low)) (block_word c u w elements_word n (omega arith) word_n) in
+        let d : Core = with_flags u1 (Some (flags_of false false (bit_and n n))) in
+        let w1 = way_with c u u1 w refl refl refl refl in
+        let last : Line Q counter_code u d = (at_block c calmly elements_word (omega arith) _ u w refl, (u1, counts, (at_none c calmly _ u1 w1 refl, (d, refl, refl)))) in (
+          d,
+          line_append Q (arrays_code start_code dests sources) counter_code c u d (line_append Q (slots_code start_code 0 dests) (slots_code start_code 4 sources) c a.0 u a.1 z.1) last,
+          record {
+            pointers = λ k t. change_other u.gpr 1 n (pointer k) (not_1 k) ∙ ⊎_elim
+                (λ l. z.2.others (pointer k) (λ j m1 m2 e. far_dest k j l m1 (pointer_one k j e)) ∙ a.2.pointers k (omega arith) (omega (arith, l)))
+                (λ l. z.2.pointers k l.0 l.1)
+                t;
+            counter = refl;
+            tests = ap (λ x. Some (not (x == 0))) (both_is n);
+            way = way_with c u1 d w1 refl refl refl refl;
+          },
+        )
 
     -- ---- the end of a row
 
@@ -391,9 +483,9 @@ module _ (rsp rdi : ℕ) (stack_low : rsp + (frame_size + 8) ≤ 2 ^ 47) (block_
         let first : work (Load 0 (away 4 (row_slot k))) u ≡ Ok u1 = load_word u 0 4 rsp (row_slot k) v h.stack (omega (arith, slot_low k (omega (arith, l)))) (same ∙ base_is) in
         let second : work (Load 1 (away 7 (stride_word k))) u1 ≡ Ok u2 = load_word u1 1 7 rdi (stride_word k) s h.block (omega (arith, block_low, l)) (block_word c u h (stride_word k) s (omega (arith, l)) stride_is) in
         let fits : (v + s) % 2 ^ 64 < 2 ^ 64 = omega arith in
-        let x = store_slot k (omega (arith, l)) u3 h.stack fits (λ x r. h.mapped x (there x r)) in (
-          stored k u3,
-          (at_slot c calmly k (omega (arith, l)) _ u h refl, (u1, first, (at_block c calmly (stride_word k) (omega (arith, l)) _ u1 w1 refl, (u2, second, (at_none c calmly _ u2 w2 refl, (u3, refl, (at_slot c calmly k (omega (arith, l)) _ u3 w3 refl, (stored k u3, x.works, refl)))))))),
+        let x = store_slot 0 k (omega (arith, l)) u3 h.stack fits (λ x r. h.mapped x (there x r)) in (
+          stored 0 k u3,
+          (at_slot c calmly k (omega (arith, l)) _ u h refl, (u1, first, (at_block c calmly (stride_word k) (omega (arith, l)) _ u1 w1 refl, (u2, second, (at_none c calmly _ u2 w2 refl, (u3, refl, (at_slot c calmly k (omega (arith, l)) _ u3 w3 refl, (stored 0 k u3, x.works, refl)))))))),
           record { gpr = λ r p q. change_other u2.gpr 0 ((v + s) % 2 ^ 64) r p ∙ change_other u1.gpr 1 s r q ∙ change_other u.gpr 0 v r p; holds = x.holds; outside = x.outside; mapped = x.mapped; xmm = refl },
         )
 
@@ -407,8 +499,8 @@ module _ (rsp rdi : ℕ) (stack_low : rsp + (frame_size + 8) ≤ 2 ^ 47) (block_
         let w1 = way_with c u u1 h refl refl refl refl in
         let w2 = way_with c u u2 h refl refl refl refl in
         let first : work (Load 0 (away 4 rows_slot)) u ≡ Ok u1 = load_word u 0 4 rsp rows_slot (suc left) h.stack (omega (arith, stack_low)) rows in
-        let s = store_slot 13 (omega arith) u2 h.stack (omega (arith, new_is, small)) (λ x r. h.mapped x (there x r)) in
-        let d = stored 13 u2 in (
+        let s = store_slot 0 13 (omega arith) u2 h.stack (omega (arith, new_is, small)) (λ x r. h.mapped x (there x r)) in
+        let d = stored 0 13 u2 in (
           d,
           (at_slot c calmly 13 (omega arith) _ u h refl, (u1, first, (at_none c calmly _ u1 w1 refl, (u2, refl, (at_slot c calmly 13 (omega arith) _ u2 w2 refl, (d, s.works, refl)))))),
           record {

@@ -12,7 +12,6 @@ use Rattle.x86_ins.specs.Way.{Placed}
 use Rattle.x86_flow.specs.Flow.{Flow, Repeat}
 use Rattle.x86_flow.specs.Does.{Line, AtJump, Does}
 use Rattle.x86_flow.proofs.Frame.{word_same}
-use Rattle.x86_flow.proofs.Moves.{line_append}
 use Rattle.x86_flow.proofs.Plans.{weigh, weigh_append, counted_loop}
 use Rattle.x86_flow.specs.Touching.{touch_weight}
 use Rattle.orc_frame.specs.Subject.{Call as Arguments, InDests, rows}
@@ -21,13 +20,13 @@ use Rattle.orc_frame.specs.GoodCall.{GoodCall, lowered}
 use Rattle.orc_frame.specs.Function.{IsCellByte, subject_of}
 use Rattle.orc_region.specs.Code.{pointer}
 use Rattle.orc_frame.specs.Layout.{row_slot, frame_size}
-use Rattle.orc_asm.specs.Rows.{bases_code, count_code, rows_code, row_entry_code, row_step_code, row_flow, rows_flow}
+use Rattle.orc_asm.specs.Rows.{rows_code, row_entry_code, one_row_code, row_step_code, row_flow, rows_flow}
 use Rattle.orc_region.proofs.Block.Registers.{not_4, not_7}
 use Rattle.orc_region.proofs.Block.Keeping.{line_bounded, ins_of}
 use Rattle.orc_asm.proofs.Row.Emulated.{more_rows}
 use Rattle.orc_region.proofs.Calls.Cells.{Arrays, stack_room, call, P, row_base, base_small, first_base, next_base, rows_small, dest_cell, cell_block}
-use Rattle.orc_asm.proofs.Row.Counts.{fine_bases, fine_count, fine_row_entry, fine_row_step, bases_count, rows_count, row_entry_count, row_step_count, bases_free, rows_free, row_entry_free, row_step_free}
-use Rattle.orc_asm.proofs.Row.Lines.{InRows, OnWay, TouchesFew, HasRows, bases_line, count_line, row_entry_line, row_step_line}
+use Rattle.orc_asm.proofs.Row.Counts.{fine_rows, fine_row_entry, fine_one_row, fine_row_step, rows_count, row_entry_count, one_row_count, row_step_count, rows_free, row_entry_free, one_row_free, row_step_free}
+use Rattle.orc_asm.proofs.Row.Lines.{InRows, OnWay, TouchesFew, HasRows, rows_line, row_entry_line, one_row_line, row_step_line}
 
 weigh_one : (l : List Ins) → weigh (λ i. 1) l ≡ length l
 weigh_one [] = refl
@@ -100,12 +99,6 @@ module _ (f : FunctionValue) (known : Arrays f) (code : Placed) (s : Point) (arg
       pub steady : Steady t d
       pub slots : (x : ℕ) → InRows rsp rdi stack_low good.block_low x → d.memory x ≡ c.memory x
 
-    -- before the start of row r: the words of slots are the bases of the row
-    pub record Based (r : ℕ) (e : State) (c : Core) : Type 0 where
-      pub emulated : rows_of f (call f known code s args back good) r (start s.core.memory) ≡ Ok e
-      pub steady : Steady e c
-      pub bases : (k : ℕ) → P f known code s args back good k → word c.memory (rsp + row_slot k) ≡ Some (slot_base r k)
-
     -- after the last row
     pub record Over (t : State) (c : Core) : Type 0 where
       pub emulated : rows_of f (call f known code s args back good) (rows (subject_of f) args) (start s.core.memory) ≡ Ok t
@@ -151,31 +144,30 @@ module _ (f : FunctionValue) (known : Arrays f) (code : Placed) (s : Point) (arg
       slot_few k (inl h) = (let a = known.few.dests in omega (arith, h, a))
       slot_few k (inr h) = (let a = known.few.sources in omega (arith, h.1, a))
 
-      -- the words of slots become the bases of the first row
-      based : (c : Core) → Steady (start s.core.memory) c → (d : Core) × Line Q (bases_code dests sources) c d × Based 0 (start s.core.memory) d
-      based c h =
-          let e = start s.core.memory in
-          let a = bases_line rsp rdi stack_low good.block_low Q dests sources known.few.dests known.few.sources block_apart args.base c h.stack h.block (calm e c h)
-          (λ y i. h.frame y (in_frame y i))
-          (λ k p. block_word e c h (base_word k) (args.base k) (in_block k (slot_few k p)) (good.reads.bases k p))
-          (base_small f known code s args back good) in
-          let bounded = line_bounded Q (bases_code dests sources) c a.0 (ins_of (bases_code dests sources) (fine_bases dests sources known.few.dests known.few.sources)) a.1 h.bounded in
-          (a.0, a.1, record { emulated = refl; steady = on_way e c a.0 h a.2.way bounded; bases = λ k p. a.2.holds k p ∙ ap Some (sym (first_base f known code s args back good k p)) })
-        where
-          in_block : (k : ℕ) → k < 12 → base_word k + 8 ≤ block_size
-          in_block k l = omega (arith, l)
+      base_in_block : (k : ℕ) → k < 12 → base_word k + 8 ≤ block_size
+      base_in_block k l = omega (arith, l)
 
-      -- all rows are left, where there are as many as the block says
-      counted : args.m ≡ rows (subject_of f) args → (e : State) (c : Core) → Based 0 e c → (d : Core) × Line Q count_code c d × At 0 (rows (subject_of f) args) e d
-      counted same e c h =
+      -- the words of slots become the bases of the first row, where there are as many rows as the block says
+      begin : args.m ≡ rows (subject_of f) args → (c : Core) → Steady (start s.core.memory) c → (d : Core) × Line Q (rows_code dests sources) c d × At 0 (rows (subject_of f) args) (start s.core.memory) d
+      begin same c h =
+          let e = start s.core.memory in
           let m = rows (subject_of f) args in
-          let a = count_line rsp rdi stack_low good.block_low Q dests sources known.few.dests known.few.sources block_apart m (slot_base 0) c h.steady.stack h.steady.block (calm e c h.steady)
-          (λ y i. h.steady.frame y (in_frame y i))
-          (block_word e c h.steady rows_word m (omega arith) (good.reads.m ∙ ap Some same))
-          (few_rows m (rows_small f known code s args back good))
-          h.bases in
-          let bounded = line_bounded Q count_code c a.0 (ins_of count_code (fine_count dests sources known.few.dests known.few.sources)) a.1 h.steady.bounded in
-          (a.0, a.1, record { all = not_more m; emulated = h.emulated; steady = on_way e c a.0 h.steady a.2.way bounded; has = a.2.has })
+          let a = rows_line rsp rdi stack_low good.block_low Q dests sources known.few.dests known.few.sources block_apart m args.base c h.stack h.block (calm e c h)
+          (λ y i. h.frame y (in_frame y i))
+          (λ k p. block_word e c h (base_word k) (args.base k) (base_in_block k (slot_few k p)) (good.reads.bases k p))
+          (base_small f known code s args back good)
+          (block_word e c h rows_word m (omega arith) (good.reads.m ∙ ap Some same))
+          (few_rows m (rows_small f known code s args back good)) in
+          let bounded = line_bounded Q (rows_code dests sources) c a.0 (ins_of (rows_code dests sources) (fine_rows dests sources known.few.dests known.few.sources)) a.1 h.bounded in (
+            a.0,
+            a.1,
+            record {
+              all = not_more m;
+              emulated = refl;
+              steady = on_way e c a.0 h a.2.way bounded;
+              has = record { bases = λ k p. a.2.has.bases k p ∙ ap Some (sym (first_base f known code s args back good k p)); rows = a.2.has.rows; tests = a.2.has.tests };
+            },
+          )
         where
           few_rows : (m : ℕ) → m < 2 ^ 31 → m < 2 ^ 64
           few_rows m l = omega (arith, l)
@@ -183,9 +175,24 @@ module _ (f : FunctionValue) (known : Arrays f) (code : Placed) (s : Point) (arg
           not_more : (m : ℕ) → m + 0 ≡ m
           not_more m = omega arith
 
-      enter : (r : ℕ) (e : State) (c : Core) → Based r e c → (d : Core) × Line Q (row_entry_code dests sources) c d × Ready r e d × (d.memory ≡ c.memory)
-      enter r e c h =
-          let a = row_entry_line rsp rdi stack_low good.block_low Q dests sources known.few.dests known.few.sources block_apart (slot_base r) args.n c h.steady.stack h.steady.block (calm e c h.steady) h.bases
+      -- the start of the only row
+      begin_one : (c : Core) → Steady (start s.core.memory) c → (d : Core) × Line Q (one_row_code dests sources) c d × Ready 0 (start s.core.memory) d
+      begin_one c h =
+          let e = start s.core.memory in
+          let a = one_row_line rsp rdi stack_low good.block_low Q dests sources known.few.dests known.few.sources block_apart args.base args.n c h.stack h.block (calm e c h)
+          (λ y i. h.frame y (in_frame y i))
+          (λ k p. block_word e c h (base_word k) (args.base k) (base_in_block k (slot_few k p)) (good.reads.bases k p))
+          (base_small f known code s args back good)
+          (block_word e c h 0 args.n (omega arith) (ap (λ t. word s.core.memory t) (none rdi) ∙ good.reads.n)) in
+          let bounded = line_bounded Q (one_row_code dests sources) c a.0 (ins_of (one_row_code dests sources) (fine_one_row dests sources known.few.dests known.few.sources)) a.1 h.bounded in
+          (a.0, a.1, record { emulated = refl; steady = on_way e c a.0 h a.2.way bounded; pointers = λ k p. a.2.pointers k p ∙ sym (first_base f known code s args back good k p); counter = a.2.counter; tests = a.2.tests })
+        where
+          none : (a : ℕ) → a + 0 ≡ a
+          none a = omega arith
+
+      enter : (r left : ℕ) (e : State) (c : Core) → At r left e c → (d : Core) × Line Q (row_entry_code dests sources) c d × Ready r e d × (d.memory ≡ c.memory)
+      enter r left e c h =
+          let a = row_entry_line rsp rdi stack_low good.block_low Q dests sources known.few.dests known.few.sources block_apart (slot_base r) args.n c h.steady.stack h.steady.block (calm e c h.steady) h.has.bases
           (ap (λ t. word c.memory t) (sym (none rdi)) ∙ block_word e c h.steady 0 args.n (omega arith) (ap (λ t. word s.core.memory t) (none rdi) ∙ good.reads.n)) in
           let d = a.0 in
           let still : OnWay rsp rdi stack_low good.block_low c d = record {
@@ -246,7 +253,7 @@ module _ (f : FunctionValue) (known : Arrays f) (code : Placed) (s : Point) (arg
 
         one_row : (r left : ℕ) (e : State) (c : Core) → At r (suc left) e c → (t : State) × (done : List Ins) × (d : Core) × Does Q (row_flow elements dests sources) c done d × At (suc r) left t d × (length done ≤ per_row) × (weigh (touch_weight by) done ≤ some)
         one_row r left e c h =
-            let a = enter r e c (record { emulated = h.emulated; steady = h.steady; bases = h.has.bases }) in
+            let a = enter r (suc left) e c h in
             let b = does r e a.0 (below left r (rows (subject_of f) args) h.all) a.2 in
             let z = leave r left e b.0 c a.0 b.2 h a.3 b.4 in
             let first = row_entry_code dests sources in
@@ -293,36 +300,31 @@ module _ (f : FunctionValue) (known : Arrays f) (code : Placed) (s : Point) (arg
             → (t : State) × (done : List Ins) × (d : Core) × Does Q (rows_flow elements two_d dests sources) c done d × Over t d × (length done ≤ 2 * (dests + sources) + 3 + (1 + rows (subject_of f) args * (2 + (each + 5 * (dests + sources) + 5))))
             × (weigh (touch_weight by) done ≤ rows (subject_of f) args * some)
         rows_by true e c h =
-            let a = based c h in
-            let b = counted (ap (λ t. if t then args.m else 1) e) (start s.core.memory) a.0 a.2 in
-            let x = rows_done (start s.core.memory) b.0 b.2 in
+            let a = begin (ap (λ t. if t then args.m else 1) e) c h in
+            let x = rows_done (start s.core.memory) a.0 a.2 in
             let starts = rows_code dests sources in (
               x.0,
               starts ++ x.1,
               x.2,
-              (starts, x.1, b.0, (line_append Q (bases_code dests sources) count_code c a.0 b.0 a.1 b.1, refl), x.3, refl),
+              (starts, x.1, a.0, (a.1, refl), x.3, refl),
               record { emulated = x.4.emulated; steady = x.4.steady },
               omega (arith, length-append starts x.1, rows_count dests sources, x.5),
               omega (arith, weigh_append (touch_weight by) starts x.1, rows_free by by_stack by_block dests sources, x.6),
             )
         rows_by false e c h =
             let one : 1 ≡ rows (subject_of f) args = ap (λ t. if t then args.m else 1) e in
-            let a = based c h in
-            let b = enter 0 (start s.core.memory) a.0 a.2 in
-            let x = does 0 (start s.core.memory) b.0 (subst (λ m. 0 < m) one (omega arith)) b.2 in
-            let bases = bases_code dests sources in
-            let entry = row_entry_code dests sources in
-            let done = bases ++ (entry ++ x.1) in (
+            let a = begin_one c h in
+            let x = does 0 (start s.core.memory) a.0 (subst (λ m. 0 < m) one (omega arith)) a.2 in
+            let starts = one_row_code dests sources in
+            let done = starts ++ x.1 in (
               x.0,
               done,
               x.2,
-              (bases, entry ++ x.1, a.0, (a.1, refl), (entry, x.1, b.0, (b.1, refl), x.3, refl), refl),
+              (starts, x.1, a.0, (a.1, refl), x.3, refl),
               record {
                 emulated = subst (λ m. rows_of f (call f known code s args back good) m (start s.core.memory) ≡ Ok x.0) one (more_rows f (call f known code s args back good) 0 (start s.core.memory) (start s.core.memory) x.0 refl x.4.emulated);
                 steady = x.4.steady;
               },
-              subst (λ m. length done ≤ 2 * (dests + sources) + 3 + (1 + m * (2 + (each + 5 * (dests + sources) + 5)))) one
-                  (omega (arith, length-append bases (entry ++ x.1), length-append entry x.1, bases_count dests sources, row_entry_count dests sources, x.5)),
-              subst (λ m. weigh (touch_weight by) done ≤ m * some) one
-                  (omega (arith, weigh_append (touch_weight by) bases (entry ++ x.1), weigh_append (touch_weight by) entry x.1, bases_free by by_stack by_block dests sources, row_entry_free by by_stack by_block dests sources, x.6)),
+              subst (λ m. length done ≤ 2 * (dests + sources) + 3 + (1 + m * (2 + (each + 5 * (dests + sources) + 5)))) one (omega (arith, length-append starts x.1, one_row_count dests sources, x.5)),
+              subst (λ m. weigh (touch_weight by) done ≤ m * some) one (omega (arith, weigh_append (touch_weight by) starts x.1, one_row_free by by_stack by_block dests sources, x.6)),
             )
