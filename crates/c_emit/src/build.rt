@@ -149,11 +149,28 @@ pub fn less(alloc: Global, a: CExpr, b: CExpr) -> Result<CExpr, AllocError>
     test(alloc, CCmp::Less, a, b)
 }
 
+/// The test that the first is less than the second, of which copies are taken.
+pub fn less_of(alloc: Global, a: &CExpr, b: &CExpr) -> Result<CExpr, AllocError>
+    ensures { IfOk result (λ r. r ≡ expressions.less a.now b.now) }
+{
+    let first = copy(alloc, a)?;
+    let second = copy(alloc, b)?;
+    less(alloc, first, second)
+}
+
 /// The test that two are equal.
 pub fn equal(alloc: Global, a: CExpr, b: CExpr) -> Result<CExpr, AllocError>
     ensures { IfOk result (λ r. r ≡ CExpr.Test Equal a b) }
 {
     test(alloc, CCmp::Equal, a, b)
+}
+
+/// The test that an expression, of which a copy is taken, is 0.
+pub fn is_zero(alloc: Global, e: &CExpr) -> Result<CExpr, AllocError>
+    ensures { IfOk result (λ r. r ≡ CExpr.Test Equal e.now (CExpr.Number 0)) }
+{
+    let tested = copy(alloc, e)?;
+    equal(alloc, tested, number(0))
 }
 
 /// One expression where the first of two is less than the second, and else another.
@@ -182,10 +199,23 @@ pub fn at_most(alloc: Global, n: u64, e: CExpr) -> Result<CExpr, AllocError>
 pub fn without(alloc: Global, a: CExpr, b: CExpr) -> Result<CExpr, AllocError>
     ensures { IfOk result (λ r. r ≡ expressions.without a b) }
 {
-    let first = copy(alloc, &a)?;
-    let second = copy(alloc, &b)?;
+    let test = less_of(alloc, &a, &b)?;
     let rest = two(alloc, COp::Sub, a, b)?;
-    choose_less(alloc, first, second, number(0), rest)
+    choose(alloc, test, number(0), rest)
+}
+
+/// The low bits of an expression, of which copies are taken, or the greatest signed number where it is past that and k.
+fn clamped_above(alloc: Global, t: u32, k: u64, e: &CExpr) -> Result<CExpr, AllocError>
+    requires width { IsWidth t }
+    requires greatest { k + expressions.half t < 2 ^ 64 }
+    ensures { IfOk result (λ r. r ≡
+        CExpr.Choose (expressions.less (CExpr.Number (k + expressions.half t - 1)) e.now) (CExpr.Number (expressions.half t - 1)) (expressions.low t e.now)) }
+{
+    let kept = copy(alloc, e)?;
+    let rest = low(alloc, t, kept)?;
+    let tested = copy(alloc, e)?;
+    let greatest = number(k + half(t) - 1);
+    choose_less(alloc, greatest, tested, number(half(t) - 1), rest)
 }
 
 /// The number of t bits of an expression less k as a signed one: the least or the greatest where that is past them.
@@ -195,12 +225,8 @@ pub fn clamped(alloc: Global, t: u32, k: u64, e: CExpr) -> Result<CExpr, AllocEr
     requires greatest { k + expressions.half t < 2 ^ 64 }
     ensures { IfOk result (λ r. r ≡ expressions.clamped t k e) }
 {
-    let first = copy(alloc, &e)?;
-    let second = copy(alloc, &e)?;
-    let rest = low(alloc, t, e)?;
-    let greatest = number(k + half(t) - 1);
-    let upper = choose_less(alloc, greatest, second, number(half(t) - 1), rest)?;
-    choose_less(alloc, first, number(k - half(t)), number(half(t)), upper)
+    let upper = clamped_above(alloc, t, k, &e)?;
+    choose_less(alloc, e, number(k - half(t)), number(half(t)), upper)
 }
 
 /// All ones where a test holds, else 0.
@@ -262,13 +288,14 @@ pub fn variable_of(e: &CExpr) -> Option<u8>
 }
 
 /// A shift's result, or 0 where the count is not below the width. A count that is a number is tested here.
-pub fn if_below(alloc: Global, w: u32, count: CExpr, e: CExpr) -> Result<CExpr, AllocError>
-    ensures { IfOk result (λ r. r ≡ expressions.if_below w count e) }
+pub fn if_below(alloc: Global, w: u32, count: &CExpr, e: CExpr) -> Result<CExpr, AllocError>
+    ensures { IfOk result (λ r. r ≡ expressions.if_below w count.now e) }
 {
-    match number_of(&count) {
-        Some(n) => Ok(if n < u64::from(w) { e } else { number(0) }),
-        None => choose_less(alloc, count, number(u64::from(w)), e, number(0)),
+    if let Some(n) = number_of(count) {
+        return Ok(if n < u64::from(w) { e } else { number(0) });
     }
+    let tested = copy(alloc, count)?;
+    choose_less(alloc, tested, number(u64::from(w)), e, number(0))
 }
 
 /// The count of a shift, and one less than the width in place of a greater one.
