@@ -94,6 +94,15 @@ pub fn low(alloc: Global, t: u32, e: CExpr) -> Result<CExpr, AllocError>
     }
 }
 
+/// The low bits of an operator on two expressions.
+pub fn low_two(alloc: Global, t: u32, op: COp, a: CExpr, b: CExpr) -> Result<CExpr, AllocError>
+    requires { t ≤ 64 }
+    ensures { IfOk result (λ r. r ≡ expressions.low t (CExpr.Two op a b)) }
+{
+    let whole = two(alloc, op, a, b)?;
+    low(alloc, t, whole)
+}
+
 /// An expression shifted up.
 pub fn up(alloc: Global, e: CExpr, n: u64) -> Result<CExpr, AllocError>
     ensures { IfOk result (λ r. r ≡ expressions.up e n) }
@@ -142,27 +151,13 @@ pub fn plus(alloc: Global, e: CExpr, n: u64) -> Result<CExpr, AllocError>
     two(alloc, COp::Add, e, number(n))
 }
 
-/// The test that the first is less than the second.
-pub fn less(alloc: Global, a: CExpr, b: CExpr) -> Result<CExpr, AllocError>
-    ensures { IfOk result (λ r. r ≡ expressions.less a b) }
-{
-    test(alloc, CCmp::Less, a, b)
-}
-
 /// The test that the first is less than the second, of which copies are taken.
 pub fn less_of(alloc: Global, a: &CExpr, b: &CExpr) -> Result<CExpr, AllocError>
     ensures { IfOk result (λ r. r ≡ expressions.less a.now b.now) }
 {
     let first = copy(alloc, a)?;
     let second = copy(alloc, b)?;
-    less(alloc, first, second)
-}
-
-/// The test that two are equal.
-pub fn equal(alloc: Global, a: CExpr, b: CExpr) -> Result<CExpr, AllocError>
-    ensures { IfOk result (λ r. r ≡ CExpr.Test Equal a b) }
-{
-    test(alloc, CCmp::Equal, a, b)
+    test(alloc, CCmp::Less, first, second)
 }
 
 /// The test that an expression, of which a copy is taken, is 0.
@@ -170,7 +165,7 @@ pub fn is_zero(alloc: Global, e: &CExpr) -> Result<CExpr, AllocError>
     ensures { IfOk result (λ r. r ≡ CExpr.Test Equal e.now (CExpr.Number 0)) }
 {
     let tested = copy(alloc, e)?;
-    equal(alloc, tested, number(0))
+    test(alloc, CCmp::Equal, tested, number(0))
 }
 
 /// One expression where the first of two is less than the second, and else another.
@@ -183,7 +178,7 @@ pub fn choose_less(
 ) -> Result<CExpr, AllocError>
     ensures { IfOk result (λ r. r ≡ CExpr.Choose (expressions.less a b) yes no) }
 {
-    let c = less(alloc, a, b)?;
+    let c = test(alloc, CCmp::Less, a, b)?;
     choose(alloc, c, yes, no)
 }
 
@@ -199,9 +194,9 @@ pub fn at_most(alloc: Global, n: u64, e: CExpr) -> Result<CExpr, AllocError>
 pub fn without(alloc: Global, a: CExpr, b: CExpr) -> Result<CExpr, AllocError>
     ensures { IfOk result (λ r. r ≡ expressions.without a b) }
 {
-    let test = less_of(alloc, &a, &b)?;
+    let is_less = less_of(alloc, &a, &b)?;
     let rest = two(alloc, COp::Sub, a, b)?;
-    choose(alloc, test, number(0), rest)
+    choose(alloc, is_less, number(0), rest)
 }
 
 /// The low bits of an expression, of which copies are taken, or the greatest signed number where it is past that and k.
@@ -288,14 +283,13 @@ pub fn variable_of(e: &CExpr) -> Option<u8>
 }
 
 /// A shift's result, or 0 where the count is not below the width. A count that is a number is tested here.
-pub fn if_below(alloc: Global, w: u32, count: &CExpr, e: CExpr) -> Result<CExpr, AllocError>
-    ensures { IfOk result (λ r. r ≡ expressions.if_below w count.now e) }
+pub fn if_below(alloc: Global, w: u32, count: CExpr, e: CExpr) -> Result<CExpr, AllocError>
+    ensures { IfOk result (λ r. r ≡ expressions.if_below w count e) }
 {
-    if let Some(n) = number_of(count) {
-        return Ok(if n < u64::from(w) { e } else { number(0) });
+    match number_of(&count) {
+        Some(n) => Ok(if n < u64::from(w) { e } else { number(0) }),
+        None => choose_less(alloc, count, number(u64::from(w)), e, number(0)),
     }
-    let tested = copy(alloc, count)?;
-    choose_less(alloc, tested, number(u64::from(w)), e, number(0))
 }
 
 /// The count of a shift, and one less than the width in place of a greater one.

@@ -9,11 +9,11 @@ ghost use Rattle.c_emit.specs.Expressions as expressions;
 ghost use Rattle.c_emit.specs.Expressions.{first, fits};
 
 use crate::build::{
-    at_most, choose, choose_less, clamped, copy, down, equal, few, half, half_down, if_below,
-    is_zero, less, less_of, low, mask_if, number, ones, plus, swapped, turned, two, up, wide,
+    at_most, choose, choose_less, clamped, copy, down, few, half, half_down, if_below, is_zero,
+    less_of, low, low_two, mask_if, number, ones, plus, swapped, test, turned, two, up, wide,
     without,
 };
-use c_run::{CExpr, COp};
+use c_run::{CCmp, CExpr, COp};
 use orc_ops::Stem;
 use std::alloc::{AllocError, Global};
 
@@ -60,7 +60,7 @@ fn less_signed(alloc: Global, w: u32, x: CExpr, y: CExpr) -> Result<CExpr, Alloc
 {
     let first = turned(alloc, w, x)?;
     let second = turned(alloc, w, y)?;
-    less(alloc, first, second)
+    test(alloc, CCmp::Less, first, second)
 }
 
 /// The same test on copies.
@@ -71,33 +71,6 @@ fn less_signed_of(alloc: Global, w: u32, x: &CExpr, y: &CExpr) -> Result<CExpr, 
     let first = copy(alloc, x)?;
     let second = copy(alloc, y)?;
     less_signed(alloc, w, first, second)
-}
-
-/// A sum.
-fn add(alloc: Global, t: u32, x: CExpr, y: CExpr) -> Result<CExpr, AllocError>
-    requires { IsWidth t }
-    ensures { IfOk result (λ e. e ≡ first stem.Add t t x y) }
-{
-    let sum = two(alloc, COp::Add, x, y)?;
-    low(alloc, t, sum)
-}
-
-/// A difference.
-fn sub(alloc: Global, t: u32, x: CExpr, y: CExpr) -> Result<CExpr, AllocError>
-    requires { IsWidth t }
-    ensures { IfOk result (λ e. e ≡ first stem.Sub t t x y) }
-{
-    let rest = two(alloc, COp::Sub, x, y)?;
-    low(alloc, t, rest)
-}
-
-/// The low half of a product.
-fn mull(alloc: Global, t: u32, x: CExpr, y: CExpr) -> Result<CExpr, AllocError>
-    requires { IsWidth t }
-    ensures { IfOk result (λ e. e ≡ first stem.Mull t t x y) }
-{
-    let product = two(alloc, COp::Mul, x, y)?;
-    low(alloc, t, product)
 }
 
 /// The high half of a product of signed numbers.
@@ -146,10 +119,9 @@ fn avgs(alloc: Global, w: u32, t: u32, x: CExpr, y: CExpr) -> Result<CExpr, Allo
 fn accsad(alloc: Global, x: CExpr, y: CExpr) -> Result<CExpr, AllocError>
     ensures { IfOk result (λ e. e ≡ first stem.Accsad 0 0 x y) }
 {
-    let test = less_of(alloc, &x, &y)?;
+    let less = difference(alloc, &y, &x)?;
     let more = difference(alloc, &x, &y)?;
-    let less = two(alloc, COp::Sub, y, x)?;
-    choose(alloc, test, less, more)
+    choose_less(alloc, x, y, less, more)
 }
 
 /// The absolute value.
@@ -170,9 +142,9 @@ fn sign(alloc: Global, w: u32, t: u32, x: CExpr) -> Result<CExpr, AllocError>
     requires to { IsWidth t }
     ensures { IfOk result (λ e. e ≡ first stem.Sign w t x x) }
 {
-    let test = is_zero(alloc, &x)?;
+    let is_zero = is_zero(alloc, &x)?;
     let sign = choose_less(alloc, x, number(half(w)), number(1), number(ones(t)))?;
-    choose(alloc, test, number(0), sign)
+    choose(alloc, is_zero, number(0), sign)
 }
 
 /// The bits that the second alone has.
@@ -189,8 +161,8 @@ fn cmpeq(alloc: Global, t: u32, x: CExpr, y: CExpr) -> Result<CExpr, AllocError>
     requires { IsWidth t }
     ensures { IfOk result (λ e. e ≡ first stem.Cmpeq t t x y) }
 {
-    let test = equal(alloc, x, y)?;
-    mask_if(alloc, t, test)
+    let are_equal = test(alloc, CCmp::Equal, x, y)?;
+    mask_if(alloc, t, are_equal)
 }
 
 /// All ones where the first is greater as a signed number.
@@ -199,8 +171,8 @@ fn cmpgts(alloc: Global, w: u32, t: u32, x: CExpr, y: CExpr) -> Result<CExpr, Al
     requires to { IsWidth t }
     ensures { IfOk result (λ e. e ≡ first stem.Cmpgts w t x y) }
 {
-    let test = less_signed(alloc, w, y, x)?;
-    mask_if(alloc, t, test)
+    let is_less = less_signed(alloc, w, y, x)?;
+    mask_if(alloc, t, is_less)
 }
 
 /// The greater signed number.
@@ -208,8 +180,8 @@ fn maxs(alloc: Global, w: u32, x: CExpr, y: CExpr) -> Result<CExpr, AllocError>
     requires { IsWidth w }
     ensures { IfOk result (λ e. e ≡ first stem.Maxs w w x y) }
 {
-    let test = less_signed_of(alloc, w, &x, &y)?;
-    choose(alloc, test, y, x)
+    let is_less = less_signed_of(alloc, w, &x, &y)?;
+    choose(alloc, is_less, y, x)
 }
 
 /// The lesser signed number.
@@ -217,40 +189,39 @@ fn mins(alloc: Global, w: u32, x: CExpr, y: CExpr) -> Result<CExpr, AllocError>
     requires { IsWidth w }
     ensures { IfOk result (λ e. e ≡ first stem.Mins w w x y) }
 {
-    let test = less_signed_of(alloc, w, &y, &x)?;
-    choose(alloc, test, y, x)
+    let is_less = less_signed_of(alloc, w, &y, &x)?;
+    choose(alloc, is_less, y, x)
 }
 
 /// The greater number.
 fn maxu(alloc: Global, x: CExpr, y: CExpr) -> Result<CExpr, AllocError>
     ensures { IfOk result (λ e. e ≡ first stem.Maxu 0 0 x y) }
 {
-    let test = less_of(alloc, &x, &y)?;
-    choose(alloc, test, y, x)
+    let is_less = less_of(alloc, &x, &y)?;
+    choose(alloc, is_less, y, x)
 }
 
 /// The lesser number.
 fn minu(alloc: Global, x: CExpr, y: CExpr) -> Result<CExpr, AllocError>
     ensures { IfOk result (λ e. e ≡ first stem.Minu 0 0 x y) }
 {
-    let test = less_of(alloc, &y, &x)?;
-    choose(alloc, test, y, x)
+    let is_less = less_of(alloc, &y, &x)?;
+    choose(alloc, is_less, y, x)
 }
 
 /// A shift up.
-fn shl(alloc: Global, w: u32, t: u32, x: CExpr, y: &CExpr) -> Result<CExpr, AllocError>
+fn shl(alloc: Global, w: u32, t: u32, x: CExpr, y: CExpr) -> Result<CExpr, AllocError>
     requires width { IsWidth w }
     requires to { IsWidth t }
-    ensures { IfOk result (λ e. e ≡ first stem.Shl w t x y.now) }
+    ensures { IfOk result (λ e. e ≡ first stem.Shl w t x y) }
 {
-    let count = copy(alloc, y)?;
-    let moved = two(alloc, COp::Shl, x, count)?;
-    let rest = low(alloc, t, moved)?;
-    if_below(alloc, w, y, rest)
+    let count = copy(alloc, &y)?;
+    let rest = low_two(alloc, t, COp::Shl, x, y)?;
+    if_below(alloc, w, count, rest)
 }
 
-/// A shift down of a signed number.
-fn shrs(alloc: Global, w: u32, t: u32, x: CExpr, y: &CExpr) -> Result<CExpr, AllocError>
+/// A shift down of a signed number by a count of which copies are taken.
+fn shrs_by(alloc: Global, w: u32, t: u32, x: CExpr, y: &CExpr) -> Result<CExpr, AllocError>
     requires width { IsWidth w }
     requires to { IsWidth t }
     ensures { IfOk result (λ e. e ≡ first stem.Shrs w t x y.now) }
@@ -259,18 +230,26 @@ fn shrs(alloc: Global, w: u32, t: u32, x: CExpr, y: &CExpr) -> Result<CExpr, All
     let count = few(alloc, w, y)?;
     let moved = two(alloc, COp::Shr, distance, count)?;
     let least = half_down(alloc, w, y)?;
-    let rest = two(alloc, COp::Sub, moved, least)?;
-    low(alloc, t, rest)
+    low_two(alloc, t, COp::Sub, moved, least)
+}
+
+/// A shift down of a signed number.
+fn shrs(alloc: Global, w: u32, t: u32, x: CExpr, y: CExpr) -> Result<CExpr, AllocError>
+    requires width { IsWidth w }
+    requires to { IsWidth t }
+    ensures { IfOk result (λ e. e ≡ first stem.Shrs w t x y) }
+{
+    shrs_by(alloc, w, t, x, &y)
 }
 
 /// A shift down.
-fn shru(alloc: Global, w: u32, x: CExpr, y: &CExpr) -> Result<CExpr, AllocError>
+fn shru(alloc: Global, w: u32, x: CExpr, y: CExpr) -> Result<CExpr, AllocError>
     requires { IsWidth w }
-    ensures { IfOk result (λ e. e ≡ first stem.Shru w w x y.now) }
+    ensures { IfOk result (λ e. e ≡ first stem.Shru w w x y) }
 {
-    let count = copy(alloc, y)?;
-    let moved = two(alloc, COp::Shr, x, count)?;
-    if_below(alloc, w, y, moved)
+    let count = copy(alloc, &y)?;
+    let moved = two(alloc, COp::Shr, x, y)?;
+    if_below(alloc, w, count, moved)
 }
 
 /// A signed number at another width.
@@ -415,9 +394,9 @@ fn divlu_sum(alloc: Global, x: CExpr, y: CExpr) -> Result<CExpr, AllocError>
     ensures { IfOk result (λ e. e ≡ expressions.sum stem.Divlu 0 0 x y) }
 {
     let divisor = low(alloc, 8, y)?;
-    let test = is_zero(alloc, &divisor)?;
+    let is_zero = is_zero(alloc, &divisor)?;
     let quotient = two(alloc, COp::Div, x, divisor)?;
-    choose(alloc, test, number(255), quotient)
+    choose(alloc, is_zero, number(255), quotient)
 }
 
 /// The number that the formula of a stem has more than once.
@@ -525,13 +504,10 @@ pub fn first(
     ensures { IfOk result (λ e. e ≡ first stem w t x y) }
 {
     match stem {
-        Stem::Add => add(alloc, t, x, y),
-        Stem::Addss => by_sum(alloc, Stem::Addss, w, t, x, y),
-        Stem::Addus => by_sum(alloc, Stem::Addus, w, t, x, y),
-        Stem::Sub => sub(alloc, t, x, y),
-        Stem::Subss => by_sum(alloc, Stem::Subss, w, t, x, y),
+        Stem::Add => low_two(alloc, t, COp::Add, x, y),
+        Stem::Sub => low_two(alloc, t, COp::Sub, x, y),
         Stem::Subus => without(alloc, x, y),
-        Stem::Mull => mull(alloc, t, x, y),
+        Stem::Mull => low_two(alloc, t, COp::Mul, x, y),
         Stem::Mulhs => mulhs(alloc, w, t, x, y),
         Stem::Mulhu => mulhu(alloc, w, x, y),
         Stem::Muls => muls(alloc, w, t, x, y),
@@ -552,13 +528,12 @@ pub fn first(
         Stem::Mins => mins(alloc, w, x, y),
         Stem::Maxu => maxu(alloc, x, y),
         Stem::Minu => minu(alloc, x, y),
-        Stem::Shl => shl(alloc, w, t, x, &y),
-        Stem::Shrs => shrs(alloc, w, t, x, &y),
-        Stem::Shru => shru(alloc, w, x, &y),
+        Stem::Shl => shl(alloc, w, t, x, y),
+        Stem::Shrs => shrs(alloc, w, t, x, y),
+        Stem::Shru => shru(alloc, w, x, y),
         Stem::Convs => convs(alloc, w, t, x),
         Stem::Low => low(alloc, t, x),
         Stem::High => down(alloc, x, u64::from(t)),
-        Stem::Convsss => by_sum(alloc, Stem::Convsss, w, t, x, y),
         Stem::Convsus => convsus(alloc, w, t, x),
         Stem::Convuss => convuss(alloc, t, x),
         Stem::Convuus => convuus(alloc, t, x),
@@ -568,7 +543,7 @@ pub fn first(
         Stem::Split => down(alloc, x, u64::from(t)),
         Stem::Swap => swap(alloc, w, x),
         Stem::Exchange => exchange(alloc, w, x),
-        Stem::Div255 => by_sum(alloc, Stem::Div255, w, t, x, y),
-        Stem::Divlu => by_sum(alloc, Stem::Divlu, w, t, x, y),
+        // those that have a sum
+        _ => by_sum(alloc, stem, w, t, x, y),
     }
 }
