@@ -193,7 +193,7 @@ module _ (f : FunctionValue) (call : Call) (mem : Memory) (kept : is_function f 
       let u = go_on_ok (act f call r i insn e) (emulation.element f call r i insns) e1 h in
       let x = insn_does f call mem kept near counts is good c accs r i row low earlier insn s e u.0 (checked f.vars earlier insn n.0 a.0 b.0) rooms.0 g u.1 in
       let y = insns_do r i row low (earlier ++ insn ∷ []) insns x.state u.0 e1 n.1 b.1 rooms.1 x.agrees u.2 in
-      record { state = y.state; does = does_both x.does y.does; agrees = y.agrees }
+      record { state = y.state; does = does_both {e = x.state} {g = y.state} x.does y.does; agrees = y.agrees }
 
   module _ (body : c.body ≡ body_of f.vars f.insns) where
     element_goes : (r i : ℕ) → r < rows f call → i < call.n → (s : CState) (e e1 : State) → Agrees f none s e → emulation.element f call r i f.insns e ≡ done e1 → Went f (λ budget. meaning.element c call budget r i) (1 + length c.body) s e1

@@ -1,6 +1,6 @@
 -- Opcodes on sub-lanes: the expressions of sources and results mean what emulation reads and computes.
-use Rattle.std.proofs.Common.{◌≡◌, ℕ, zero, suc, ◌*◌, ◌/◌, ◌%◌, ◌^◌, ◌<◌, ◌≤◌, ◌||◌, ◌==◌, ⊎_elim, ◌+◌, if◌then◌else◌, Bool, true, false, List, [], ◌∷◌, Some, Result, Ok, refl, sym, ap, ap₂, ◌∙◌, subst, arith, true≢false}
-use Rattle.std.specs.Prelude.{slice_get}
+use Rattle.std.proofs.Common.{◌≡◌, ℕ, zero, suc, ◌*◌, ◌/◌, ◌%◌, ◌^◌, ◌<◌, ◌≤◌, ◌||◌, ◌==◌, ⊎_elim, ◌+◌, if◌then◌else◌, Bool, true, false, List, [], ◌∷◌, Option, Some, None, Result, Ok, refl, sym, ap, ap₂, ◌∙◌, subst, arith, true≢false}
+use Rattle.std.specs.Prelude.{slice_get, is_none}
 use Rattle.std.proofs.lemmas.Bool.Decides.{nat_tests}
 use Rattle.std.proofs.lemmas.Nat.{pow_pos, mod_below, mod-pow-add}
 use Rattle.std.proofs.Math.Nat.{mod-eq_of_lt}
@@ -9,6 +9,8 @@ use Rattle.orc_ops.specs.declared.opcode.Op.TheVariants as op
 use Rattle.orc_ops.specs.declared.stem.Stem.{Stem}
 use Rattle.orc_ops.specs.declared.stem.Stem.TheVariants as stem
 use Rattle.orc_ops.specs.Stems.{apply}
+use Rattle.orc_ops.specs.declared.far.Far.{Far}
+use Rattle.orc_ops.specs.Far.{far_of}
 use Rattle.orc_ops.specs.Table.{row, wide, to, size_of_result, size_of_source}
 use Rattle.orc_ops.specs.Widths.{IsSize}
 use Rattle.orc_ops.specs.Formula.{formula, source_of}
@@ -40,59 +42,64 @@ use Rattle.c_emit.proofs.Doing.{scene, v_gives, packed_gives}
 size_low : (n : ℕ) → IsSize n → 8 * n ≤ 64
 size_low n h = grind (arith, h)
 
--- the first result of an opcode, from its sources cut to their sizes
-pub formula_first : {z : Scene} {x y : CExpr} (o : Op) (a b : ℕ) → Gives z x (source_of o 0 a) → Gives z y (source_of o 1 b) → Gives z (first (row o).stem (wide o) (to o) x y) (formula o a b).0
-unfolding formula
-formula_first op.Loadoffb a b p q = p
-formula_first op.Loadoffw a b p q = p
-formula_first op.Loadoffl a b p q = p
-formula_first op.Loadupdb a b p q = p
-formula_first op.Loadupib a b p q = p
-formula_first op.Ldresnearb a b p q = p
-formula_first op.Ldresnearl a b p q = p
-formula_first op.Ldreslinb a b p q = p
-formula_first op.Ldreslinl a b p q = p
-formula_first o a b p q =
+-- ---- an opcode is no far load, or it copies
+
+near_or_copies : (o : Op) → is_copy (row o).stem || is_none (far_of o) ≡ true
+near_or_copies op.Absb = refl
+near_or_copies o = refl
+
+no_far : (f : Option Far) → is_none f ≡ true → f ≡ None
+no_far None h = refl
+no_far (Some far) h = absurd (true≢false (sym h))
+
+near_of : (o : Op) → is_copy (row o).stem ≡ false → far_of o ≡ None
+near_of o h = no_far (far_of o) (sym (ap (λ c. c || is_none (far_of o)) h) ∙ near_or_copies o)
+
+-- what has a sum copies nothing
+sum_near : (s : Stem) → has_sum s ≡ true → is_copy s ≡ false
+sum_near stem.Copy h = absurd (true≢false (sym h))
+sum_near s h = refl
+
+-- ---- the first result of an opcode, from its sources cut to their sizes
+
+first_copy : {z : Scene} {x : CExpr} {a : ℕ} (y : CExpr) (s : Stem) (w t b : ℕ) → is_copy s ≡ true → Gives z x a → Gives z (first s w t x y) (apply s w t a b).0
+first_copy y stem.Copy w t b e p = p
+first_copy y s w t b e p = absurd (true≢false (sym e))
+
+first_near : {z : Scene} {x y : CExpr} (o : Op) (a b : ℕ) → far_of o ≡ None → Gives z x (source_of o 0 a) → Gives z y (source_of o 1 b) → Gives z (first (row o).stem (wide o) (to o) x y) (apply (row o).stem (wide o) (to o) (source_of o 0 a) (source_of o 1 b)).0
+first_near o a b near p q =
     let r = row_fits o in
     let c = mod_below a (2 ^ wide o) (pow_pos (wide o)) in
     let d = mod_below b (2 ^ (8 * size_of_source o 1)) (pow_pos (8 * size_of_source o 1)) in
     let t = top_64 (8 * size_of_source o 1) (size_low (size_of_source o 1) r.size) in
-    first_law (row o).stem (wide o) (to o) (range_of (wide o) r.first) (range_of (to o) r.result) (widths_fit o) p q c (r.second refl b) (omega (arith, d, t))
+    first_law (row o).stem (wide o) (to o) (range_of (wide o) r.first) (range_of (to o) r.result) (widths_fit o) p q c (r.second near b) (omega (arith, d, t))
+
+pub formula_first : {z : Scene} {x y : CExpr} (o : Op) (a b : ℕ) → Gives z x (source_of o 0 a) → Gives z y (source_of o 1 b) → Gives z (first (row o).stem (wide o) (to o) x y) (formula o a b).0
+unfolding formula
+formula_first {z} {x} {y} o a b p q = by (is_copy (row o).stem) refl
+  where
+    by : (t : Bool) → is_copy (row o).stem ≡ t → Gives z (first (row o).stem (wide o) (to o) x y) (apply (row o).stem (wide o) (to o) (source_of o 0 a) (source_of o 1 b)).0
+    by true e = first_copy y (row o).stem (wide o) (to o) (source_of o 1 b) e p
+    by false e = first_near o a b (near_of o e) p q
 
 -- the sum of an opcode that has one
 abbrev pub sum_of : Op → ℕ → ℕ → ℕ
 sum_of o a b = sum_value (row o).stem (wide o) (to o) (source_of o 0 a) (source_of o 1 b)
 
 formula_sum : {z : Scene} {x y : CExpr} (o : Op) (a b : ℕ) → has_sum (row o).stem ≡ true → Gives z x (source_of o 0 a) → Gives z y (source_of o 1 b) → Gives z (sum (row o).stem (wide o) (to o) x y) (sum_of o a b)
-formula_sum op.Loadoffb a b h p q = absurd (let f : ⊥ = cc in f)
-formula_sum op.Loadoffw a b h p q = absurd (let f : ⊥ = cc in f)
-formula_sum op.Loadoffl a b h p q = absurd (let f : ⊥ = cc in f)
-formula_sum op.Loadupdb a b h p q = absurd (let f : ⊥ = cc in f)
-formula_sum op.Loadupib a b h p q = absurd (let f : ⊥ = cc in f)
-formula_sum op.Ldresnearb a b h p q = absurd (let f : ⊥ = cc in f)
-formula_sum op.Ldresnearl a b h p q = absurd (let f : ⊥ = cc in f)
-formula_sum op.Ldreslinb a b h p q = absurd (let f : ⊥ = cc in f)
-formula_sum op.Ldreslinl a b h p q = absurd (let f : ⊥ = cc in f)
 formula_sum o a b h p q =
     let r = row_fits o in
+    let near = near_of o (sum_near (row o).stem h) in
     let d = mod_below b (2 ^ (8 * size_of_source o 1)) (pow_pos (8 * size_of_source o 1)) in
     let t = top_64 (8 * size_of_source o 1) (size_low (size_of_source o 1) r.size) in
-    sum_law (row o).stem (wide o) (to o) (range_of (wide o) r.first) (widths_fit o) h p q (mod_below a (2 ^ wide o) (pow_pos (wide o))) (r.second refl b) (omega (arith, d, t))
+    sum_law (row o).stem (wide o) (to o) (range_of (wide o) r.first) (widths_fit o) h p q (mod_below a (2 ^ wide o) (pow_pos (wide o))) (r.second near b) (omega (arith, d, t))
 
 formula_from : {z : Scene} {e : CExpr} (o : Op) (a b : ℕ) → has_sum (row o).stem ≡ true → Gives z e (sum_of o a b) → Gives z (from_sum (row o).stem (wide o) (to o) e) (formula o a b).0
 unfolding formula
-formula_from op.Loadoffb a b h g = absurd (let f : ⊥ = cc in f)
-formula_from op.Loadoffw a b h g = absurd (let f : ⊥ = cc in f)
-formula_from op.Loadoffl a b h g = absurd (let f : ⊥ = cc in f)
-formula_from op.Loadupdb a b h g = absurd (let f : ⊥ = cc in f)
-formula_from op.Loadupib a b h g = absurd (let f : ⊥ = cc in f)
-formula_from op.Ldresnearb a b h g = absurd (let f : ⊥ = cc in f)
-formula_from op.Ldresnearl a b h g = absurd (let f : ⊥ = cc in f)
-formula_from op.Ldreslinb a b h g = absurd (let f : ⊥ = cc in f)
-formula_from op.Ldreslinl a b h g = absurd (let f : ⊥ = cc in f)
 formula_from o a b h g =
     let r = row_fits o in
-    from_sum_law (source_of o 0 a) (source_of o 1 b) (row o).stem (wide o) (to o) (range_of (wide o) r.first) (range_of (to o) r.result) (widths_fit o) h g (mod_below a (2 ^ wide o) (pow_pos (wide o))) (r.second refl b)
+    let near = near_of o (sum_near (row o).stem h) in
+    from_sum_law (source_of o 0 a) (source_of o 1 b) (row o).stem (wide o) (to o) (range_of (wide o) r.first) (range_of (to o) r.result) (widths_fit o) h g (mod_below a (2 ^ wide o) (pow_pos (wide o))) (r.second near b)
 
 abbrev is_split : Stem → Bool
 is_split stem.Split = true

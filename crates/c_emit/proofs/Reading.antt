@@ -169,7 +169,7 @@ module _ (f : FunctionValue) (call : Call) (mem : Memory) (kept : is_function f 
       let n = read_operand made earlier o prefix 1 m.state e (d + cells f.vars x) (8 * size_of_source o 1) v.0 y (omega arith) rooms.1 q.1 m.agrees v.1 in
       record {
         state = n.state;
-        does = does_both m.does n.does;
+        does = does_both {e = m.state} {g = n.state} m.does n.does;
         agrees = n.agrees;
         held = (held_still f call r i m.state n.state e d x (λ one. n.other d (λ z. omega (arith, z, one))) m.held, n.held);
       }
@@ -266,7 +266,7 @@ module _ (f : FunctionValue) (call : Call) (mem : Memory) (kept : is_function f 
         let end : CState = counting (with_v x.state d v) in
         record {
           state = end;
-          does = does_both x.does (does_v c call (record { row = r; element = i }) x.state d v (sum_at f.vars insn n) (set_room d c.temps (sum_at f.vars insn n) [] rooms.1).0 gives);
+          does = does_both {e = x.state} {g = end} x.does (does_v c call (record { row = r; element = i }) x.state d v (sum_at f.vars insn n) (set_room d c.temps (sum_at f.vars insn n) [] rooms.1).0 gives);
           agrees = agrees_v d v (omega arith) x.agrees;
           held = are_held_still f call r i x.state end e (first_free f.vars) insn.sources.items (λ k m. change_other x.state.v d k (Some v) (λ z. omega (arith, m, z))) x.held;
           sums = λ q m. one x.state.v d v q m x.sums (cases_eq q n);

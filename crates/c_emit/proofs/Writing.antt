@@ -321,7 +321,7 @@ module _ (f : FunctionValue) (call : Call) (mem : Memory) (kept : is_function f 
         let w = write_operand made s1 e (d + 1) v.0 (size_of_result insn.op 0 * insn.prefix) (first_of f.vars insn) x m.0 (omega arith) both_rooms.0 gives sized.0 small g1 u.0 u.1 in
         let kept_last : w.state.v d ≡ Some v.1 = w.other d (omega arith) (λ z. omega (arith, z)) ∙ change_same s.v d (Some v.1) in
         let z = write_operand (λ q. made q || is_place q x) w.state u.0 (d + 1) v.1 (size_of_result insn.op 1 * insn.prefix) (V d) y (both (is_in_range f.vars y) true m.1).0 (omega arith) both_rooms.1 (v_gives call t w.state d v.1 kept_last) sized.1.0 second_small w.agrees e1 u.2 in
-        record { state = z.state; does = does_both one (does_both w.does z.does); agrees = agrees_less (λ q. made q || (is_place q x || (is_place q y || false))) (λ q k h. or_assoc (made q) (is_place q x) (is_place q y) h) z.agrees }
+        record { state = z.state; does = does_both {e = s1} {g = z.state} one (does_both {e = w.state} {g = z.state} w.does z.does); agrees = agrees_less (λ q. made q || (is_place q x || (is_place q y || false))) (λ q k h. or_assoc (made q) (is_place q x) (is_place q y) h) z.agrees }
     writes_do s (x ∷ y ∷ z ∷ more) l two n sized room g held sums h = absurd (omega (arith, l))
 
   -- ---- one instruction
@@ -349,7 +349,7 @@ module _ (f : FunctionValue) (call : Call) (mem : Memory) (kept : is_function f 
       let w = writes_do earlier insn ok e e1 x.0.0 x.0.1 x.1 n.state insn.results.items ok.few ok.second ok.results ok.sizes later.1 n.agrees n.held summed x.2 in
       record {
         state = w.state;
-        does = does_both m.does (does_both n.does w.does);
+        does = does_both {e = m.state} {g = w.state} m.does (does_both {e = n.state} {g = w.state} n.does w.does);
         agrees = agrees_less (λ p. is_set (earlier ++ insn ∷ []) p) (λ p k h. set_more earlier insn p (sym (list_any-append (λ (insn : Insn). list_any (is_place p) insn.results.items) earlier (insn ∷ [])) ∙ h)) w.agrees;
       }
 

@@ -541,9 +541,9 @@ fn add_writes(
             add_write(alloc, f, to, d, *x, first)
         }
         [x, y, ..] => {
-            let first = packed_first(alloc, f, insn)?;
             let second = packed_second(alloc, f, insn)?;
             to.push(CStmt::SetV(d, second))?;
+            let first = packed_first(alloc, f, insn)?;
             add_write(alloc, f, to, d + 1, *x, first)?;
             add_write(alloc, f, to, d + 1, *y, CExpr::V(d))
         }

@@ -94,6 +94,15 @@ pub fn low(alloc: Global, t: u32, e: CExpr) -> Result<CExpr, AllocError>
     }
 }
 
+/// The low bits of an operator on two expressions.
+pub fn low_two(alloc: Global, t: u32, op: COp, a: CExpr, b: CExpr) -> Result<CExpr, AllocError>
+    requires { t ≤ 64 }
+    ensures { IfOk result (λ r. r ≡ expressions.low t (CExpr.Two op a b)) }
+{
+    let whole = two(alloc, op, a, b)?;
+    low(alloc, t, whole)
+}
+
 /// An expression shifted up.
 pub fn up(alloc: Global, e: CExpr, n: u64) -> Result<CExpr, AllocError>
     ensures { IfOk result (λ r. r ≡ expressions.up e n) }
@@ -142,18 +151,21 @@ pub fn plus(alloc: Global, e: CExpr, n: u64) -> Result<CExpr, AllocError>
     two(alloc, COp::Add, e, number(n))
 }
 
-/// The test that the first is less than the second.
-pub fn less(alloc: Global, a: CExpr, b: CExpr) -> Result<CExpr, AllocError>
-    ensures { IfOk result (λ r. r ≡ expressions.less a b) }
+/// The test that the first is less than the second, of which copies are taken.
+pub fn less_of(alloc: Global, a: &CExpr, b: &CExpr) -> Result<CExpr, AllocError>
+    ensures { IfOk result (λ r. r ≡ expressions.less a.now b.now) }
 {
-    test(alloc, CCmp::Less, a, b)
+    let first = copy(alloc, a)?;
+    let second = copy(alloc, b)?;
+    test(alloc, CCmp::Less, first, second)
 }
 
-/// The test that two are equal.
-pub fn equal(alloc: Global, a: CExpr, b: CExpr) -> Result<CExpr, AllocError>
-    ensures { IfOk result (λ r. r ≡ CExpr.Test Equal a b) }
+/// The test that an expression, of which a copy is taken, is 0.
+pub fn is_zero(alloc: Global, e: &CExpr) -> Result<CExpr, AllocError>
+    ensures { IfOk result (λ r. r ≡ CExpr.Test Equal e.now (CExpr.Number 0)) }
 {
-    test(alloc, CCmp::Equal, a, b)
+    let tested = copy(alloc, e)?;
+    test(alloc, CCmp::Equal, tested, number(0))
 }
 
 /// One expression where the first of two is less than the second, and else another.
@@ -166,7 +178,7 @@ pub fn choose_less(
 ) -> Result<CExpr, AllocError>
     ensures { IfOk result (λ r. r ≡ CExpr.Choose (expressions.less a b) yes no) }
 {
-    let c = less(alloc, a, b)?;
+    let c = test(alloc, CCmp::Less, a, b)?;
     choose(alloc, c, yes, no)
 }
 
@@ -182,10 +194,23 @@ pub fn at_most(alloc: Global, n: u64, e: CExpr) -> Result<CExpr, AllocError>
 pub fn without(alloc: Global, a: CExpr, b: CExpr) -> Result<CExpr, AllocError>
     ensures { IfOk result (λ r. r ≡ expressions.without a b) }
 {
-    let first = copy(alloc, &a)?;
-    let second = copy(alloc, &b)?;
+    let is_less = less_of(alloc, &a, &b)?;
     let rest = two(alloc, COp::Sub, a, b)?;
-    choose_less(alloc, first, second, number(0), rest)
+    choose(alloc, is_less, number(0), rest)
+}
+
+/// The low bits of an expression, of which copies are taken, or the greatest signed number where it is past that and k.
+fn clamped_above(alloc: Global, t: u32, k: u64, e: &CExpr) -> Result<CExpr, AllocError>
+    requires width { IsWidth t }
+    requires greatest { k + expressions.half t < 2 ^ 64 }
+    ensures { IfOk result (λ r. r ≡
+        CExpr.Choose (expressions.less (CExpr.Number (k + expressions.half t - 1)) e.now) (CExpr.Number (expressions.half t - 1)) (expressions.low t e.now)) }
+{
+    let kept = copy(alloc, e)?;
+    let rest = low(alloc, t, kept)?;
+    let tested = copy(alloc, e)?;
+    let greatest = number(k + half(t) - 1);
+    choose_less(alloc, greatest, tested, number(half(t) - 1), rest)
 }
 
 /// The number of t bits of an expression less k as a signed one: the least or the greatest where that is past them.
@@ -195,12 +220,8 @@ pub fn clamped(alloc: Global, t: u32, k: u64, e: CExpr) -> Result<CExpr, AllocEr
     requires greatest { k + expressions.half t < 2 ^ 64 }
     ensures { IfOk result (λ r. r ≡ expressions.clamped t k e) }
 {
-    let first = copy(alloc, &e)?;
-    let second = copy(alloc, &e)?;
-    let rest = low(alloc, t, e)?;
-    let greatest = number(k + half(t) - 1);
-    let upper = choose_less(alloc, greatest, second, number(half(t) - 1), rest)?;
-    choose_less(alloc, first, number(k - half(t)), number(half(t)), upper)
+    let upper = clamped_above(alloc, t, k, &e)?;
+    choose_less(alloc, e, number(k - half(t)), number(half(t)), upper)
 }
 
 /// All ones where a test holds, else 0.

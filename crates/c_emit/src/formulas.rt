@@ -9,10 +9,11 @@ ghost use Rattle.c_emit.specs.Expressions as expressions;
 ghost use Rattle.c_emit.specs.Expressions.{first, fits};
 
 use crate::build::{
-    at_most, choose, choose_less, clamped, copy, down, equal, few, half, half_down, if_below, less,
-    low, mask_if, number, ones, plus, swapped, turned, two, up, wide, without,
+    at_most, choose, choose_less, clamped, copy, down, few, half, half_down, if_below, is_zero,
+    less_of, low, low_two, mask_if, number, ones, plus, swapped, test, turned, two, up, wide,
+    without,
 };
-use c_run::{CExpr, COp};
+use c_run::{CCmp, CExpr, COp};
 use orc_ops::Stem;
 use std::alloc::{AllocError, Global};
 
@@ -59,41 +60,17 @@ fn less_signed(alloc: Global, w: u32, x: CExpr, y: CExpr) -> Result<CExpr, Alloc
 {
     let first = turned(alloc, w, x)?;
     let second = turned(alloc, w, y)?;
-    less(alloc, first, second)
+    test(alloc, CCmp::Less, first, second)
 }
 
-/// A sum.
-fn add(alloc: Global, t: u32, x: CExpr, y: CExpr) -> Result<CExpr, AllocError>
-    requires { IsWidth t }
-    ensures { IfOk result (λ e. e ≡ first stem.Add t t x y) }
+/// The same test on copies.
+fn less_signed_of(alloc: Global, w: u32, x: &CExpr, y: &CExpr) -> Result<CExpr, AllocError>
+    requires { IsWidth w }
+    ensures { IfOk result (λ r. r ≡ expressions.less (expressions.turned w x.now) (expressions.turned w y.now)) }
 {
-    let sum = two(alloc, COp::Add, x, y)?;
-    low(alloc, t, sum)
-}
-
-/// A difference.
-fn sub(alloc: Global, t: u32, x: CExpr, y: CExpr) -> Result<CExpr, AllocError>
-    requires { IsWidth t }
-    ensures { IfOk result (λ e. e ≡ first stem.Sub t t x y) }
-{
-    let rest = two(alloc, COp::Sub, x, y)?;
-    low(alloc, t, rest)
-}
-
-/// A difference, or 0.
-fn subus(alloc: Global, x: CExpr, y: CExpr) -> Result<CExpr, AllocError>
-    ensures { IfOk result (λ e. e ≡ first stem.Subus 0 0 x y) }
-{
-    without(alloc, x, y)
-}
-
-/// The low half of a product.
-fn mull(alloc: Global, t: u32, x: CExpr, y: CExpr) -> Result<CExpr, AllocError>
-    requires { IsWidth t }
-    ensures { IfOk result (λ e. e ≡ first stem.Mull t t x y) }
-{
-    let product = two(alloc, COp::Mul, x, y)?;
-    low(alloc, t, product)
+    let first = copy(alloc, x)?;
+    let second = copy(alloc, y)?;
+    less_signed(alloc, w, first, second)
 }
 
 /// The high half of a product of signed numbers.
@@ -126,13 +103,6 @@ fn muls(alloc: Global, w: u32, t: u32, x: CExpr, y: CExpr) -> Result<CExpr, Allo
     low(alloc, t, product)
 }
 
-/// A product.
-fn mulu(alloc: Global, x: CExpr, y: CExpr) -> Result<CExpr, AllocError>
-    ensures { IfOk result (λ e. e ≡ first stem.Mulu 0 0 x y) }
-{
-    two(alloc, COp::Mul, x, y)
-}
-
 /// Half of a sum of signed numbers and 1.
 fn avgs(alloc: Global, w: u32, t: u32, x: CExpr, y: CExpr) -> Result<CExpr, AllocError>
     requires width { IsWidth w }
@@ -143,13 +113,6 @@ fn avgs(alloc: Global, w: u32, t: u32, x: CExpr, y: CExpr) -> Result<CExpr, Allo
     let second = turned(alloc, w, y)?;
     let mean = average(alloc, first, second)?;
     turned(alloc, t, mean)
-}
-
-/// Half of a sum and 1.
-fn avgu(alloc: Global, x: CExpr, y: CExpr) -> Result<CExpr, AllocError>
-    ensures { IfOk result (λ e. e ≡ first stem.Avgu 0 0 x y) }
-{
-    average(alloc, x, y)
 }
 
 /// The distance between two numbers.
@@ -167,10 +130,10 @@ fn abs(alloc: Global, w: u32, x: CExpr) -> Result<CExpr, AllocError>
     requires takes { w ≤ 32 }
     ensures { IfOk result (λ e. e ≡ first stem.Abs w w x x) }
 {
-    let tested = copy(alloc, &x)?;
+    let taken = copy(alloc, &x)?;
+    let opposite = two(alloc, COp::Sub, number(whole(w)), taken)?;
     let kept = copy(alloc, &x)?;
-    let opposite = two(alloc, COp::Sub, number(whole(w)), x)?;
-    choose_less(alloc, tested, number(half(w)), kept, opposite)
+    choose_less(alloc, x, number(half(w)), kept, opposite)
 }
 
 /// The sign: -1, 0 or 1.
@@ -179,24 +142,9 @@ fn sign(alloc: Global, w: u32, t: u32, x: CExpr) -> Result<CExpr, AllocError>
     requires to { IsWidth t }
     ensures { IfOk result (λ e. e ≡ first stem.Sign w t x x) }
 {
-    let tested = copy(alloc, &x)?;
-    let is_zero = equal(alloc, tested, number(0))?;
+    let is_zero = is_zero(alloc, &x)?;
     let sign = choose_less(alloc, x, number(half(w)), number(1), number(ones(t)))?;
     choose(alloc, is_zero, number(0), sign)
-}
-
-/// The number itself.
-fn same(alloc: Global, x: CExpr) -> Result<CExpr, AllocError>
-    ensures { IfOk result (λ e. e ≡ first stem.Copy 0 0 x x) }
-{
-    Ok(x)
-}
-
-/// The bits that both have.
-fn and(alloc: Global, x: CExpr, y: CExpr) -> Result<CExpr, AllocError>
-    ensures { IfOk result (λ e. e ≡ first stem.And 0 0 x y) }
-{
-    two(alloc, COp::And, x, y)
 }
 
 /// The bits that the second alone has.
@@ -208,27 +156,13 @@ fn andn(alloc: Global, w: u32, x: CExpr, y: CExpr) -> Result<CExpr, AllocError>
     two(alloc, COp::And, turned_over, y)
 }
 
-/// The bits that one has.
-fn or(alloc: Global, x: CExpr, y: CExpr) -> Result<CExpr, AllocError>
-    ensures { IfOk result (λ e. e ≡ first stem.Or 0 0 x y) }
-{
-    two(alloc, COp::Or, x, y)
-}
-
-/// The bits in which they differ.
-fn xor(alloc: Global, x: CExpr, y: CExpr) -> Result<CExpr, AllocError>
-    ensures { IfOk result (λ e. e ≡ first stem.Xor 0 0 x y) }
-{
-    two(alloc, COp::Xor, x, y)
-}
-
 /// All ones where they are equal.
 fn cmpeq(alloc: Global, t: u32, x: CExpr, y: CExpr) -> Result<CExpr, AllocError>
     requires { IsWidth t }
     ensures { IfOk result (λ e. e ≡ first stem.Cmpeq t t x y) }
 {
-    let test = equal(alloc, x, y)?;
-    mask_if(alloc, t, test)
+    let are_equal = test(alloc, CCmp::Equal, x, y)?;
+    mask_if(alloc, t, are_equal)
 }
 
 /// All ones where the first is greater as a signed number.
@@ -237,8 +171,8 @@ fn cmpgts(alloc: Global, w: u32, t: u32, x: CExpr, y: CExpr) -> Result<CExpr, Al
     requires to { IsWidth t }
     ensures { IfOk result (λ e. e ≡ first stem.Cmpgts w t x y) }
 {
-    let test = less_signed(alloc, w, y, x)?;
-    mask_if(alloc, t, test)
+    let is_less = less_signed(alloc, w, y, x)?;
+    mask_if(alloc, t, is_less)
 }
 
 /// The greater signed number.
@@ -246,10 +180,8 @@ fn maxs(alloc: Global, w: u32, x: CExpr, y: CExpr) -> Result<CExpr, AllocError>
     requires { IsWidth w }
     ensures { IfOk result (λ e. e ≡ first stem.Maxs w w x y) }
 {
-    let first = copy(alloc, &x)?;
-    let second = copy(alloc, &y)?;
-    let test = less_signed(alloc, w, first, second)?;
-    choose(alloc, test, y, x)
+    let is_less = less_signed_of(alloc, w, &x, &y)?;
+    choose(alloc, is_less, y, x)
 }
 
 /// The lesser signed number.
@@ -257,28 +189,24 @@ fn mins(alloc: Global, w: u32, x: CExpr, y: CExpr) -> Result<CExpr, AllocError>
     requires { IsWidth w }
     ensures { IfOk result (λ e. e ≡ first stem.Mins w w x y) }
 {
-    let first = copy(alloc, &x)?;
-    let second = copy(alloc, &y)?;
-    let test = less_signed(alloc, w, second, first)?;
-    choose(alloc, test, y, x)
+    let is_less = less_signed_of(alloc, w, &y, &x)?;
+    choose(alloc, is_less, y, x)
 }
 
 /// The greater number.
 fn maxu(alloc: Global, x: CExpr, y: CExpr) -> Result<CExpr, AllocError>
     ensures { IfOk result (λ e. e ≡ first stem.Maxu 0 0 x y) }
 {
-    let first = copy(alloc, &x)?;
-    let second = copy(alloc, &y)?;
-    choose_less(alloc, first, second, y, x)
+    let is_less = less_of(alloc, &x, &y)?;
+    choose(alloc, is_less, y, x)
 }
 
 /// The lesser number.
 fn minu(alloc: Global, x: CExpr, y: CExpr) -> Result<CExpr, AllocError>
     ensures { IfOk result (λ e. e ≡ first stem.Minu 0 0 x y) }
 {
-    let first = copy(alloc, &x)?;
-    let second = copy(alloc, &y)?;
-    choose_less(alloc, second, first, y, x)
+    let is_less = less_of(alloc, &y, &x)?;
+    choose(alloc, is_less, y, x)
 }
 
 /// A shift up.
@@ -288,9 +216,21 @@ fn shl(alloc: Global, w: u32, t: u32, x: CExpr, y: CExpr) -> Result<CExpr, Alloc
     ensures { IfOk result (λ e. e ≡ first stem.Shl w t x y) }
 {
     let count = copy(alloc, &y)?;
-    let moved = two(alloc, COp::Shl, x, y)?;
-    let rest = low(alloc, t, moved)?;
+    let rest = low_two(alloc, t, COp::Shl, x, y)?;
     if_below(alloc, w, count, rest)
+}
+
+/// A shift down of a signed number by a count of which copies are taken.
+fn shrs_by(alloc: Global, w: u32, t: u32, x: CExpr, y: &CExpr) -> Result<CExpr, AllocError>
+    requires width { IsWidth w }
+    requires to { IsWidth t }
+    ensures { IfOk result (λ e. e ≡ first stem.Shrs w t x y.now) }
+{
+    let distance = turned(alloc, w, x)?;
+    let count = few(alloc, w, y)?;
+    let moved = two(alloc, COp::Shr, distance, count)?;
+    let least = half_down(alloc, w, y)?;
+    low_two(alloc, t, COp::Sub, moved, least)
 }
 
 /// A shift down of a signed number.
@@ -299,12 +239,7 @@ fn shrs(alloc: Global, w: u32, t: u32, x: CExpr, y: CExpr) -> Result<CExpr, Allo
     requires to { IsWidth t }
     ensures { IfOk result (λ e. e ≡ first stem.Shrs w t x y) }
 {
-    let distance = turned(alloc, w, x)?;
-    let count = few(alloc, w, &y)?;
-    let least = half_down(alloc, w, &y)?;
-    let moved = two(alloc, COp::Shr, distance, count)?;
-    let rest = two(alloc, COp::Sub, moved, least)?;
-    low(alloc, t, rest)
+    shrs_by(alloc, w, t, x, &y)
 }
 
 /// A shift down.
@@ -325,22 +260,6 @@ fn convs(alloc: Global, w: u32, t: u32, x: CExpr) -> Result<CExpr, AllocError>
 {
     let value = wide(alloc, w, x)?;
     low(alloc, t, value)
-}
-
-/// The low half.
-fn low_part(alloc: Global, t: u32, x: CExpr) -> Result<CExpr, AllocError>
-    requires { IsWidth t }
-    ensures { IfOk result (λ e. e ≡ first stem.Low t t x x) }
-{
-    low(alloc, t, x)
-}
-
-/// The high half.
-fn high_part(alloc: Global, t: u32, x: CExpr) -> Result<CExpr, AllocError>
-    requires { IsWidth t }
-    ensures { IfOk result (λ e. e ≡ first stem.High t t x x) }
-{
-    down(alloc, x, u64::from(t))
 }
 
 /// A signed number clamped to the unsigned range.
@@ -393,14 +312,6 @@ fn merge(alloc: Global, w: u32, x: CExpr, y: CExpr) -> Result<CExpr, AllocError>
 {
     let high = up(alloc, y, u64::from(w))?;
     two(alloc, COp::Add, x, high)
-}
-
-/// The high half.
-fn split(alloc: Global, t: u32, x: CExpr) -> Result<CExpr, AllocError>
-    requires { IsWidth t }
-    ensures { IfOk result (λ e. e ≡ first stem.Split t t x x) }
-{
-    down(alloc, x, u64::from(t))
 }
 
 /// The bytes in reverse order.
@@ -483,8 +394,7 @@ fn divlu_sum(alloc: Global, x: CExpr, y: CExpr) -> Result<CExpr, AllocError>
     ensures { IfOk result (λ e. e ≡ expressions.sum stem.Divlu 0 0 x y) }
 {
     let divisor = low(alloc, 8, y)?;
-    let tested = copy(alloc, &divisor)?;
-    let is_zero = equal(alloc, tested, number(0))?;
+    let is_zero = is_zero(alloc, &divisor)?;
     let quotient = two(alloc, COp::Div, x, divisor)?;
     choose(alloc, is_zero, number(255), quotient)
 }
@@ -594,27 +504,24 @@ pub fn first(
     ensures { IfOk result (λ e. e ≡ first stem w t x y) }
 {
     match stem {
-        Stem::Add => add(alloc, t, x, y),
-        Stem::Addss => by_sum(alloc, Stem::Addss, w, t, x, y),
-        Stem::Addus => by_sum(alloc, Stem::Addus, w, t, x, y),
-        Stem::Sub => sub(alloc, t, x, y),
-        Stem::Subss => by_sum(alloc, Stem::Subss, w, t, x, y),
-        Stem::Subus => subus(alloc, x, y),
-        Stem::Mull => mull(alloc, t, x, y),
+        Stem::Add => low_two(alloc, t, COp::Add, x, y),
+        Stem::Sub => low_two(alloc, t, COp::Sub, x, y),
+        Stem::Subus => without(alloc, x, y),
+        Stem::Mull => low_two(alloc, t, COp::Mul, x, y),
         Stem::Mulhs => mulhs(alloc, w, t, x, y),
         Stem::Mulhu => mulhu(alloc, w, x, y),
         Stem::Muls => muls(alloc, w, t, x, y),
-        Stem::Mulu => mulu(alloc, x, y),
+        Stem::Mulu => two(alloc, COp::Mul, x, y),
         Stem::Avgs => avgs(alloc, w, t, x, y),
-        Stem::Avgu => avgu(alloc, x, y),
+        Stem::Avgu => average(alloc, x, y),
         Stem::Accsad => accsad(alloc, x, y),
         Stem::Abs => abs(alloc, w, x),
         Stem::Sign => sign(alloc, w, t, x),
-        Stem::Copy => same(alloc, x),
-        Stem::And => and(alloc, x, y),
+        Stem::Copy => Ok(x),
+        Stem::And => two(alloc, COp::And, x, y),
         Stem::Andn => andn(alloc, w, x, y),
-        Stem::Or => or(alloc, x, y),
-        Stem::Xor => xor(alloc, x, y),
+        Stem::Or => two(alloc, COp::Or, x, y),
+        Stem::Xor => two(alloc, COp::Xor, x, y),
         Stem::Cmpeq => cmpeq(alloc, t, x, y),
         Stem::Cmpgts => cmpgts(alloc, w, t, x, y),
         Stem::Maxs => maxs(alloc, w, x, y),
@@ -625,19 +532,18 @@ pub fn first(
         Stem::Shrs => shrs(alloc, w, t, x, y),
         Stem::Shru => shru(alloc, w, x, y),
         Stem::Convs => convs(alloc, w, t, x),
-        Stem::Low => low_part(alloc, t, x),
-        Stem::High => high_part(alloc, t, x),
-        Stem::Convsss => by_sum(alloc, Stem::Convsss, w, t, x, y),
+        Stem::Low => low(alloc, t, x),
+        Stem::High => down(alloc, x, u64::from(t)),
         Stem::Convsus => convsus(alloc, w, t, x),
         Stem::Convuss => convuss(alloc, t, x),
         Stem::Convuus => convuus(alloc, t, x),
         Stem::Splat => splat(alloc, t, x),
         Stem::Splatw3 => splatw3(alloc, x),
         Stem::Merge => merge(alloc, w, x, y),
-        Stem::Split => split(alloc, t, x),
+        Stem::Split => down(alloc, x, u64::from(t)),
         Stem::Swap => swap(alloc, w, x),
         Stem::Exchange => exchange(alloc, w, x),
-        Stem::Div255 => by_sum(alloc, Stem::Div255, w, t, x, y),
-        Stem::Divlu => by_sum(alloc, Stem::Divlu, w, t, x, y),
+        // those that have a sum
+        _ => by_sum(alloc, stem, w, t, x, y),
     }
 }
