@@ -43,16 +43,20 @@ elements_size far plan count a b e (suc n) =
 row_size : (width a : ℕ) → IsWidth width → length (row_code width a) ≤ 2
 row_size width a is = each_width (λ w. length (row_code w a) ≤ 2) (omega arith) (omega arith) (omega arith) (omega arith) (omega arith) width is
 
+-- six instructions of the weight are never needed: an offset load has at most ten
+pub gather_length : (far : Far) (count : ℕ) (plan : FarPlan) → IsWidth (count * far_size far) → length (gather_code far count plan) + 6 ≤ far_weight far count
+gather_length Loadoffb count plan is = omega (arith, row_size (count * 1) (scratch plan 0) is)
+gather_length Loadoffw count plan is = omega (arith, row_size (count * 2) (scratch plan 0) is)
+gather_length Loadoffl count plan is = omega (arith, row_size (count * 4) (scratch plan 0) is)
+gather_length Loadupdb count plan is = omega (arith, elements_size Loadupdb plan count (scratch plan 0) (scratch plan 1) (scratch plan 2) count)
+gather_length Loadupib count plan is = omega (arith, elements_size Loadupib plan count (scratch plan 0) (scratch plan 1) (scratch plan 2) count)
+gather_length Ldresnearb count plan is = omega (arith, elements_size Ldresnearb plan count (scratch plan 0) (scratch plan 1) (scratch plan 2) count)
+gather_length Ldresnearl count plan is = omega (arith, elements_size Ldresnearl plan count (scratch plan 0) (scratch plan 1) (scratch plan 2) count)
+gather_length Ldreslinb count plan is = omega (arith, elements_size Ldreslinb plan count (scratch plan 0) (scratch plan 1) (scratch plan 2) count)
+gather_length Ldreslinl count plan is = omega (arith, elements_size Ldreslinl plan count (scratch plan 0) (scratch plan 1) (scratch plan 2) count)
+
 pub gather_short : (far : Far) (count : ℕ) (plan : FarPlan) → IsWidth (count * far_size far) → length (gather_code far count plan) ≤ far_weight far count
-gather_short Loadoffb count plan is = omega (arith, row_size (count * 1) (scratch plan 0) is)
-gather_short Loadoffw count plan is = omega (arith, row_size (count * 2) (scratch plan 0) is)
-gather_short Loadoffl count plan is = omega (arith, row_size (count * 4) (scratch plan 0) is)
-gather_short Loadupdb count plan is = omega (arith, elements_size Loadupdb plan count (scratch plan 0) (scratch plan 1) (scratch plan 2) count)
-gather_short Loadupib count plan is = omega (arith, elements_size Loadupib plan count (scratch plan 0) (scratch plan 1) (scratch plan 2) count)
-gather_short Ldresnearb count plan is = omega (arith, elements_size Ldresnearb plan count (scratch plan 0) (scratch plan 1) (scratch plan 2) count)
-gather_short Ldresnearl count plan is = omega (arith, elements_size Ldresnearl plan count (scratch plan 0) (scratch plan 1) (scratch plan 2) count)
-gather_short Ldreslinb count plan is = omega (arith, elements_size Ldreslinb plan count (scratch plan 0) (scratch plan 1) (scratch plan 2) count)
-gather_short Ldreslinl count plan is = omega (arith, elements_size Ldreslinl plan count (scratch plan 0) (scratch plan 1) (scratch plan 2) count)
+gather_short far count plan is = omega (arith, gather_length far count plan is)
 
 -- at most 16 bytes
 pub room_of : (width : ℕ) → IsWidth width → width ≤ 16

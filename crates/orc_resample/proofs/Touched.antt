@@ -14,7 +14,7 @@ use Rattle.orc_resample.specs.declared.turn.FarSource.{FarSource}
 use Rattle.orc_resample.specs.Code.{element_of, elements_code, row_code, gather_with, plan_of, enter_code, leave_code, bring_code}
 use Rattle.orc_resample.specs.Ready.{is_pointer, far_count}
 use Rattle.orc_resample.specs.Bring.{is_array, array_count, is_vector_store}
-use Rattle.orc_resample.proofs.Counted.{both, all_spelled, spelled_append, allowed, gather_short, gather_far, gather_spelled}
+use Rattle.orc_resample.proofs.Counted.{both, all_spelled, spelled_append, allowed, gather_length, gather_far, gather_spelled}
 
 -- ---- the values' part reads by RSP and RAX alone
 
@@ -95,10 +95,10 @@ bring_touches source count is =
     let behind : array_count (list ++ leave_code source) ≡ array_count list + 0 = array_append list (leave_code source) in
     omega (arith, some, same, front, behind)
 
-pub bring_short : (source : FarSource) (count : ℕ) → IsWidth (count * far_size source.far) → length (bring_code source count) ≤ far_weight source.far count + 7
+pub bring_short : (source : FarSource) (count : ℕ) → IsWidth (count * far_size source.far) → length (bring_code source count) ≤ far_weight source.far count + 1
 bring_short source count is =
     let list = gather_with source.far (plan_of source) count 0 1 7 in
-    let some : length list ≤ far_weight source.far count = gather_short source.far count (plan_of source) is in
+    let some : length list + 6 ≤ far_weight source.far count = gather_length source.far count (plan_of source) is in
     let front : length (enter_code source ++ (list ++ leave_code source)) ≡ 5 + length (list ++ leave_code source) = omega arith in
     let behind : length (list ++ leave_code source) ≡ length list + 2 = length-append list (leave_code source) in
     omega (arith, some, front, behind)

@@ -180,7 +180,7 @@ pub fn bring(alloc: Global, source: &FarSource, count: u8) -> Result<InsList, Al
     requires source { IsFarSource source.now }
     requires width { IsWidth (count * far_size source.now.far) }
     ensures values { IfOk result (λ list. Brings count source.now list) }
-    ensures short { IfOk result (λ list. length list ≤ far_weight source.now.far count + 7) }
+    ensures short { IfOk result (λ list. length list ≤ far_weight source.now.far count + 1) }
 
     // By a register that is neither RSP nor RDI.
     ensures touches { IfOk result (λ list. array_count list ≤ 2 * count) }

@@ -15,7 +15,7 @@ returns-clause-values c =
     c.bring_list.ensures.list c.bring_list.ensures.ranges
 
 pub returns-clause-short : goal.returns-clause-short
-returns-clause-short c = ok_map c.bring_list.result _ _ (λ list e. subst (λ l. length l ≤ far_weight c.args.source.now.far c.args.count + 7) (sym e) (bring_short c.args.source.now c.args.count c.requires.width)) c.bring_list.ensures.list
+returns-clause-short c = ok_map c.bring_list.result _ _ (λ list e. subst (λ l. length l ≤ far_weight c.args.source.now.far c.args.count + 1) (sym e) (bring_short c.args.source.now c.args.count c.requires.width)) c.bring_list.ensures.list
 
 pub returns-clause-touches : goal.returns-clause-touches
 returns-clause-touches c = ok_map c.bring_list.result _ _ (λ list e. subst (λ l. array_count l ≤ 2 * c.args.count) (sym e) (bring_touches c.args.source.now c.args.count c.requires.width)) c.bring_list.ensures.list
