@@ -6,7 +6,7 @@ use Rattle.x86_ins.specs.declared.ins.AluOp.TheVariants.{Add, Sub}
 use Rattle.x86_ins.specs.declared.ins.Ins.{Ins}
 use Rattle.x86_ins.specs.declared.ins.Ins.TheVariants.{AluImm, Vec, VecLoad, VecStore}
 use Rattle.x86_ins.specs.declared.ins.MoveOp.TheVariants.{Movdqu}
-use Rattle.x86_ins.specs.declared.ins.VecOp.TheVariants.{Movdqa}
+use Rattle.x86_ins.specs.declared.ins.VecOp.TheVariants.{Movdqa, Pxor}
 use Rattle.x86_ins.specs.Renaming.{renamed, renaming}
 use Rattle.x86_ins.specs.Spelling.{IsIns}
 use Rattle.x86_ins.specs.Way.{Each}
@@ -442,21 +442,29 @@ plan_with f actions = record {
 
 -- ---- around the rows of a call
 
--- a resident goes to its register from 16 bytes of the frame, and back
-abbrev pub resident_load_code : List ℕ → ℕ → Addr → List Ins
-resident_load_code at g from = if is_resident (last_place at) g then VecLoad Movdqu (resident_register g) from ∷ [] else []
+-- a resident that stands in its register is brought there by an instruction, and a running sum goes back to 16 bytes of the frame
+abbrev pub resident_code : List ℕ → ℕ → Ins → List Ins
+resident_code at g begins = if is_resident (last_place at) g then begins ∷ [] else []
 
 abbrev pub sum_store_code : List ℕ → ℕ → List Ins
 sum_store_code at g = if is_resident (last_place at) g then VecStore Movdqu (resident_register g) (away 4 (sum_slot g)) ∷ [] else []
 
--- so many residents with these numbers, each from its slot
-abbrev pub loads_code : List ℕ → (ℕ → ℕ) → (ℕ → ℕ) → ℕ → List Ins
-loads_code at number slot zero = []
-loads_code at number slot (suc n) = loads_code at number slot n ++ resident_load_code at (number n) (away 4 (slot n))
+-- so many residents with these numbers, each by its instruction
+abbrev pub residents_code : List ℕ → (ℕ → ℕ) → (ℕ → Ins) → ℕ → List Ins
+residents_code at number begins zero = []
+residents_code at number begins (suc n) = residents_code at number begins n ++ resident_code at (number n) (begins n)
 
--- the running sums and the patterns that stand in registers go there from their slots, and sums go back
+-- a running sum's register becomes 0
+abbrev pub cleared : ℕ → Ins
+cleared g = Vec Pxor (resident_register g) (resident_register g)
+
+-- pattern j, behind so many running sums, is loaded from its slot
+abbrev pub loaded : ℕ → ℕ → Ins
+loaded sums j = VecLoad Movdqu (resident_register (sums + j)) (away 4 (pattern_slot j))
+
+-- the running sums that stand in registers begin at 0, and the patterns that do go there from their slots
 abbrev pub resident_loads_code : List ℕ → ℕ → ℕ → List Ins
-resident_loads_code at sums patterns = loads_code at (λ g. g) sum_slot sums ++ loads_code at (λ j. sums + j) pattern_slot patterns
+resident_loads_code at sums patterns = residents_code at (λ g. g) cleared sums ++ residents_code at (λ j. sums + j) (loaded sums) patterns
 
 abbrev pub sum_stores_code : List ℕ → ℕ → List Ins
 sum_stores_code at zero = []

@@ -1,18 +1,20 @@
 //! Residents: running sums and patterns that stand in registers through all rows.
 
 ghost use Rattle.std.specs.Prelude.{◌≡◌, ◌<◌, ◌≤◌, ◌+◌, ◌++◌, IfOk, OnOk, length, max, true};
+ghost use Rattle.x86_ins.specs.declared.ins.Ins.TheVariants.{VecLoad};
+ghost use Rattle.x86_ins.specs.declared.ins.MoveOp.TheVariants.{Movdqu};
 ghost use Rattle.x86_flow.specs.Moves.{away};
 ghost use Rattle.orc_frame.specs.Frame.{IsLayout};
 ghost use Rattle.orc_frame.specs.Layout.{sum_slot, pattern_slot};
 ghost use Rattle.orc_program.specs.Need.{registers};
-ghost use Rattle.orc_region.specs.Code.{last_place, is_resident, resident_register, resident_load_code, loads_code, resident_loads_code, sum_store_code, sum_stores_code, seats_in, seats_with};
+ghost use Rattle.orc_region.specs.Code.{last_place, is_resident, resident_register, resident_code, residents_code, cleared, loaded, resident_loads_code, sum_store_code, sum_stores_code, seats_in, seats_with};
 
 use crate::homes::REGISTERS;
 use orc_frame::{Layout, STACK, pattern_at, sum_at};
 use orc_plan::Placed;
 use orc_program::Pattern;
 use std::alloc::{AllocError, Global};
-use x86_ins::{Addr, Ins, InsList, MoveOp, Xmm};
+use x86_ins::{Addr, Ins, InsList, MoveOp, VecOp, Xmm};
 
 /// Where values stand, and patterns.
 #[derive(Clone, Copy)]
@@ -103,9 +105,23 @@ pub fn seats_by<'t>(places: &'t [u8], layout: &'t Layout) -> Seats<'t>
     }
 }
 
-/// Adds what loads a resident that stands in its register.
+/// Adds what clears the register of a running sum that stands in one.
+fn push_clear(list: &mut InsList, at: &[u8], number: u16) -> Result<(), AllocError>
+    ensures { OnOk result (list.new ≡ list.old ++ resident_code at.now number (cleared number)) }
+{
+    if !is_resident(at, number) {
+        return Ok(());
+    }
+    list.push(Ins::Vec {
+        op: VecOp::Pxor,
+        dst: resident_register(number),
+        src: resident_register(number),
+    })
+}
+
+/// Adds what loads a pattern that stands in a register.
 fn push_load(list: &mut InsList, at: &[u8], number: u16, from: Addr) -> Result<(), AllocError>
-    ensures { OnOk result (list.new ≡ list.old ++ resident_load_code at.now number from) }
+    ensures { OnOk result (list.new ≡ list.old ++ resident_code at.now number (VecLoad Movdqu (resident_register number) from)) }
 {
     if !is_resident(at, number) {
         return Ok(());
@@ -134,13 +150,13 @@ fn push_store(list: &mut InsList, at: &[u8], layout: &Layout, sum: usize) -> Res
     })
 }
 
-/// Adds what loads the running sums that stand in registers.
+/// Adds what clears the registers of the running sums that stand in one.
 fn push_sums(list: &mut InsList, at: &[u8], layout: &Layout) -> Result<(), AllocError>
     requires { IsLayout layout.now }
-    ensures { OnOk result (list.new ≡ list.old ++ loads_code at.now (λ g. g) sum_slot (length layout.now.acc_sizes.items)) }
+    ensures { OnOk result (list.new ≡ list.old ++ residents_code at.now (λ g. g) cleared (length layout.now.acc_sizes.items)) }
 {
     for sum in 0..layout.acc_sizes.len() {
-        push_load(list, at, sum as u16, slot_of_sum(layout, sum))?;
+        push_clear(list, at, sum as u16)?;
     }
     Ok(())
 }
@@ -148,7 +164,8 @@ fn push_sums(list: &mut InsList, at: &[u8], layout: &Layout) -> Result<(), Alloc
 /// Adds what loads the patterns that stand in registers.
 fn push_patterns(list: &mut InsList, at: &[u8], layout: &Layout) -> Result<(), AllocError>
     requires { IsLayout layout.now }
-    ensures { OnOk result (list.new ≡ list.old ++ loads_code at.now (λ j. length layout.now.acc_sizes.items + j) pattern_slot (length layout.now.patterns.items)) }
+    ensures { OnOk result (list.new ≡ list.old ++
+        residents_code at.now (λ j. length layout.now.acc_sizes.items + j) (loaded (length layout.now.acc_sizes.items)) (length layout.now.patterns.items)) }
 {
     let sums = layout.acc_sizes.len() as u8;
     for pattern in 0..layout.patterns.len() {
@@ -158,7 +175,7 @@ fn push_patterns(list: &mut InsList, at: &[u8], layout: &Layout) -> Result<(), A
     Ok(())
 }
 
-/// Loads the running sums and the patterns that stand in registers from their slots of the frame.
+/// Clears the running sums that stand in registers, and loads the patterns that do from their slots of the frame.
 pub fn resident_loads(alloc: Global, p: &Placed, l: &Layout) -> Result<InsList, AllocError>
     requires { IsLayout l.now }
     ensures { IfOk result (λ list. list ≡ resident_loads_code p.now.places (length l.now.acc_sizes.items) (length l.now.patterns.items)) }

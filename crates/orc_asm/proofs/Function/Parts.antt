@@ -226,7 +226,7 @@ module _ {target : Target} (f : FunctionValue) (is : is_function f ≡ true) (at
         let zero_sums : (g : ℕ) → g < count → (b : ℕ) → b < 16 → c.memory (lowered + sum_slot g + b) ≡ Some 0 = λ g l b lb. ap (λ a. c.memory (a + sum_slot g + b)) (sym stack) ∙ h.sums g l b lb in
         let there = first_patterns c stack h in
         let filled : (j : ℕ) → j < patterns → (b : ℕ) → b < 16 → c.memory (lowered + pattern_slot j + b) ≡ Some (byte j b) = λ j l b lb. there j (omega (arith, l, patterns_same)) b lb in
-        let y = loads_line at Q lowered frame_room c stack (λ u i gs ms t. frame_step c u i stack (λ a nc nf. outside a nf) gs (λ a nf. ap (λ m. m a) ms) t) count (λ g b. 0) few_sums zero_sums patterns byte few_patterns filled in
+        let y = loads_line at Q lowered frame_room c stack (λ u i gs ms t. frame_step c u i stack (λ a nc nf. outside a nf) gs (λ a nf. ap (λ m. m a) ms) t) count few_sums zero_sums patterns byte few_patterns filled in
         let d = y.0 in
         let w = y.2 in
         let gpr : (r : ℕ) → d.gpr r ≡ c.gpr r = λ r. ap (λ g. g r) w.gpr in

@@ -6,9 +6,13 @@ use Rattle.std.proofs.Math.Nat.{add-mod-mod}
 use Rattle.orc_bits.specs.Numbers.{cut}
 use Rattle.orc_bits.specs.Lanes.{lane, from_bytes, AreBytes, change}
 use Rattle.orc_bits.specs.Memory.{IsMapped, read, fill}
-use Rattle.orc_bits.proofs.LaneLaws.{lane_of_digits, lane-same, from_byte, change_other, change_same, eq_false}
+use Rattle.orc_bits.proofs.LaneLaws.{lane_of_digits, lane-same, from_byte, byte_is, change_other, change_same, eq_false}
 use Rattle.orc_bits.proofs.Memories.{read_lanes, all_there, store_there}
-use Rattle.x86_ins.specs.declared.ins.Ins.TheVariants.{VecLoad, VecStore}
+use Rattle.x86_ins.specs.declared.ins.Ins.TheVariants.{Vec, VecLoad, VecStore}
+use Rattle.x86_ins.specs.declared.ins.VecOp.TheVariants.{Pxor}
+use Rattle.x86_ins.specs.Vectors.{shape, result_of}
+use Rattle.std.specs.Prelude.{bit_xor}
+use Rattle.std.specs.Int.Bits.{xor_self}
 use Rattle.x86_ins.specs.declared.ins.MoveOp.TheVariants.{Movdqu}
 use Rattle.x86_ins.specs.Machine.{Core, with_xmm, with_memory, address, access, save, work}
 use Rattle.x86_flow.specs.Moves.{away}
@@ -52,6 +56,15 @@ load_slot c x rsp far z e low there =
         bytes = λ b l. ap (λ v. get_or v b 0) (change_same c.xmm x new) ∙ from_byte (λ j. get_or r.0 j 0) b l ∙ r.2 b l;
       },
     )
+
+-- a register becomes 0
+pub clear_register : (c : Core) (x : ℕ) → (d : Core) × (work (Vec Pxor x x) c ≡ Ok d) × Loaded x (λ b. 0) c d
+clear_register c x =
+    let v = c.xmm x in
+    let new : List ℕ = result_of (shape Pxor) v v in
+    let zero_byte : (b : ℕ) → b < 16 → get_or new b 0 ≡ 0 = λ b l.
+    byte_is 1 (λ q. bit_xor (lane 1 q v) (lane 1 q v)) b l ∙ ap (λ y. y / 256 ^ (b % 1) % 256) (xor_self (lane 1 (b / 1) v)) ∙ (let z : 0 / 256 ^ (b % 1) % 256 ≡ 0 = ap (λ k. 0 / 256 ^ k % 256) (let e : b % 1 ≡ 0 = omega arith in e) in z) in
+    (with_xmm c x new, refl, record { gpr = refl; memory = refl; others = λ y ne. change_other c.xmm x new y ne; bytes = λ b l. ap (λ y. get_or y b 0) (change_same c.xmm x new) ∙ zero_byte b l })
 
 pub store_slot : (c : Core) (x rsp far : ℕ) → c.gpr 4 ≡ rsp → rsp + far + 16 < 2 ^ 63 → ((b : ℕ) → b < 16 → IsMapped c.memory (rsp + far + b))
     → (d : Core) × (work (VecStore Movdqu x (away 4 far)) c ≡ Ok d) × (d.gpr ≡ c.gpr) × (d.xmm ≡ c.xmm) × IsFill 16 c.memory (rsp + far) (λ b. get_or (c.xmm x) b 0) d.memory

@@ -20,7 +20,7 @@ use Rattle.sse_acc.specs.Sums.{AddsUp}
 use Rattle.orc_plan.specs.declared.steps.Item.{Item}
 use Rattle.orc_plan.specs.declared.steps.Step.{Step}
 use Rattle.orc_region.specs.declared.span.Span.{Span}
-use Rattle.orc_region.specs.Code.{Action, MeetsBy, count_by, spares_second, Seats, loads_code, resident_load_code, Source, Target, AreBlocks, IsBlocksTurn, used_from, AddsRule, AddsAction, AddsNamed, is_first_taken, is_second_taken, source_names, action_names, named_code, pointer, far_by, aligned_first, source_of, target_of, first_register, second_register, third_register, exchange, rule_register, rule_code, sources_far_code, sum_code, results_far_code, action_far_code, advance_code}
+use Rattle.orc_region.specs.Code.{Action, MeetsBy, count_by, spares_second, Seats, residents_code, resident_code, Source, Target, AreBlocks, IsBlocksTurn, used_from, AddsRule, AddsAction, AddsNamed, is_first_taken, is_second_taken, source_names, action_names, named_code, pointer, far_by, aligned_first, source_of, target_of, first_register, second_register, third_register, exchange, rule_register, rule_code, sources_far_code, sum_code, results_far_code, action_far_code, advance_code}
 
 -- what follows from a fact of a success
 pub on_ok : {A E : Type 0} (r : Result A E) (P Q : Type 0) → (P → Q) → OnOk r P → OnOk r Q
@@ -43,12 +43,12 @@ advances_more base c d size count first n i p q e =
     grown base c d (advance_code size count first n) (AluImm Add (pointer (first + n)) (pos (count * size (first + n)))) p (q ∙ ap (λ x. c ++ x ∷ []) e)
     ∙ ap (λ k. base ++ advance_code size count first k) (next n)
 
--- one more load at the end of a list
-pub loads_more : (base c d : List Ins) (at : List ℕ) (number slot : ℕ → ℕ) (n g : ℕ) (from : Addr) → c ≡ base ++ loads_code at number slot n → d ≡ c ++ resident_load_code at g from → g ≡ number n → from ≡ away 4 (slot n) → d ≡ base ++ loads_code at number slot (n + 1)
-loads_more base c d at number slot n g from p q e f =
-    let load = resident_load_code at (number n) (away 4 (slot n)) in
-    let is : d ≡ c ++ load = q ∙ ap₂ (λ k a. c ++ resident_load_code at k a) e f in
-    is ∙ ap (λ l. l ++ load) p ∙ append_assoc base (loads_code at number slot n) load ∙ ap (λ k. base ++ loads_code at number slot k) (next n)
+-- one resident more at the end of a list
+pub residents_more : (base c d : List Ins) (at : List ℕ) (number : ℕ → ℕ) (begins : ℕ → Ins) (n g : ℕ) (i : Ins) → c ≡ base ++ residents_code at number begins n → d ≡ c ++ resident_code at g i → g ≡ number n → i ≡ begins n → d ≡ base ++ residents_code at number begins (n + 1)
+residents_more base c d at number begins n g i p q e f =
+    let last = resident_code at (number n) (begins n) in
+    let is : d ≡ c ++ last = q ∙ ap₂ (λ k a. c ++ resident_code at k a) e f in
+    is ∙ ap (λ l. l ++ last) p ∙ append_assoc base (residents_code at number begins n) last ∙ ap (λ k. base ++ residents_code at number begins k) (next n)
 
 -- blocks, and what moves the pointers and the counter on, make a turn; `inner` are the sizes as they are read
 pub turn_built : (Are : List Action → Type 0) (count : ℕ) (aligned : ℕ → Bool) (b : ℕ) (sizes inner : List ℕ) → inner ≡ sizes → (blocks l1 l2 l3 : List Ins) (dests sources : ℕ) → AreBlocks Are count (slice_index sizes) aligned b blocks

@@ -16,7 +16,7 @@ use Rattle.orc_program.specs.Slots.{size_of_slot}
 use Rattle.orc_frame.specs.Layout.{pattern_slot, sum_slot}
 use Rattle.sse_laws.specs.Targets.{IsCodeFor}
 use Rattle.sse_laws.proofs.Targeted.{behind_for, either_for, renamed_for}
-use Rattle.orc_region.specs.Code.{Action, Source, FromArray, FromPattern, FromResident, FromPlace, FromSlot, Target, ToArray, ToSum, ToResident, ToPlace, ToSlot, AreActions, AreBlocks, IsBlocksTurn, IsBlock, IsTurnOf, pointer, far_by, aligned_first, first_register, second_register, rule_register, rule_code, source_far_code, brought, sources_far_code, sum_code, result_far_code, results_far_code, own_names, spares_second, action_names, action_far_code, named_code, actions_far_code, advance_code, Seats, seats_of, last_place, is_resident, resident_register, resident_load_code, loads_code, resident_loads_code, sum_store_code, sum_stores_code}
+use Rattle.orc_region.specs.Code.{Action, Source, FromArray, FromPattern, FromResident, FromPlace, FromSlot, Target, ToArray, ToSum, ToResident, ToPlace, ToSlot, AreActions, AreBlocks, IsBlocksTurn, IsBlock, IsTurnOf, pointer, far_by, aligned_first, first_register, second_register, rule_register, rule_code, source_far_code, brought, sources_far_code, sum_code, result_far_code, results_far_code, own_names, spares_second, action_names, action_far_code, named_code, actions_far_code, advance_code, Seats, seats_of, last_place, is_resident, resident_register, resident_code, residents_code, cleared, loaded, resident_loads_code, sum_store_code, sum_stores_code}
 
 module _ (t : CodeTarget) where
   -- ---- one action
@@ -143,15 +143,14 @@ module _ (f : FunctionValue) (t : CodeTarget) (at : List ℕ) where
 -- ---- residents to their registers, and running sums back
 
 module _ (t : CodeTarget) (at : List ℕ) where
-  loads_for : (number slot : ℕ → ℕ) (n : ℕ) → IsCodeFor t (loads_code at number slot n)
-  loads_for number slot zero = refl
-  loads_for number slot (suc n) =
-      behind_for t (loads_code at number slot n) (resident_load_code at (number n) (away 4 (slot n))) (loads_for number slot n)
-      (either_for t (is_resident (last_place at) (number n)) (VecLoad Movdqu (resident_register (number n)) (away 4 (slot n)) ∷ []) [] refl refl)
+  residents_for : (number : ℕ → ℕ) (begins : ℕ → Ins) → ((k : ℕ) → IsCodeFor t (begins k ∷ [])) → (n : ℕ) → IsCodeFor t (residents_code at number begins n)
+  residents_for number begins h zero = refl
+  residents_for number begins h (suc n) =
+      behind_for t (residents_code at number begins n) (resident_code at (number n) (begins n)) (residents_for number begins h n) (either_for t (is_resident (last_place at) (number n)) (begins n ∷ []) [] (h n) refl)
 
   pub resident_loads_for : (sums patterns : ℕ) → IsCodeFor t (resident_loads_code at sums patterns)
   resident_loads_for sums patterns =
-      behind_for t (loads_code at (λ g. g) sum_slot sums) (loads_code at (λ j. sums + j) pattern_slot patterns) (loads_for (λ g. g) sum_slot sums) (loads_for (λ j. sums + j) pattern_slot patterns)
+      behind_for t (residents_code at (λ g. g) cleared sums) (residents_code at (λ j. sums + j) (loaded sums) patterns) (residents_for (λ g. g) cleared (λ g. refl) sums) (residents_for (λ j. sums + j) (loaded sums) (λ j. refl) patterns)
 
   pub sum_stores_for : (n : ℕ) → IsCodeFor t (sum_stores_code at n)
   sum_stores_for zero = refl
