@@ -12,7 +12,7 @@ use Rattle.orc_program.specs.Checks.{patterns_of}
 use Rattle.orc_program.specs.Facts.{facts_of}
 use Rattle.orc_program.specs.Kept.{is_function}
 use Rattle.orc_frame.specs.declared.frame.Layout.{Layout}
-use Rattle.orc_frame.specs.Layout.{frame_size, pattern_slot, sum_slot, saved_slot, row_slot, block_slot, rows_slot, left_slot, spill_slots, spill_slot, acc_sizes_of, layout_of, displacements, with_size, slots_of, LieApart}
+use Rattle.orc_frame.specs.Layout.{frame_size, pattern_slot, sum_slot, saved_slot, row_slot, block_slot, rows_slot, left_slot, index_slot, work_slot, spill_slots, spill_slot, acc_sizes_of, layout_of, displacements, with_size, slots_of, LieApart}
 use Rattle.orc_program.proofs.Places.{length-places_of}
 use Rattle.orc_frame.proofs.Places.{limits}
 
@@ -35,12 +35,12 @@ slots_apart f is =
     let m = length (acc_sizes_of f.vars) in
     let m_few : m ≤ 4 = omega (arith, length-acc_sizes_of f, few.accs) in
     let spilled : List (ℤ × ℕ) = with_size 16 (displacements spill_slot spill_slots) in
-    let words : List (ℤ × ℕ) = (pos block_slot, 8) ∷ (pos rows_slot, 8) ∷ (pos left_slot, 8) ∷ spilled in
+    let words : List (ℤ × ℕ) = (pos block_slot, 8) ∷ (pos rows_slot, 8) ∷ (pos left_slot, 8) ∷ (pos index_slot, 8) ∷ (pos work_slot, 16) ∷ spilled in
     let rows : List (ℤ × ℕ) = with_size 8 (displacements row_slot 12) ++ words in
     let kept : List (ℤ × ℕ) = with_size 8 (displacements saved_slot 6) ++ rows in
     let sums : List (ℤ × ℕ) = with_size 16 (displacements sum_slot m) ++ kept in
     let from_spilled : (d : ℕ) → d ≤ spill_slot 0 → LieApart (pos d) spilled = λ d i. subst (λ (xs : List (ℤ × ℕ)). LieApart (pos d) xs) (append-nil spilled) (range_apart spill_slot 16 (λ k. omega arith) [] 0 spill_slots d (omega (arith, i)) (λ e j. low e frame_size (omega (arith, j)))) in
-    let last : (e : ℕ) → e ≤ block_slot → LieApart (pos e) words = λ e j. (low e block_slot j, (low (block_slot + 8) rows_slot (omega arith), (low (rows_slot + 8) left_slot (omega arith), from_spilled (left_slot + 8) (omega arith)))) in
+    let last : (e : ℕ) → e ≤ block_slot → LieApart (pos e) words = λ e j. (low e block_slot j, (low (block_slot + 8) rows_slot (omega arith), (low (rows_slot + 8) left_slot (omega arith), (low (left_slot + 8) index_slot (omega arith), (low (index_slot + 8) work_slot (omega arith), from_spilled (work_slot + 16) (omega arith)))))) in
     let from_rows : (d : ℕ) → d ≤ row_slot 0 → LieApart (pos d) rows = λ d i. range_apart row_slot 8 (λ k. omega arith) words 0 12 d (omega (arith, i)) (λ e j. last e (omega (arith, j))) in
     let from_kept : (b : ℕ) → b ≤ saved_slot 0 → LieApart (pos b) kept = λ b h. range_apart saved_slot 8 (λ k. omega arith) rows 0 6 b (omega (arith, h)) (λ d i. from_rows d (omega (arith, i))) in
     let from_sums : (a : ℕ) → a ≤ sum_slot 0 → LieApart (pos a) sums = λ a l. range_apart sum_slot 16 (λ k. omega arith) kept 0 m a (omega (arith, l)) (λ b h. from_kept b (omega (arith, h, m_few))) in

@@ -43,6 +43,14 @@ rows_slot = 984
 abbrev pub left_slot : ℕ
 left_slot = 992
 
+-- of the word in which a far load's code puts the number of its first element
+abbrev pub index_slot : ℕ
+index_slot = 1000
+
+-- of the 16 bytes in the first word of which RCX waits while it gathers
+abbrev pub work_slot : ℕ
+work_slot = 1008
+
 -- the spill slots: one for each place that is no register
 abbrev pub spill_slots : ℕ
 spill_slots = places - registers
@@ -92,7 +100,7 @@ abbrev pub spilled_of : Layout → List (ℤ × ℕ)
 spilled_of l = with_size 16 (map (λ k. l.spill_at +ℤ pos (16 * k)) (range_with_len 0 spill_slots))
 
 abbrev pub slots_of : Layout → List (ℤ × ℕ)
-slots_of l = with_size 16 l.pattern_at.items ++ (with_size 16 l.sum_at.items ++ (with_size 8 l.saved_at ++ (with_size 8 l.row_at ++ (l.block_at, 8) ∷ (l.rows_at, 8) ∷ (pos left_slot, 8) ∷ spilled_of l)))
+slots_of l = with_size 16 l.pattern_at.items ++ (with_size 16 l.sum_at.items ++ (with_size 8 l.saved_at ++ (with_size 8 l.row_at ++ (l.block_at, 8) ∷ (l.rows_at, 8) ∷ (pos left_slot, 8) ∷ (pos index_slot, 8) ∷ (pos work_slot, 16) ∷ spilled_of l)))
 
 -- from a displacement on, each slot ends where or before the next begins, and the last within the frame
 abbrev pub LieApart : ℤ → List (ℤ × ℕ) → Type 0

@@ -1,7 +1,7 @@
 -- The parts of a call's memory beside the arrays: the frame, the return word, the argument block and the code.
 use Rattle.std.specs.Prelude.{ℕ, ◌+◌, ◌*◌, ◌<◌, ◌≤◌, ◌⊎◌, length}
 use Rattle.x86_ins.specs.Way.{Placed}
-use Rattle.orc_frame.specs.Layout.{frame_size, sum_slot, spill_slots, spill_slot}
+use Rattle.orc_frame.specs.Layout.{frame_size, sum_slot, index_slot, spill_slots, spill_slot}
 
 abbrev pub Between : ℕ → ℕ → ℕ → Type 0
 Between low high a = (low ≤ a) × (a < high)
@@ -18,9 +18,13 @@ InRunning rsp count = Between (rsp + sum_slot 0) (rsp + sum_slot count)
 abbrev pub InSpilled : ℕ → ℕ → Type 0
 InSpilled rsp = Between (rsp + spill_slot 0) (rsp + spill_slot spill_slots)
 
--- what the elements of a row change in it: the running sums of so many accumulators, and the spill slots
+-- the words in which far loads' code works, and behind them the spill slots
+abbrev pub InWorked : ℕ → ℕ → Type 0
+InWorked rsp = Between (rsp + index_slot) (rsp + spill_slot spill_slots)
+
+-- what the elements of a row change in it: the running sums of so many accumulators, those words and the spill slots
 abbrev pub InChanged : ℕ → ℕ → ℕ → Type 0
-InChanged rsp count a = InRunning rsp count a ⊎ InSpilled rsp a
+InChanged rsp count a = InRunning rsp count a ⊎ InWorked rsp a
 
 -- the return word, to which RSP points at the entry (System V ABI, AMD64 supplement, 3.2.2)
 abbrev pub InReturn : ℕ → ℕ → Type 0

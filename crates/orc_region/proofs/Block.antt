@@ -3,6 +3,7 @@ pub mod Actions
 pub mod Cells
 pub mod Elements
 pub mod Emulated
+pub mod Far
 pub mod Frames
 pub mod Keeping
 pub mod Meeting

@@ -12,7 +12,7 @@ use Rattle.sse_laws.specs.Meets.{is_shift, is_sum}
 use Rattle.x86_ins.specs.Way.{Each}
 use Rattle.orc_program.specs.Need.{registers}
 use Rattle.orc_frame.specs.Layout.{spill_slots}
-use Rattle.orc_region.specs.Code.{Action, Source, FromArray, FromPattern, FromResident, FromPlace, FromSlot, Target, ToArray, ToSum, ToResident, ToPlace, ToSlot, place_register, slot_place, first_register, second_register}
+use Rattle.orc_region.specs.Code.{Action, Source, FromArray, FromPattern, FromResident, FromPlace, FromSlot, FromFar, Target, ToArray, ToSum, ToResident, ToPlace, ToSlot, place_register, slot_place, first_register, second_register}
 use Rattle.orc_region.proofs.Arithmetic.Digits.{digit, byte_within, byte_further, byte_split, byte_apart}
 use Rattle.orc_region.proofs.Block.Sums.{IsResident, SourceWithin, TargetWithin}
 
@@ -41,6 +41,7 @@ given_by number w l (FromArray k) = sub_lane (8 * w) (l.cells k)
 given_by number w l (FromPattern j) = λ q. number j
 given_by number w l (FromResident j g) = λ q. number j
 given_by number w l (FromPlace p) = sub_lane (8 * w) (l.values p)
+given_by number w l (FromFar load array js) = λ q. 0
 given_by number w l (FromSlot k) = sub_lane (8 * w) (l.values (slot_place k))
 
 -- what each sub-lane of an opcode's sources holds
@@ -166,6 +167,7 @@ module _ (n : ℕ) (base size : ℕ → ℕ) (P : ℕ → Type 0) where
     IsFrom live w prefix (FromPattern j) = (j < numbers.patterns) × (numbers.period j ≡ w)
     IsFrom live w prefix (FromResident j g) = (j < numbers.patterns) × (numbers.period j ≡ w) × (g ≡ numbers.sums + j) × IsResident numbers.last g
     IsFrom live w prefix (FromPlace p) = (p < registers) × (live p ≡ w * prefix)
+    IsFrom live w prefix (FromFar load array js) = ⊥
     IsFrom live w prefix (FromSlot k) = (k < spill_slots) × (live (slot_place k) ≡ w * prefix)
 
     -- a count is a pattern
@@ -174,6 +176,7 @@ module _ (n : ℕ) (base size : ℕ → ℕ) (P : ℕ → Type 0) where
     IsBeside op (FromPattern j) = Unit {0}
     IsBeside op (FromResident j g) = Unit {0}
     IsBeside op (FromPlace p) = is_shift (row op).kind ≡ false
+    IsBeside op (FromFar load array js) = ⊥
     IsBeside op (FromSlot k) = is_shift (row op).kind ≡ false
 
     -- a second source is the count that the rule has in itself
@@ -182,6 +185,7 @@ module _ (n : ℕ) (base size : ℕ → ℕ) (P : ℕ → Type 0) where
     IsNumber m (FromPattern j) = numbers.number j ≡ m
     IsNumber m (FromResident j g) = numbers.number j ≡ m
     IsNumber m (FromPlace p) = ⊥
+    IsNumber m (FromFar load array js) = ⊥
     IsNumber m (FromSlot k) = ⊥
 
     abbrev pub IsCounted : Option ℕ → List Source → Type 0
@@ -226,6 +230,7 @@ module _ (n : ℕ) (base size : ℕ → ℕ) (P : ℕ → Type 0) where
     IsKept ts (FromPattern j) = Unit {0}
     IsKept ts (FromResident j g) = Unit {0}
     IsKept ts (FromPlace p) = (first_register ts ≢ place_register p) × (second_register ts ≢ place_register p)
+    IsKept ts (FromFar load array js) = Unit {0}
     IsKept ts (FromSlot k) = Unit {0}
 
     -- its operands are of the opcode's sizes, its sources stand elsewhere than its results, its results in two registers, and all of them where places end

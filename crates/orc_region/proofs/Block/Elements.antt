@@ -19,7 +19,7 @@ use Rattle.orc_program.specs.Slots.{slot_of}
 use Rattle.orc_program.specs.Meaning.{State, Gap, cell, sub_lane, go_on, write_result, write_results, act, element, row_of}
 use Rattle.orc_program.specs.Checks.{number_in}
 use Rattle.x86_flow.proofs.Moves.{IsFill}
-use Rattle.orc_region.specs.Code.{Action, Source, FromArray, FromPattern, FromResident, FromPlace, FromSlot, Target, ToArray, ToSum, ToResident, ToPlace, ToSlot, slot_place}
+use Rattle.orc_region.specs.Code.{Action, Source, FromArray, FromPattern, FromResident, FromPlace, FromSlot, FromFar, Target, ToArray, ToSum, ToResident, ToPlace, ToSlot, slot_place}
 use Rattle.orc_region.proofs.Arithmetic.Digits.{digit}
 use Rattle.orc_region.proofs.Block.Cells.{Numbers, Local, given_by, given, computed, adds_to, results_add, eq_yes, Lanes, Others, IsOf, Separate, Low, set_local, set_target, set_results, value_of, local_act, local, adds, store_lanes, store_others, others_more, cell_apart}
 use Rattle.orc_region.proofs.Block.Emulated.{IsCells, IsDest, IsSum, IsTemp, state, meant, Holds, IsLow, Gives, array_gives, temp_gives, number_gives, array_takes, sum_takes, temp_takes, Writes, act_one, act_two}
@@ -33,6 +33,7 @@ IsRead f patterns V w prefix o (FromArray k) = (p : ℕ) × (o ≡ operand.Var p
 IsRead f patterns V w prefix o (FromPattern j) = number_in f.vars o ≡ Some (patterns j)
 IsRead f patterns V w prefix o (FromResident j g) = number_in f.vars o ≡ Some (patterns j)
 IsRead f patterns V w prefix o (FromPlace p) = (x : ℕ) × (o ≡ operand.Var x) × IsTemp f x × V x p
+IsRead f patterns V w prefix o (FromFar load array js) = ⊥
 IsRead f patterns V w prefix o (FromSlot k) = (x : ℕ) × (o ≡ operand.Var x) × IsTemp f x × V x (slot_place k)
 
 abbrev pub AreRead : FunctionValue → (ℕ → Operand) → (ℕ → ℕ → Type 0) → Op → ℕ → List Operand → List Source → Type 0
@@ -315,6 +316,7 @@ module _ (f : FunctionValue) (call : Call) (r : ℕ) (base size : ℕ → ℕ) (
   gives e w prefix o (FromPattern j) V mem temps sums l is le h c = gives_pattern e w prefix o j V mem temps sums is
   gives e w prefix o (FromResident j g) V mem temps sums l is le h c = gives_pattern e w prefix o j V mem temps sums is
   gives e w prefix o (FromPlace p) V mem temps sums l is le h c = gives_temp e w prefix o p V mem temps sums l is c
+  gives e w prefix o (FromFar load array js) V mem temps sums l is le h c = absurd is
   gives e w prefix o (FromSlot k) V mem temps sums l is le h c = gives_temp e w prefix o (slot_place k) V mem temps sums l is c
 
   abbrev WritesGiven : ℕ → Insn → State → Local → List Source → Type 0

@@ -22,7 +22,7 @@ use Rattle.sse_acc.specs.Sums.{sum_below}
 use Rattle.orc_program.specs.Need.{registers}
 use Rattle.orc_frame.specs.Layout.{spill_slot}
 use Rattle.orc_region.proofs.Arithmetic.Digits.{digit}
-use Rattle.orc_region.specs.Code.{Action, Source, FromArray, FromPattern, FromResident, FromPlace, FromSlot, Target, ToArray, ToSum, ToResident, ToPlace, ToSlot, pointer, place_register, slot_place, resident_register, made_in, first_register, second_register, take_names, source_names, action_names, action_far_code, named_code}
+use Rattle.orc_region.specs.Code.{Ahead, Action, Source, FromArray, FromPattern, FromResident, FromPlace, FromSlot, FromFar, Target, ToArray, ToSum, ToResident, ToPlace, ToSlot, pointer, place_register, slot_place, resident_register, made_in, first_register, second_register, take_names, source_names, action_names, action_far_code, named_code}
 use Rattle.orc_region.proofs.Block.Cells.{eq_yes, Numbers, Local, Lanes, IsFrom, AreFrom, IsMade, AreTo, IsKept, IsKnown, AllKnown, live_act, local_act, local}
 use Rattle.orc_region.proofs.Block.Frames.{Framed, framed_same, framed_totals}
 use Rattle.orc_region.proofs.Block.Keeping.{line_bounded}
@@ -87,6 +87,7 @@ IsTakenAt true (FromArray k) r = ⊥
 IsTakenAt true (FromPattern j) r = ⊥
 IsTakenAt true (FromResident j g) r = ⊥
 IsTakenAt true (FromPlace p) r = r ≡ place_register p
+IsTakenAt true (FromFar load array js) r = ⊥
 IsTakenAt true (FromSlot k) r = ⊥
 
 -- what a core sees after a source was taken over into register x, and what before
@@ -101,10 +102,12 @@ took false x (FromArray k) names c l = record { memory = refl; here = λ r e. ab
 took false x (FromPattern j) names c l = record { memory = refl; here = λ r e. absurd e; others = λ r lr ne nt. refl; all = λ e r. refl }
 took false x (FromResident j g) names c l = record { memory = refl; here = λ r e. absurd e; others = λ r lr ne nt. refl; all = λ e r. refl }
 took false x (FromPlace p) names c l = record { memory = refl; here = λ r e. absurd e; others = λ r lr ne nt. refl; all = λ e r. refl }
+took false x (FromFar load array js) names c l = record { memory = refl; here = λ r e. absurd e; others = λ r lr ne nt. refl; all = λ e r. refl }
 took false x (FromSlot k) names c l = record { memory = refl; here = λ r e. absurd e; others = λ r lr ne nt. refl; all = λ e r. refl }
 took true x (FromArray k) names c l = record { memory = refl; here = λ r e. absurd e; others = λ r lr ne nt. refl; all = λ e r. refl }
 took true x (FromPattern j) names c l = record { memory = refl; here = λ r e. absurd e; others = λ r lr ne nt. refl; all = λ e r. refl }
 took true x (FromResident j g) names c l = record { memory = refl; here = λ r e. absurd e; others = λ r lr ne nt. refl; all = λ e r. refl }
+took true x (FromFar load array js) names c l = record { memory = refl; here = λ r e. absurd e; others = λ r lr ne nt. refl; all = λ e r. refl }
 took true x (FromSlot k) names c l = record { memory = refl; here = λ r e. absurd e; others = λ r lr ne nt. refl; all = λ e r. refl }
 took true x (FromPlace p) names c l = record {
   memory = refl;
@@ -119,12 +122,13 @@ apart_not false s q h z = z
 apart_not true (FromArray k) q h z = z
 apart_not true (FromPattern j) q h z = z
 apart_not true (FromResident j g) q h z = z
+apart_not true (FromFar load array js) q h z = z
 apart_not true (FromSlot k) q h z = z
 apart_not true (FromPlace p) q h z = true≢false (sym (eq_yes q p (let e : q ≡ p = omega (arith, z) in e)) ∙ h refl)
 
 -- ---- several elements at once
 
-module _ (n : ℕ) (base size : ℕ → ℕ) (P : ℕ → Type 0) (numbers : Numbers) (rsp : ℕ) (ground : Ground n base size P numbers rsp) (Q : Core → Ins → Type 0) (far : ℕ → ℕ) (aligned : ℕ → Bool) (count : ℕ) (some : 0 < count) where
+module _ (n : ℕ) (base size : ℕ → ℕ) (P : ℕ → Type 0) (numbers : Numbers) (rsp : ℕ) (ground : Ground n base size P numbers rsp) (Q : Core → Ins → Type 0) (far : Ahead) (aligned : ℕ → Bool) (count : ℕ) (some : 0 < count) where
   abbrev Stood : (ℕ → ℕ) → (ℕ → Local) → Core → ℕ → Type 0
   Stood = StandsAt n base size P numbers rsp ground Q far aligned count some
 
@@ -145,6 +149,7 @@ module _ (n : ℕ) (base size : ℕ → ℕ) (P : ℕ → Type 0) (numbers : Num
   small_of live w prefix (FromPattern j) o = tt
   small_of live w prefix (FromResident j g) o = tt
   small_of live w prefix (FromPlace p) o = o.0
+  small_of live w prefix (FromFar load array js) o = tt
   small_of live w prefix (FromSlot k) o = tt
 
   -- of a source in a register
@@ -153,6 +158,7 @@ module _ (n : ℕ) (base size : ℕ → ℕ) (P : ℕ → Type 0) (numbers : Num
   OfRegister (FromPattern j) F = Unit {0}
   OfRegister (FromResident j g) F = Unit {0}
   OfRegister (FromPlace p) F = F (place_register p)
+  OfRegister (FromFar load array js) F = Unit {0}
   OfRegister (FromSlot k) F = Unit {0}
 
   of_register : (s : Source) (F : ℕ → Type 0) → ((r : ℕ) → F r) → OfRegister s F
@@ -160,6 +166,7 @@ module _ (n : ℕ) (base size : ℕ → ℕ) (P : ℕ → Type 0) (numbers : Num
   of_register (FromPattern j) F h = tt
   of_register (FromResident j g) F h = tt
   of_register (FromPlace p) F h = h (place_register p)
+  of_register (FromFar load array js) F h = tt
   of_register (FromSlot k) F h = tt
 
   -- a source stays where memory and its register do
@@ -168,6 +175,7 @@ module _ (n : ℕ) (base size : ℕ → ℕ) (P : ℕ → Type 0) (numbers : Num
   there_moved live sig v w (FromPattern j) m same h = tt
   there_moved live sig v w (FromResident j g) m same h = tt
   there_moved live sig v w (FromPlace p) m same h = still n base size P numbers rsp ground Q far aligned count some live sig v w p (λ b lb. held_still rsp v w p b (λ l. same) m) h
+  there_moved live sig v w (FromFar load array js) m same h = tt
   there_moved live sig v w (FromSlot k) m same h = still n base size P numbers rsp ground Q far aligned count some live sig v w (slot_place k) (λ b lb. held_still rsp v w (slot_place k) b (λ l. absurd (omega (arith, l))) m) h
 
   -- a source is in its register then, or where it was
@@ -176,6 +184,7 @@ module _ (n : ℕ) (base size : ℕ → ℕ) (P : ℕ → Type 0) (numbers : Num
   bring true rest x (FromArray k) w prefix live sig c d m o room there t = absurd m
   bring true rest x (FromPattern j) w prefix live sig c d m o room there t = absurd m
   bring true rest x (FromResident j g) w prefix live sig c d m o room there t = absurd m
+  bring true rest x (FromFar load array js) w prefix live sig c d m o room there t = absurd m
   bring true rest x (FromSlot k) w prefix live sig c d m o room there t = absurd m
   bring true rest x (FromPlace p) w prefix live sig c d m o room there t =
       in_register n base size P numbers rsp ground Q far aligned count some live sig c w prefix p (d.xmm x) o.0 o.1 there room (t.here (place_register p) refl)
@@ -190,6 +199,7 @@ module _ (n : ℕ) (base size : ℕ → ℕ) (P : ℕ → Type 0) (numbers : Num
   remains true x (FromArray k) live sig v w p ne t h = still n base size P numbers rsp ground Q far aligned count some live sig v w p (λ b lb. held_still rsp v w p b (λ l. t.others (place_register p) (omega (arith, l)) (λ z. ne (sym z)) (λ z. z)) t.memory) h
   remains true x (FromPattern j) live sig v w p ne t h = still n base size P numbers rsp ground Q far aligned count some live sig v w p (λ b lb. held_still rsp v w p b (λ l. t.others (place_register p) (omega (arith, l)) (λ z. ne (sym z)) (λ z. z)) t.memory) h
   remains true x (FromResident j g) live sig v w p ne t h = still n base size P numbers rsp ground Q far aligned count some live sig v w p (λ b lb. held_still rsp v w p b (λ l. t.others (place_register p) (omega (arith, l)) (λ z. ne (sym z)) (λ z. z)) t.memory) h
+  remains true x (FromFar load array js) live sig v w p ne t h = still n base size P numbers rsp ground Q far aligned count some live sig v w p (λ b lb. held_still rsp v w p b (λ l. t.others (place_register p) (omega (arith, l)) (λ z. ne (sym z)) (λ z. z)) t.memory) h
   remains true x (FromSlot k) live sig v w p ne t h = still n base size P numbers rsp ground Q far aligned count some live sig v w p (λ b lb. held_still rsp v w p b (λ l. t.others (place_register p) (omega (arith, l)) (λ z. ne (sym z)) (λ z. z)) t.memory) h
   remains true x (FromPlace a) live sig v w p ne t h = ⊎_elim
       (λ e k lk r lr. let none : change live a 0 p ≡ 0 = ap (change live a 0) e ∙ change_same live a 0 in absurd (omega (arith, lr, none)))
@@ -203,6 +213,7 @@ module _ (n : ℕ) (base size : ℕ → ℕ) (P : ℕ → Type 0) (numbers : Num
   not_first true (FromArray j) ts k z = z
   not_first true (FromPattern j) ts k z = z
   not_first true (FromResident j g) ts k z = z
+  not_first true (FromFar load array js) ts k z = z
   not_first true (FromSlot j) ts k z = z
   not_first true (FromPlace p) ts k z = k.0 z
 
@@ -216,6 +227,7 @@ module _ (n : ℕ) (base size : ℕ → ℕ) (P : ℕ → Type 0) (numbers : Num
   first_stays false two (FromResident j g) t ts w prefix live sig c d ks kt o a ne l k h = tt
   first_stays false two (FromPlace p) t ts w prefix live sig c d ks kt o a ne l k h =
       there_moved live sig c d (FromPlace p) k.memory (k.others (place_register p) (let x = o.0 in omega (arith, x)) (λ z. ks.1 (sym z)) (apart_not two t p a)) h
+  first_stays false two (FromFar load array js) t ts w prefix live sig c d ks kt o a ne l k h = tt
   first_stays false two (FromSlot j) t ts w prefix live sig c d ks kt o a ne l k h = there_moved live sig c d (FromSlot j) k.memory tt h
 
   -- the second one where the first is
@@ -225,6 +237,7 @@ module _ (n : ℕ) (base size : ℕ → ℕ) (P : ℕ → Type 0) (numbers : Num
   second_there one s (FromResident j g) ts w prefix live sig c d kt o a k h = tt
   second_there one s (FromPlace p) ts w prefix live sig c d kt o a k h =
       there_moved live sig c d (FromPlace p) k.memory (k.others (place_register p) (let x = o.0 in omega (arith, x)) (λ z. kt.0 (sym z)) (apart_not one s p a)) h
+  second_there one s (FromFar load array js) ts w prefix live sig c d kt o a k h = tt
   second_there one s (FromSlot j) ts w prefix live sig c d kt o a k h = there_moved live sig c d (FromSlot j) k.memory tt h
 
   -- ---- an action's names
@@ -263,10 +276,12 @@ module _ (n : ℕ) (base size : ℕ → ℕ) (P : ℕ → Type 0) (numbers : Num
   fixed_take false x (FromPattern j) names clear within h = h
   fixed_take false x (FromResident j g) names clear within h = h
   fixed_take false x (FromPlace p) names clear within h = h
+  fixed_take false x (FromFar load array js) names clear within h = h
   fixed_take false x (FromSlot k) names clear within h = h
   fixed_take true x (FromArray k) names clear within h = h
   fixed_take true x (FromPattern j) names clear within h = h
   fixed_take true x (FromResident j g) names clear within h = h
+  fixed_take true x (FromFar load array js) names clear within h = h
   fixed_take true x (FromSlot k) names clear within h = h
   fixed_take true x (FromPlace p) names clear within h = λ g l.
       exchanged_name x (place_register p) names (resident_register g) (omega arith)
@@ -323,7 +338,7 @@ module _ (n : ℕ) (base size : ℕ → ℕ) (P : ℕ → Type 0) (numbers : Num
 
 -- ---- actions
 
-module _ (n : ℕ) (base size : ℕ → ℕ) (P : ℕ → Type 0) (numbers : Numbers) (rsp : ℕ) (ground : Ground n base size P numbers rsp) (Q : Core → Ins → Type 0) (far : ℕ → ℕ) (aligned : ℕ → Bool) (count : ℕ) (some : 0 < count) where
+module _ (n : ℕ) (base size : ℕ → ℕ) (P : ℕ → Type 0) (numbers : Numbers) (rsp : ℕ) (ground : Ground n base size P numbers rsp) (Q : Core → Ins → Type 0) (far : Ahead) (aligned : ℕ → Bool) (count : ℕ) (some : 0 < count) where
   -- what is known at each step of an action
   abbrev Near : ℕ → (ℕ → ℕ) → Memory → Core → Ins → Type 0
   Near i gpr first u ins = ((r : ℕ) → r ≢ 0 → u.gpr r ≡ gpr r) × Rest n base size P numbers rsp ground Q far aligned count some i first u.memory
@@ -394,7 +409,7 @@ module _ (n : ℕ) (base size : ℕ → ℕ) (P : ℕ → Type 0) (numbers : Num
       let less = forget_all a.takes_first a.takes_second a.sources live in
       let s = opened n base size P numbers rsp ground (Near i c.gpr first) far aligned count some a.takes_first a.takes_second rest a.op a.prefix a.to a.sources live sig names c taken.0 k.to k.sources k.kept k.apart (clear_of numbers.last a.to k.to_within) k.from_within (room_of n base size P numbers rsp ground (Near i c.gpr first) far aligned count some a fit.0.lanes) p fixed stand in
       let x = named_action mine i a c first live less sig totals s.permutes s.fixed k fit.0 ins.0 w at stack h framed s.at s.rest bound o keeps in
-      let y = named_line mine i rest x.0 first (live_act less a) (Acted a sig) (More a sig totals) s.permutes s.fixed (rest_known n base size P numbers live a rest taken.0 known.1) taken.1 fit.1 ins.1 w (λ j hj t. (ap (λ y. y + far j) (x.2.gpr (pointer j) (not_0 j)) ∙ (at j hj t).0, (at j hj t).1)) (x.2.gpr 4 (λ z. omega (arith, z)) ∙ stack)
+      let y = named_line mine i rest x.0 first (live_act less a) (Acted a sig) (More a sig totals) s.permutes s.fixed (rest_known n base size P numbers live a rest taken.0 known.1) taken.1 fit.1 ins.1 w (λ j hj t. (ap (λ y. y + far.bytes j) (x.2.gpr (pointer j) (not_0 j)) ∙ (at j hj t).0, (at j hj t).1)) (x.2.gpr 4 (λ z. omega (arith, z)) ∙ stack)
       x.2.lanes x.2.framed x.3 x.2.bounded x.2.others (λ u ins g. keeps u ins (λ r ne. g r ne ∙ x.2.gpr r ne)) in (
         y.0,
         line_append Q (map (renamed (renaming mine)) (action_far_code count size far aligned a)) (named_code mine count size far aligned rest) c x.0 y.0 x.1 y.1,

@@ -6,7 +6,7 @@ use Rattle.std.proofs.lemmas.List.FromFn.{get_or-map-range_with_len}
 use Rattle.x86_ins.specs.Renaming.{renaming, IsPermutation}
 use Rattle.x86_ins.specs.Way.{Each}
 use Rattle.orc_program.specs.Need.{registers}
-use Rattle.orc_region.specs.Code.{Source, FromArray, FromPattern, FromResident, FromPlace, FromSlot, exchange, own_names, exchanged, take_names, source_names}
+use Rattle.orc_region.specs.Code.{Source, FromArray, FromPattern, FromResident, FromPlace, FromSlot, FromFar, exchange, own_names, exchanged, take_names, source_names}
 use Rattle.orc_region.proofs.Block.RuleRegisters.{exchange_one, exchange_small}
 
 module _ (first second sum : ℕ) (names : List ℕ) (r : ℕ) (last : 16 ≤ r) (long : length names ≡ 16) (filled : take r names ≡ map (λ k. exchange 0 first (exchange 1 second (exchange 2 sum k))) (range_with_len 0 r)) where
@@ -65,6 +65,7 @@ IsSmall (FromArray k) = Unit {0}
 IsSmall (FromPattern j) = Unit {0}
 IsSmall (FromResident j g) = Unit {0}
 IsSmall (FromPlace p) = p < registers
+IsSmall (FromFar load array js) = Unit {0}
 IsSmall (FromSlot k) = Unit {0}
 
 pub take_permutes : (one : Bool) (x : ℕ) (s : Source) (names : List ℕ) → x < 16 → IsSmall s → IsPermutation names → IsPermutation (take_names one x s names)
@@ -72,11 +73,13 @@ take_permutes true x (FromPlace q) names l h p = exchanged_permutes x (6 + q) na
 take_permutes true x (FromArray k) names l h p = p
 take_permutes true x (FromPattern j) names l h p = p
 take_permutes true x (FromResident j g) names l h p = p
+take_permutes true x (FromFar load array js) names l h p = p
 take_permutes true x (FromSlot k) names l h p = p
 take_permutes false x (FromPlace q) names l h p = p
 take_permutes false x (FromArray k) names l h p = p
 take_permutes false x (FromPattern j) names l h p = p
 take_permutes false x (FromResident j g) names l h p = p
+take_permutes false x (FromFar load array js) names l h p = p
 take_permutes false x (FromSlot k) names l h p = p
 
 pub source_permutes : (one two : Bool) (x y : ℕ) (ss : List Source) (names : List ℕ) → x < 16 → y < 16 → Each IsSmall ss → IsPermutation names → IsPermutation (source_names one two x y ss names)

@@ -10,7 +10,7 @@ use Rattle.orc_plan.specs.declared.steps.Step.{Step}
 use Rattle.orc_plan.specs.declared.steps.Item.TheVariants as item
 use Rattle.orc_program.specs.Need.{places, registers}
 use Rattle.orc_frame.specs.Layout.{sum_slot}
-use Rattle.orc_region.specs.Code.{Source, FromArray, FromPattern, FromResident, FromPlace, FromSlot, Target, ToArray, ToSum, ToResident, ToPlace, ToSlot, slot_place, resident_register, first_register, second_register, last_place, is_resident, to_sum, is_to, is_from, is_last, is_beside, take_names, Seats, from_pattern, source_of, target_of}
+use Rattle.orc_region.specs.Code.{Source, FromArray, FromPattern, FromResident, FromPlace, FromSlot, FromFar, Target, ToArray, ToSum, ToResident, ToPlace, ToSlot, slot_place, resident_register, first_register, second_register, last_place, is_resident, to_sum, is_to, is_from, is_last, is_beside, take_names, Seats, from_pattern, source_of, target_of}
 use Rattle.orc_region.specs.Elements.{sum_byte}
 use Rattle.orc_region.proofs.Block.Places.{by_source, by_target}
 
@@ -109,6 +109,7 @@ SourceWithin last (FromArray k) = Unit {0}
 SourceWithin last (FromPattern j) = Unit {0}
 SourceWithin last (FromResident j g) = Unit {0}
 SourceWithin last (FromPlace p) = p ≤ last
+SourceWithin last (FromFar load array js) = Unit {0}
 SourceWithin last (FromSlot k) = slot_place k ≤ last
 
 abbrev pub TargetWithin : ℕ → Target → Type 0

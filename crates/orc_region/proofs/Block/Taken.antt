@@ -8,7 +8,7 @@ use Rattle.orc_ops.specs.declared.target.Target.{Target as CodeTarget}
 use Rattle.orc_ops.specs.Table.{size_of_result, size_of_source}
 use Rattle.orc_program.proofs.Sizes.{both}
 use Rattle.orc_plan.specs.declared.steps.Step.{Step}
-use Rattle.orc_region.specs.Code.{Action, Seats, Source, FromArray, FromPattern, FromResident, FromPlace, FromSlot, Target, ToArray, ToSum, ToResident, ToPlace, ToSlot, slot_place, AreActions, is_from, is_to, some_from, some_to, is_free, is_last, is_beside, is_first_taken, is_second_taken}
+use Rattle.orc_region.specs.Code.{Action, Seats, Source, FromArray, FromPattern, FromResident, FromPlace, FromSlot, FromFar, Target, ToArray, ToSum, ToResident, ToPlace, ToSlot, slot_place, AreActions, is_from, is_to, some_from, some_to, is_free, is_last, is_beside, is_first_taken, is_second_taken}
 use Rattle.orc_region.proofs.Block.Cells.{Numbers, live_target, live_targets, live_act, IsFrom, AreFrom, IsKnown, AllKnown}
 
 -- of these actions none reads what stands at the place: before one does, one makes a value there
@@ -23,6 +23,7 @@ MayTake true rest (FromPlace p) = is_free_in p rest ≡ true
 MayTake true rest (FromArray k) = ⊥
 MayTake true rest (FromPattern j) = ⊥
 MayTake true rest (FromResident j g) = ⊥
+MayTake true rest (FromFar load array js) = ⊥
 MayTake true rest (FromSlot k) = ⊥
 
 -- the other source isn't in its register
@@ -58,6 +59,7 @@ module _ (seats : Seats) (later : List Step) (rest : List Action) (free : (p : �
   may_take true (FromArray k) h = absurd (true≢false (sym (h refl)))
   may_take true (FromPattern j) h = absurd (true≢false (sym (h refl)))
   may_take true (FromResident j g) h = absurd (true≢false (sym (h refl)))
+  may_take true (FromFar load array js) h = absurd (true≢false (sym (h refl)))
   may_take true (FromSlot k) h = absurd (true≢false (sym (h refl)))
 
   of_sources : (one two : Bool) (ss : List Source) → one ≡ is_first_taken seats later ss → two ≡ is_second_taken seats later ss → AreTaken one two rest ss
@@ -130,6 +132,7 @@ forget true (FromPlace p) live = change live p 0
 forget true (FromArray k) live = live
 forget true (FromPattern j) live = live
 forget true (FromResident j g) live = live
+forget true (FromFar load array js) live = live
 forget true (FromSlot k) live = live
 
 abbrev pub forget_all : Bool → Bool → List Source → (ℕ → ℕ) → ℕ → ℕ
@@ -143,6 +146,7 @@ forgot true rest (FromPlace q) live p m = ⊎_elim (λ e. inr (subst (λ k. is_f
 forgot true rest (FromArray k) live p m = absurd m
 forgot true rest (FromPattern j) live p m = absurd m
 forgot true rest (FromResident j g) live p m = absurd m
+forgot true rest (FromFar load array js) live p m = absurd m
 forgot true rest (FromSlot k) live p m = absurd m
 
 forgot_all : (one two : Bool) (rest : List Action) (ss : List Source) (live : ℕ → ℕ) (p : ℕ) → AreTaken one two rest ss → (forget_all one two ss live p ≡ live p) ⊎ (is_free_in p rest ≡ true)
@@ -157,6 +161,7 @@ module _ (n : ℕ) (base size : ℕ → ℕ) (P : ℕ → Type 0) (numbers : Num
   from_less live less w prefix (FromPattern j) h o = o
   from_less live less w prefix (FromResident j g) h o = o
   from_less live less w prefix (FromPlace p) h o = (o.0, h p (eq_true p) ∙ o.1)
+  from_less live less w prefix (FromFar load array js) h o = o
   from_less live less w prefix (FromSlot k) h o = (o.0, h (slot_place k) (eq_true (slot_place k)) ∙ o.1)
 
   -- what is known of the places that are read is enough

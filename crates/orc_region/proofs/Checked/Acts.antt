@@ -24,7 +24,7 @@ use Rattle.orc_plan.specs.Lowered.{last_value, acc_item, result_item, result_ite
 use Rattle.orc_plan.specs.Standing.{Stands, StandAt, AllStand}
 use Rattle.orc_plan.proofs.Last.{last_below}
 use Rattle.orc_program.specs.Slots.{slot_of}
-use Rattle.orc_region.specs.Code.{Source, FromArray, FromPattern, FromResident, FromPlace, FromSlot, Target, ToPlace, to_place, seats_of, source_of, target_of, patterns_in, place_register, made_in, first_register, second_register}
+use Rattle.orc_region.specs.Code.{Source, FromArray, FromPattern, FromResident, FromPlace, FromSlot, FromFar, Target, ToPlace, to_place, seats_of, source_of, target_of, patterns_in, place_register, made_in, first_register, second_register}
 use Rattle.orc_region.proofs.Block.Places.{by_target}
 use Rattle.orc_region.proofs.Block.Sums.{by_sum}
 use Rattle.orc_region.proofs.Block.Emulated.{IsTemp}
@@ -82,6 +82,7 @@ IsClear ts (FromArray k) = Unit {0}
 IsClear ts (FromPattern j) = Unit {0}
 IsClear ts (FromResident j g) = Unit {0}
 IsClear ts (FromPlace p) = (first_register ts ≢ place_register p) × (second_register ts ≢ place_register p)
+IsClear ts (FromFar load array js) = Unit {0}
 IsClear ts (FromSlot k) = Unit {0}
 
 -- an instruction that passes the checks, before which values of these temps were made, and after which these instructions come
@@ -401,6 +402,7 @@ module _ (f : FunctionValue) (at temps : List ℕ) (insn : Insn) (rest : List In
   clear_one ts free position o (FromArray k) reads h = tt
   clear_one ts free position o (FromPattern j) reads h = tt
   clear_one ts free position o (FromResident j g) reads h = tt
+  clear_one ts free position o (FromFar load array js) reads h = tt
   clear_one ts free position o (FromSlot k) reads h = tt
   clear_one ts free position o (FromPlace a) reads h = subst (λ a. IsClear ts (FromPlace a)) h.4.2 (free h.0 (reads h.0 h.1 h.2))
 

@@ -24,7 +24,7 @@ use Rattle.orc_plan.specs.Standing.{Stands}
 use Rattle.orc_frame.specs.Frame.{no_pattern}
 use Rattle.orc_program.specs.Need.{places, registers, spills}
 use Rattle.orc_frame.specs.Layout.{spill_slots}
-use Rattle.orc_region.specs.Code.{Source, FromArray, FromPattern, FromResident, FromPlace, FromSlot, Target, ToArray, ToSum, ToResident, ToPlace, ToSlot, slot_place, to_place, seats_of, last_place, source_of, target_of, patterns_in}
+use Rattle.orc_region.specs.Code.{Source, FromArray, FromPattern, FromResident, FromPlace, FromSlot, FromFar, Target, ToArray, ToSum, ToResident, ToPlace, ToSlot, slot_place, to_place, seats_of, last_place, source_of, target_of, patterns_in}
 use Rattle.orc_region.proofs.Block.Places.{by_source, by_target}
 use Rattle.orc_region.proofs.Block.Sums.{IsResident, by_sum, by_pattern}
 use Rattle.orc_region.proofs.Block.Emulated.{IsCells, IsDest, IsSum, IsTemp}
@@ -45,6 +45,7 @@ IsSourced f at temps steps op prefix position o (FromResident j g) =
     (number_in f.vars o ≡ Some (number_of f j)) × (j < length (patterns_in f)) × ((pattern_of f j).way ≡ way_of op position) × (g ≡ count_of kind.Accumulator f.vars + j) × IsResident (last_place at) g
 IsSourced f at temps steps op prefix position o (FromPlace a) =
     (x : ℕ) × (o ≡ operand.Var x) × IsTemp f x × ((var_at f.vars x).size ≡ size_of_source op position * prefix) × Stands at temps steps x a × (position ≡ 1 → is_shift (row op).kind ≡ false) × (a < registers)
+IsSourced f at temps steps op prefix position o (FromFar load array js) = ⊥
 IsSourced f at temps steps op prefix position o (FromSlot k) =
     (x : ℕ) × (o ≡ operand.Var x) × IsTemp f x × ((var_at f.vars x).size ≡ size_of_source op position * prefix) × Stands at temps steps x (slot_place k) × (position ≡ 1 → is_shift (row op).kind ≡ false) × (k < spill_slots)
 

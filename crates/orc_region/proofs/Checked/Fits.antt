@@ -21,7 +21,7 @@ use Rattle.orc_plan.specs.declared.steps.Step.{Step}
 use Rattle.orc_plan.specs.Lowered.{steps_after, steps_of}
 use Rattle.orc_plan.specs.Lowered.{sizes_of, is_used}
 use Rattle.orc_plan.proofs.SlotSizes.{array_sized, used_sized}
-use Rattle.orc_region.specs.Code.{Action, Seats, Source, FromArray, FromPattern, FromResident, FromPlace, FromSlot, Target, ToArray, ToSum, ToResident, ToPlace, ToSlot, AreActions, plan_with}
+use Rattle.orc_region.specs.Code.{Action, Seats, Source, FromArray, FromPattern, FromResident, FromPlace, FromSlot, FromFar, Target, ToArray, ToSum, ToResident, ToPlace, ToSlot, AreActions, plan_with}
 use Rattle.orc_region.proofs.Block.Emulated.{IsCells}
 use Rattle.orc_region.proofs.Checked.Slots.{Limits, limits, SlotIs, slot_is}
 use Rattle.orc_region.proofs.Block.Actions.{IsMovedFrom, IsMovedTo}
@@ -123,6 +123,7 @@ module _ (f : FunctionValue) (h : is_function f ≡ true) where
     moved_from (FromPattern j ∷ ss) h = (tt, moved_from ss h.1)
     moved_from (FromResident j g ∷ ss) h = (tt, moved_from ss h.1)
     moved_from (FromPlace p ∷ ss) h = (tt, moved_from ss h.1)
+    moved_from (FromFar load array js ∷ ss) h = absurd h.0
     moved_from (FromSlot k ∷ ss) h = (tt, moved_from ss h.1)
 
     pub moved_to : (ts : List Target) → Each (IsToSlot count (size_of_slot f.vars)) ts → Each (IsMovedTo count (size_of_slot f.vars)) ts

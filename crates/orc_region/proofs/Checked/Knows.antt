@@ -36,7 +36,7 @@ use Rattle.orc_plan.specs.declared.steps.Item.TheVariants as item
 use Rattle.orc_frame.specs.Layout.{layout_of}
 use Rattle.orc_frame.proofs.Apart.{length-acc_sizes_of}
 use Rattle.orc_program.specs.declared.program.Pattern.{Pattern}
-use Rattle.orc_region.specs.Code.{Action, plain_number, known_number, known_second, count_by, Source, FromArray, FromPattern, FromResident, FromPlace, FromSlot, Target, ToArray, ToSum, ToResident, ToPlace, ToSlot, slot_place, seats_of, source_of, target_of, IsAction, AreActions, IsLoaded, IsStored, IsReady, patterns_in, first_register, second_register, at_pointer, unaligned, action_code, IsMoved, last_place}
+use Rattle.orc_region.specs.Code.{Action, plain_number, known_number, known_second, count_by, Source, FromArray, FromPattern, FromResident, FromPlace, FromSlot, FromFar, Target, ToArray, ToSum, ToResident, ToPlace, ToSlot, slot_place, seats_of, source_of, target_of, IsAction, AreActions, IsLoaded, IsStored, IsReady, patterns_in, first_register, second_register, at_pointer, unaligned, action_code, IsMoved, last_place}
 use Rattle.orc_region.proofs.Block.Cells.{Numbers, IsOf, IsTo, IsFrom, IsBeside, IsNumber, IsCounted, AreFrom, IsMade, AreTo, IsKept, IsKnown, AllKnown, live_target, live_targets, live_act, no_values}
 use Rattle.orc_region.proofs.Block.Emulated.{IsCells, IsSum, meant}
 use Rattle.orc_region.proofs.Block.Elements.{IsRead, AreRead, Follows, IsWritten, AreWritten, IsMeant, AreMeant}
@@ -96,6 +96,7 @@ module _ (f : FunctionValue) (at : List ℕ) where
   is_read temps steps op prefix position o (FromPattern j) h = h.0
   is_read temps steps op prefix position o (FromResident j g) h = h.0
   is_read temps steps op prefix position o (FromPlace a) h = (h.0, h.1, h.2, h.4)
+  is_read temps steps op prefix position o (FromFar load array js) h = absurd h
   is_read temps steps op prefix position o (FromSlot k) h = (h.0, h.1, h.2, h.4)
 
   are_read : (temps : List ℕ) (steps : List Step) (op : Op) (prefix : ℕ) (os : List Operand) (ss : List Source) → AreSourced f at temps steps op prefix os ss → AreRead f (number_of f) (StandsIn at (temps, steps)) op prefix os ss
@@ -206,6 +207,7 @@ module _ (f : FunctionValue) (at : List ℕ) (call : Call) (n : ℕ) (base : ℕ
   is_from live temps steps sizes op prefix position o (FromPattern j) e h = (h.1, ap period h.2 ∙ e)
   is_from live temps steps sizes op prefix position o (FromResident j g) e h = (h.1, ap period h.2 ∙ e, h.3, h.4)
   is_from live temps steps sizes op prefix position o (FromPlace a) e h = (h.6, sizes h.0 a h.4 ∙ h.3)
+  is_from live temps steps sizes op prefix position o (FromFar load array js) e h = absurd h
   is_from live temps steps sizes op prefix position o (FromSlot k) e h = (h.6, sizes h.0 (slot_place k) h.4 ∙ h.3)
 
   is_beside : (temps : List ℕ) (steps : List Step) (op : Op) (prefix : ℕ) (o : Operand) (s : Source) → IsSourced f at temps steps op prefix 1 o s → IsBeside n base (size_of_slot f.vars) P Of op s
@@ -213,6 +215,7 @@ module _ (f : FunctionValue) (at : List ℕ) (call : Call) (n : ℕ) (base : ℕ
   is_beside temps steps op prefix o (FromPattern j) h = tt
   is_beside temps steps op prefix o (FromResident j g) h = tt
   is_beside temps steps op prefix o (FromPlace a) h = h.5 refl
+  is_beside temps steps op prefix o (FromFar load array js) h = absurd h
   is_beside temps steps op prefix o (FromSlot k) h = h.5 refl
 
   are_from : (live : ℕ → ℕ) (temps : List ℕ) (steps : List Step) → AreSized f (StandsIn at (temps, steps)) live → (op : Op) (prefix : ℕ) (os : List Operand) (ss : List Source) → AreSourced f at temps steps op prefix os ss → AreFrom n base (size_of_slot f.vars) P Of live op prefix ss
@@ -283,6 +286,7 @@ module _ (f : FunctionValue) (at : List ℕ) (call : Call) (n : ℕ) (base : ℕ
   kept ts (FromPattern j ∷ ss) h = (tt, kept ts ss h.1)
   kept ts (FromResident j g ∷ ss) h = (tt, kept ts ss h.1)
   kept ts (FromPlace a ∷ ss) h = (h.0, kept ts ss h.1)
+  kept ts (FromFar load array js ∷ ss) h = (tt, kept ts ss h.1)
   kept ts (FromSlot k ∷ ss) h = (tt, kept ts ss h.1)
 
   abbrev Counted : Option ℕ → List Source → Type 0
@@ -370,6 +374,7 @@ module _ (f : FunctionValue) (h : is_function f ≡ true) (at : List ℕ) (count
   from_slot temps steps op prefix position o (FromPattern j) d = let l = patterns_few f h in let m = d.1 in omega (arith, l, m)
   from_slot temps steps op prefix position o (FromResident j g) d = let r = d.4 in omega (arith, r)
   from_slot temps steps op prefix position o (FromPlace a) d = d.6
+  from_slot temps steps op prefix position o (FromFar load array js) d = absurd d
   from_slot temps steps op prefix position o (FromSlot k) d = d.6
 
   to_slot : (op : Op) (prefix position : ℕ) (o : Operand) (t : Target) → IsTargeted f op prefix position o t → IsToSlot count (size_of_slot f.vars) t
@@ -395,6 +400,7 @@ module _ (f : FunctionValue) (h : is_function f ≡ true) (at : List ℕ) (count
   from_loaded temps steps op prefix position o (FromPattern j) d = subst (λ (ps : List Pattern). j < length ps) (sym (patterns_are f)) d.1
   from_loaded temps steps op prefix position o (FromResident j g) d = let r = d.4 in omega (arith, r)
   from_loaded temps steps op prefix position o (FromPlace a) d = d.6
+  from_loaded temps steps op prefix position o (FromFar load array js) d = absurd d
   from_loaded temps steps op prefix position o (FromSlot k) d = d.6
 
   from_same : (temps : List ℕ) (steps : List Step) (op : Op) (prefix position : ℕ) (o : Operand) (s : Source) → IsSourced f at temps steps op prefix position o s → SameFrom sizes (size_of_slot f.vars) s
@@ -402,6 +408,7 @@ module _ (f : FunctionValue) (h : is_function f ≡ true) (at : List ℕ) (count
   from_same temps steps op prefix position o (FromPattern j) d = tt
   from_same temps steps op prefix position o (FromResident j g) d = tt
   from_same temps steps op prefix position o (FromPlace a) d = tt
+  from_same temps steps op prefix position o (FromFar load array js) d = tt
   from_same temps steps op prefix position o (FromSlot k) d = tt
 
   to_stored : (op : Op) (prefix position : ℕ) (o : Operand) (t : Target) → IsTargeted f op prefix position o t → IsStored (layout_of f) sizes count t
@@ -447,6 +454,7 @@ module _ (f : FunctionValue) (h : is_function f ≡ true) (at : List ℕ) (count
   from_cost temps steps op prefix position o (FromPattern j) d = some_cost o
   from_cost temps steps op prefix position o (FromResident j g) d = some_cost o
   from_cost temps steps op prefix position o (FromPlace a) d = some_cost o
+  from_cost temps steps op prefix position o (FromFar load array js) d = absurd d
   from_cost temps steps op prefix position o (FromSlot k) d = some_cost o
 
   -- the cost of a result, by the kind of its variable

@@ -1,12 +1,13 @@
 -- The steps of actions: two instructions for each array that is read or written and for each sum of the frame, one for each other source and for a result that goes to a spill slot, none for one that goes to a register of its own, and a rule.
 use Rattle.std.proofs.Common.{ℕ, ◌+◌, List, [], ◌∷◌, length}
-use Rattle.orc_region.specs.Code.{Action, Source, FromArray, FromPattern, FromResident, FromPlace, FromSlot, Target, ToArray, ToSum, ToResident, ToPlace, ToSlot}
+use Rattle.orc_region.specs.Code.{Action, Source, FromArray, FromPattern, FromResident, FromPlace, FromSlot, FromFar, Target, ToArray, ToSum, ToResident, ToPlace, ToSlot}
 
 abbrev pub from_weight : Source → ℕ
 from_weight (FromArray k) = 2
 from_weight (FromPattern j) = 1
 from_weight (FromResident j g) = 1
 from_weight (FromPlace p) = 1
+from_weight (FromFar load array js) = 1
 from_weight (FromSlot k) = 1
 
 abbrev pub from_weights : List Source → ℕ

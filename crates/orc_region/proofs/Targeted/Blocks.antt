@@ -1,12 +1,18 @@
 -- Blocks and turns have instructions of their target alone: those of the rules are the target's, and all others are of SSE2.
-use Rattle.std.proofs.Common.{◌≡◌, ℕ, zero, suc, ◌+◌, ◌*◌, ◌==◌, Bool, true, false, if◌then◌else◌, pos, List, [], ◌∷◌, ◌++◌, map, refl, sym, subst}
+use Rattle.std.proofs.Common.{ℕ, zero, suc, ◌+◌, ◌-◌, ◌*◌, ◌==◌, Bool, true, false, if◌then◌else◌, pos, List, [], ◌∷◌, ◌++◌, map, refl, sym, subst}
 use Rattle.x86_ins.specs.declared.ins.AluOp.TheVariants.{Add, Sub}
 use Rattle.x86_ins.specs.declared.ins.Ins.{Ins}
-use Rattle.x86_ins.specs.declared.ins.Ins.TheVariants.{VecLoad, VecStore, FromGpr, ToGpr, Load8, Load16, Store8, Store16, AluImm}
+use Rattle.x86_ins.specs.declared.ins.Ins.TheVariants.{Vec, VecLoad, VecStore, FromGpr, ToGpr, Load8, Load16, Store8, Store16, AluImm}
 use Rattle.x86_ins.specs.declared.ins.MoveOp.TheVariants.{Movdqu, Movq, Movd}
+use Rattle.x86_ins.specs.declared.ins.VecOp.TheVariants.{Movdqa}
 use Rattle.x86_ins.specs.Renaming.{renamed, renaming}
 use Rattle.x86_ins.specs.Way.{Each}
-use Rattle.x86_flow.specs.Moves.{away, load_far_code, store_far_code, aligned_store_far_code, store_either_code}
+use Rattle.x86_flow.specs.Moves.{away, load_far_code, store_far_code, aligned_store_far_code}
+use Rattle.orc_ops.specs.declared.far.Far.{Far}
+use Rattle.orc_ops.specs.declared.far.Far.TheVariants.{Loadoffb, Loadoffw, Loadoffl, Loadupdb, Loadupib, Ldresnearb, Ldresnearl, Ldreslinb, Ldreslinl}
+use Rattle.orc_resample.specs.declared.plan.FarPlan.{FarPlan}
+use Rattle.orc_resample.specs.declared.turn.FarSource.{FarSource}
+use Rattle.orc_resample.specs.Code.{plan_of, row_code, start_code, element_of, elements_code, gather_with, enter_code, leave_code, bring_code}
 use Rattle.orc_ops.specs.declared.target.Target.{Target as CodeTarget}
 use Rattle.orc_plan.specs.declared.steps.Step.{Step}
 use Rattle.orc_plan.specs.Lowered.{steps_of}
@@ -16,7 +22,7 @@ use Rattle.orc_program.specs.Slots.{size_of_slot}
 use Rattle.orc_frame.specs.Layout.{pattern_slot, sum_slot}
 use Rattle.sse_laws.specs.Targets.{IsCodeFor}
 use Rattle.sse_laws.proofs.Targeted.{behind_for, either_for, renamed_for}
-use Rattle.orc_region.specs.Code.{Action, Source, FromArray, FromPattern, FromResident, FromPlace, FromSlot, Target, ToArray, ToSum, ToResident, ToPlace, ToSlot, AreActions, AreBlocks, IsBlocksTurn, IsBlock, IsTurnOf, pointer, far_by, aligned_first, first_register, second_register, rule_register, rule_code, source_far_code, brought, sources_far_code, sum_code, result_far_code, results_far_code, own_names, spares_second, action_names, action_far_code, named_code, actions_far_code, advance_code, Seats, seats_of, last_place, is_resident, resident_register, resident_code, residents_code, cleared, loaded, resident_loads_code, sum_store_code, sum_stores_code}
+use Rattle.orc_region.specs.Code.{Ahead, Action, Source, FromArray, FromPattern, FromResident, FromPlace, FromSlot, FromFar, Target, ToArray, ToSum, ToResident, ToPlace, ToSlot, AreActions, AreBlocks, IsBlocksTurn, IsBlock, IsTurnOf, pointer, far_by, far_source, from_zero_code, aligned_first, first_register, second_register, rule_register, rule_code, source_far_code, brought, sources_far_code, sum_code, result_far_code, results_far_code, own_names, spares_second, action_names, action_far_code, named_code, actions_far_code, advance_code, Seats, seats_of, last_place, is_resident, resident_register, resident_code, residents_code, cleared, loaded, resident_loads_code, sum_store_code, sum_stores_code}
 
 module _ (t : CodeTarget) where
   -- ---- one action
@@ -41,12 +47,63 @@ module _ (t : CodeTarget) where
       go false false false true = refl
       go false false false false = refl
 
-  module _ (count : ℕ) (size far : ℕ → ℕ) (aligned : ℕ → Bool) where
+  -- ---- far loads
+
+  row_for : (width a : ℕ) → IsCodeFor t (row_code width a)
+  row_for width a = go (width == 1) (width == 2) (width == 4) (width == 8)
+    where
+      go : (one two four eight : Bool) → IsCodeFor t (if one then Load8 a (away a 0) ∷ FromGpr false 0 a ∷ [] else if two then Load16 a (away a 0) ∷ FromGpr false 0 a ∷ [] else if four then VecLoad Movd 0 (away a 0) ∷ [] else if eight then VecLoad Movq 0 (away a 0) ∷ [] else VecLoad Movdqu 0 (away a 0) ∷ [])
+      go true two four eight = refl
+      go false true four eight = refl
+      go false false true eight = refl
+      go false false false true = refl
+      go false false false false = refl
+
+  element_for : (load : Far) (plan : FarPlan) (k : ℕ) → IsCodeFor t (element_of load plan k 0 1 7)
+  element_for Loadoffb plan k = refl
+  element_for Loadoffw plan k = refl
+  element_for Loadoffl plan k = refl
+  element_for Loadupdb plan k = refl
+  element_for Loadupib plan k = refl
+  element_for Ldresnearb plan k = refl
+  element_for Ldresnearl plan k = refl
+  element_for Ldreslinb plan k = refl
+  element_for Ldreslinl plan k = refl
+
+  elements_for : (load : Far) (plan : FarPlan) (count n : ℕ) → IsCodeFor t (elements_code load plan count 0 1 7 n)
+  elements_for load plan count zero = refl
+  elements_for load plan count (suc n) = behind_for t (elements_code load plan count 0 1 7 n) (element_of load plan (count - 1 - n) 0 1 7) (elements_for load plan count n) (element_for load plan (count - 1 - n))
+
+  gather_for : (load : Far) (plan : FarPlan) (count : ℕ) → IsCodeFor t (gather_with load plan count 0 1 7)
+  gather_for Loadoffb plan count = behind_for t (start_code plan 0 0 1) (row_code (count * 1) 0) refl (row_for (count * 1) 0)
+  gather_for Loadoffw plan count = behind_for t (start_code plan 1 0 1) (row_code (count * 2) 0) refl (row_for (count * 2) 0)
+  gather_for Loadoffl plan count = behind_for t (start_code plan 2 0 1) (row_code (count * 4) 0) refl (row_for (count * 4) 0)
+  gather_for Loadupdb plan count = elements_for Loadupdb plan count count
+  gather_for Loadupib plan count = elements_for Loadupib plan count count
+  gather_for Ldresnearb plan count = elements_for Ldresnearb plan count count
+  gather_for Ldresnearl plan count = elements_for Ldresnearl plan count count
+  gather_for Ldreslinb plan count = elements_for Ldreslinb plan count count
+  gather_for Ldreslinl plan count = elements_for Ldreslinl plan count count
+
+  bring_for : (source : FarSource) (count : ℕ) → IsCodeFor t (bring_code source count)
+  bring_for source count =
+      behind_for t (enter_code source) (gather_with source.far (plan_of source) count 0 1 7 ++ leave_code source) refl
+      (behind_for t (gather_with source.far (plan_of source) count 0 1 7) (leave_code source) (gather_for source.far (plan_of source) count) refl)
+
+  from_zero_for : (x : ℕ) → IsCodeFor t (from_zero_code x)
+  from_zero_for x = go (x == 0)
+    where
+      go : (b : Bool) → IsCodeFor t (if b then [] else Vec Movdqa x 0 ∷ [])
+      go true = refl
+      go false = refl
+
+  module _ (count : ℕ) (size : ℕ → ℕ) (far : Ahead) (aligned : ℕ → Bool) where
     source_for : (x : ℕ) (s : Source) → IsCodeFor t (source_far_code count size far x s)
-    source_for x (FromArray k) = load_for (count * size k) x (pointer k) (far k)
+    source_for x (FromArray k) = load_for (count * size k) x (pointer k) (far.bytes k)
     source_for x (FromPattern j) = refl
     source_for x (FromResident j g) = refl
     source_for x (FromPlace p) = refl
+    source_for x (FromFar load array js) = behind_for t (bring_code (far_source far.lowered load array js) count) (from_zero_code x) (bring_for (far_source far.lowered load array js) count) (from_zero_for x)
     source_for x (FromSlot k) = refl
 
     brought_for : (taken : Bool) (code : List Ins) → IsCodeFor t code → IsCodeFor t (brought taken code)
@@ -72,7 +129,7 @@ module _ (t : CodeTarget) where
     result_for : (x : ℕ) (to : Target) → IsCodeFor t (result_far_code count size far aligned x to)
     result_for x (ToArray k) =
         let width = count * size k in
-        either_for t (aligned k) (aligned_store_far_code x (pointer k) (far k)) (store_far_code width x (pointer k) (far k)) refl (store_for width x (pointer k) (far k))
+        either_for t (aligned k) (aligned_store_far_code x (pointer k) (far.bytes k)) (store_far_code width x (pointer k) (far.bytes k)) refl (store_for width x (pointer k) (far.bytes k))
     result_for x (ToSum g) = refl
     result_for x (ToResident g) = refl
     result_for x (ToPlace p) = refl
@@ -107,15 +164,15 @@ module _ (t : CodeTarget) where
   rules_for seats count (s ∷ steps) [] are = absurd are
 
   module _ (seats : Seats) (count : ℕ) (steps : List Step) (size : ℕ → ℕ) (aligned : ℕ → Bool) where
-    actions_for : (far : ℕ → ℕ) (actions : List Action) → AreActions t seats count steps actions → IsCodeFor t (actions_far_code count size far aligned actions)
+    actions_for : (far : Ahead) (actions : List Action) → AreActions t seats count steps actions → IsCodeFor t (actions_far_code count size far aligned actions)
     actions_for far actions are = named_for count size far aligned own_names actions (rules_for seats count steps actions are)
 
     -- ---- turns
 
-    blocks_for : (b : ℕ) (list : List Ins) → AreBlocks (AreActions t seats count steps) count size aligned b list → IsCodeFor t list
-    blocks_for zero list x = subst (IsCodeFor t) (sym x) refl
-    blocks_for (suc b) list x =
-        subst (IsCodeFor t) (sym x.4) (behind_for t x.0 (actions_far_code count size (far_by (b * count) size) aligned x.1) (blocks_for b x.0 x.2) (actions_for (far_by (b * count) size) x.1 x.3))
+    blocks_for : (total b : ℕ) (list : List Ins) → AreBlocks (AreActions t seats count steps) total count size aligned b list → IsCodeFor t list
+    blocks_for total zero list x = subst (IsCodeFor t) (sym x) refl
+    blocks_for total (suc b) list x =
+        subst (IsCodeFor t) (sym x.4) (behind_for t x.0 (actions_far_code count size (far_by ((total - b) * count) (b * count) size) aligned x.1) (blocks_for total b x.0 x.2) (actions_for (far_by ((total - b) * count) (b * count) size) x.1 x.3))
 
     advance_for : (by first n : ℕ) → IsCodeFor t (advance_code size by first n)
     advance_for by first zero = refl
@@ -128,14 +185,14 @@ module _ (t : CodeTarget) where
         let second = advance_code size by 4 sources in
         let last = AluImm Sub 1 (pos by) ∷ [] in
         subst (IsCodeFor t) (sym x.2)
-        (behind_for t x.0 (first ++ (second ++ last)) (blocks_for b x.0 x.1)
+        (behind_for t x.0 (first ++ (second ++ last)) (blocks_for b b x.0 x.1)
         (behind_for t first (second ++ last) (advance_for by 0 dests) (behind_for t second last (advance_for by 4 sources) refl)))
 
 -- ---- of a function
 
 module _ (f : FunctionValue) (t : CodeTarget) (at : List ℕ) where
   pub block_is_for : (count : ℕ) (aligned : Bool) (list : List Ins) → IsBlock f t at count aligned list → IsCodeFor t list
-  block_is_for count aligned list x = subst (IsCodeFor t) (sym x.2) (actions_for t (seats_of f at) count (steps_of f) (size_of_slot f.vars) (aligned_first aligned) (far_by 0 (size_of_slot f.vars)) x.0 x.1)
+  block_is_for count aligned list x = subst (IsCodeFor t) (sym x.2) (actions_for t (seats_of f at) count (steps_of f) (size_of_slot f.vars) (aligned_first aligned) (far_by count 0 (size_of_slot f.vars)) x.0 x.1)
 
   pub turn_is_for : (count : ℕ) (aligned : Bool) (b : ℕ) (list : List Ins) → IsTurnOf f t at count aligned b list → IsCodeFor t list
   turn_is_for count aligned b list x = turn_for t (seats_of f at) count (steps_of f) (size_of_slot f.vars) (aligned_first aligned) (count_of kind.Dest f.vars) (count_of kind.Source f.vars) b list x

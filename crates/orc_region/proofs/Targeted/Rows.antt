@@ -1,5 +1,5 @@
 -- The loops of a row have instructions of their target alone.
-use Rattle.std.proofs.Common.{◌≡◌, ℕ, zero, suc, ◌*◌, ◌<◌, Bool, true, false, ◌&&◌, if◌then◌else◌, nat_lt, List, [], ◌∷◌, ◌++◌, pos, length, refl, sym, subst}
+use Rattle.std.proofs.Common.{◌≡◌, ℕ, zero, suc, ◌*◌, ◌<◌, Bool, true, false, ◌&&◌, if◌then◌else◌, nat_lt, List, [], ◌∷◌, pos, length, refl, sym, subst}
 use Rattle.std.specs.List.{list_all}
 use Rattle.std.proofs.lemmas.Bool.{ltb-true, and_parts, and_from}
 use Rattle.x86_ins.specs.declared.ins.Ins.{Ins}
@@ -13,7 +13,7 @@ use Rattle.orc_program.specs.Program.{FunctionValue}
 use Rattle.orc_program.specs.Slots.{size_of_slot}
 use Rattle.sse_laws.specs.Targets.{is_of, IsCodeFor}
 use Rattle.sse_laws.proofs.Targeted.{behind_for}
-use Rattle.orc_region.specs.Code.{IsElements, IsPart, AreParts, Turns, fills, blocks_of, shift_of, turns_flow, from_first, from_boundary, elements_flow}
+use Rattle.orc_region.specs.Code.{IsElements, IsPart, AreParts, fills, blocks_of, shift_of, turns_flow, from_first, from_boundary, elements_flow}
 use Rattle.orc_region.specs.Regions.{TurnParts, parts_flow, gap_flow, aligned_row, plain_row, whole_row, tested_row, wide_loop, wide_loops}
 use Rattle.orc_region.proofs.Targeted.Blocks.{turn_is_for}
 

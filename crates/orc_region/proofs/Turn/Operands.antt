@@ -18,7 +18,7 @@ use Rattle.orc_frame.specs.Function.{array_operands, subject_of}
 use Rattle.x86_ins.specs.declared.ins.Ins.{Ins}
 use Rattle.x86_flow.specs.Touching.{touch_weight}
 use Rattle.x86_flow.proofs.Plans.{weigh}
-use Rattle.orc_region.specs.Code.{Action, Source, FromArray, FromPattern, FromResident, FromPlace, FromSlot, Target, ToArray, ToSum, ToResident, ToPlace, ToSlot, seats_of, source_of, target_of, IsAction, AreActions, patterns_in, aligned_first, IsTurnOf}
+use Rattle.orc_region.specs.Code.{Action, Source, FromArray, FromPattern, FromResident, FromPlace, FromSlot, FromFar, Target, ToArray, ToSum, ToResident, ToPlace, ToSlot, seats_of, source_of, target_of, IsAction, AreActions, patterns_in, aligned_first, IsTurnOf}
 use Rattle.orc_region.proofs.Checked.Direct.{IsSourced, IsTargeted}
 use Rattle.orc_region.proofs.Checked.Acts.{AllPlaced, AreSourced, AreTargeted, IsPlanned, ArePlanned, are_planned}
 use Rattle.orc_region.proofs.Checked.Several.{IsCount}
@@ -46,6 +46,7 @@ module _ (f : FunctionValue) (at : List ℕ) where
   from_one temps steps op prefix position o (FromPattern j) d = omega arith
   from_one temps steps op prefix position o (FromResident j g) d = omega arith
   from_one temps steps op prefix position o (FromPlace a) d = omega arith
+  from_one temps steps op prefix position o (FromFar load array js) d = absurd d
   from_one temps steps op prefix position o (FromSlot k) d = omega arith
 
   to_one : (op : Op) (prefix position : ℕ) (o : Operand) (t : Target) → IsTargeted f op prefix position o t → to_arrays (t ∷ []) ≤ one o
