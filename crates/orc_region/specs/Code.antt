@@ -166,34 +166,30 @@ rule_register ts r = exchange 0 (first_register ts) (exchange 1 (second_register
 
 -- ---- so many elements at once
 
--- where a block's elements are: so many bytes behind the pointer of each slot, with RCX so much lower than the elements that are left
-pub record Ahead : Type 0 where
-  pub bytes : ℕ → ℕ
-  pub lowered : ℕ
-
--- where a far load's code finds its numbers in the frame, where RCX is so much lower than the elements that are left
+-- where a far load's code finds its numbers in the frame, and the array's elements, so many bytes behind the pointer
 abbrev pub far_source : ℕ → Far → ℕ → List ℕ → FarSource
-far_source lowered load array js = record {
+far_source ahead load array js = record {
   far = load;
   array = pos (row_slot array);
   scalars = record { items = map (λ j. pos (pattern_slot j)) js };
   index = pos index_slot;
   work = pos work_slot;
   block = pos block_slot;
-  lowered = lowered;
+  pointer = pointer array;
+  ahead = pos ahead;
 }
 
 -- its values stand in XMM0, and go on to register x
 abbrev pub from_zero_code : ℕ → List Ins
 from_zero_code x = if x == 0 then [] else Vec Movdqa x 0 ∷ []
 
--- a source goes to a vector register; the cells of slot k are `far.bytes k` bytes behind its pointer
-abbrev pub source_far_code : ℕ → (ℕ → ℕ) → Ahead → ℕ → Source → List Ins
-source_far_code count size far x (FromArray k) = load_far_code (count * size k) x (pointer k) (far.bytes k)
+-- a source goes to a vector register; the cells of slot k are `far k` bytes behind its pointer
+abbrev pub source_far_code : ℕ → (ℕ → ℕ) → (ℕ → ℕ) → ℕ → Source → List Ins
+source_far_code count size far x (FromArray k) = load_far_code (count * size k) x (pointer k) (far k)
 source_far_code count size far x (FromPattern j) = VecLoad Movdqu x (away 4 (pattern_slot j)) ∷ []
 source_far_code count size far x (FromResident j g) = Vec Movdqa x (resident_register g) ∷ []
 source_far_code count size far x (FromPlace p) = Vec Movdqa x (place_register p) ∷ []
-source_far_code count size far x (FromFar load array js) = bring_code (far_source far.lowered load array js) count ++ from_zero_code x
+source_far_code count size far x (FromFar load array js) = bring_code (far_source (far array) load array js) count ++ from_zero_code x
 source_far_code count size far x (FromSlot k) = VecLoad Movdqu x (away 4 (spill_slot k)) ∷ []
 
 -- or nothing, where it is there already or isn't needed
@@ -202,7 +198,7 @@ brought true code = []
 brought false code = code
 
 -- the first source goes to register x, and the second to register y, but for those that nothing has to bring
-abbrev pub sources_far_code : Bool → Bool → ℕ → (ℕ → ℕ) → Ahead → ℕ → ℕ → List Source → List Ins
+abbrev pub sources_far_code : Bool → Bool → ℕ → (ℕ → ℕ) → (ℕ → ℕ) → ℕ → ℕ → List Source → List Ins
 sources_far_code one two count size far x y [] = []
 sources_far_code one two count size far x y (s ∷ []) = brought one (source_far_code count size far x s)
 sources_far_code one two count size far x y (s ∷ t ∷ more) = brought one (source_far_code count size far x s) ++ brought two (source_far_code count size far y t)
@@ -217,15 +213,15 @@ abbrev pub rule_code : Action → List Ins
 rule_code a = map (renamed (rule_register a.to)) a.rule
 
 -- a result comes from a vector register, for some slots by aligned stores, and a running sum of the frame from XMM2; what goes to a register of its own is there
-abbrev pub result_far_code : ℕ → (ℕ → ℕ) → Ahead → (ℕ → Bool) → ℕ → Target → List Ins
-result_far_code count size far aligned x (ToArray k) = store_either_code (aligned k) (count * size k) x (pointer k) (far.bytes k)
+abbrev pub result_far_code : ℕ → (ℕ → ℕ) → (ℕ → ℕ) → (ℕ → Bool) → ℕ → Target → List Ins
+result_far_code count size far aligned x (ToArray k) = store_either_code (aligned k) (count * size k) x (pointer k) (far k)
 result_far_code count size far aligned x (ToSum g) = VecStore Movdqu 2 (away 4 (sum_slot g)) ∷ []
 result_far_code count size far aligned x (ToResident g) = []
 result_far_code count size far aligned x (ToPlace p) = []
 result_far_code count size far aligned x (ToSlot k) = VecStore Movdqu x (away 4 (spill_slot k)) ∷ []
 
 -- the first result comes from XMM0, and after it a second one from XMM1
-abbrev pub results_far_code : ℕ → (ℕ → ℕ) → Ahead → (ℕ → Bool) → List Target → List Ins
+abbrev pub results_far_code : ℕ → (ℕ → ℕ) → (ℕ → ℕ) → (ℕ → Bool) → List Target → List Ins
 results_far_code count size far aligned [] = []
 results_far_code count size far aligned (t ∷ []) = result_far_code count size far aligned 0 t
 results_far_code count size far aligned (t ∷ u ∷ more) = result_far_code count size far aligned 0 t ++ result_far_code count size far aligned 1 u
@@ -234,7 +230,7 @@ results_far_code count size far aligned (t ∷ u ∷ more) = result_far_code cou
 abbrev pub spares_second : Action → Bool
 spares_second a = is_some a.by || a.takes_second
 
-abbrev pub action_far_code : ℕ → (ℕ → ℕ) → Ahead → (ℕ → Bool) → Action → List Ins
+abbrev pub action_far_code : ℕ → (ℕ → ℕ) → (ℕ → ℕ) → (ℕ → Bool) → Action → List Ins
 action_far_code count size far aligned a =
     sources_far_code a.takes_first (spares_second a) count size far (first_register a.to) (second_register a.to) a.sources ++ (sum_code a.to ++ (rule_code a ++ results_far_code count size far aligned a.to))
 
@@ -265,24 +261,24 @@ source_names one two x y (s ∷ t ∷ more) names = take_names two y t (take_nam
 abbrev pub action_names : Action → List ℕ → List ℕ
 action_names a = source_names a.takes_first a.takes_second (first_register a.to) (second_register a.to) a.sources
 
-abbrev pub named_code : List ℕ → ℕ → (ℕ → ℕ) → Ahead → (ℕ → Bool) → List Action → List Ins
+abbrev pub named_code : List ℕ → ℕ → (ℕ → ℕ) → (ℕ → ℕ) → (ℕ → Bool) → List Action → List Ins
 named_code names count size far aligned [] = []
 named_code names count size far aligned (a ∷ rest) =
     map (renamed (renaming (action_names a names))) (action_far_code count size far aligned a) ++ named_code (action_names a names) count size far aligned rest
 
-abbrev pub actions_far_code : ℕ → (ℕ → ℕ) → Ahead → (ℕ → Bool) → List Action → List Ins
+abbrev pub actions_far_code : ℕ → (ℕ → ℕ) → (ℕ → ℕ) → (ℕ → Bool) → List Action → List Ins
 actions_far_code = named_code own_names
 
 -- the same where the cells are at the pointers
-abbrev pub at_pointer : Ahead
-at_pointer = record { bytes = λ k. 0; lowered = 0 }
+abbrev pub at_pointer : ℕ → ℕ
+at_pointer k = 0
 
 abbrev pub unaligned : ℕ → Bool
 unaligned k = false
 
--- where they are so many elements behind the pointers, and RCX is lower by so many than the elements that are left
-abbrev pub far_by : ℕ → ℕ → (ℕ → ℕ) → Ahead
-far_by lowered first size = record { bytes = λ k. first * size k; lowered = lowered }
+-- where they are so many elements behind the pointers
+abbrev pub far_by : ℕ → (ℕ → ℕ) → ℕ → ℕ
+far_by first size k = first * size k
 
 -- aligned stores for the first dest alone, or for none
 abbrev pub aligned_first : Bool → ℕ → Bool
@@ -508,12 +504,12 @@ AddsRule target count op by to old new = (rule : List Ins) × IsRule count op by
 -- `size` has the bytes of an element of each array slot
 abbrev pub AddsAction : Seats → (ℕ → ℕ) → Span → Step → Bool → Bool → List Ins → List Ins → Type 0
 AddsAction seats size span step one two old new =
-    (a : Action) × IsAction span.target seats span.count step a × (a.takes_first ≡ one) × (a.takes_second ≡ two) × (new ≡ old ++ action_far_code span.count size (far_by span.lowered span.first size) (aligned_first span.aligned) a)
+    (a : Action) × IsAction span.target seats span.count step a × (a.takes_first ≡ one) × (a.takes_second ≡ two) × (new ≡ old ++ action_far_code span.count size (far_by span.first size) (aligned_first span.aligned) a)
 
 -- under these names of the vector registers
 abbrev pub AddsNamed : List ℕ → Seats → (ℕ → ℕ) → Span → List Step → List Ins → List Ins → Type 0
 AddsNamed names seats size span steps old new =
-    (actions : List Action) × AreActions span.target seats span.count steps actions × (new ≡ old ++ named_code names span.count size (far_by span.lowered span.first size) (aligned_first span.aligned) actions)
+    (actions : List Action) × AreActions span.target seats span.count steps actions × (new ≡ old ++ named_code names span.count size (far_by span.first size) (aligned_first span.aligned) actions)
 
 abbrev pub AddsActions : Seats → (ℕ → ℕ) → Span → List Step → List Ins → List Ins → Type 0
 AddsActions = AddsNamed own_names
@@ -522,16 +518,16 @@ AddsActions = AddsNamed own_names
 abbrev pub IsBlockBy : Seats → List ℕ → List Step → Span → List Ins → Type 0
 IsBlockBy seats sizes steps span list = AddsActions seats (slice_index sizes) span steps [] list
 
--- so many blocks of `count` elements each, one behind another, with the pointers at the first; each is of actions of which Are holds. They are the first ones of a turn of `total` blocks: where the elements from a block on are left, RCX is lower by those of the turn among them
-abbrev pub AreBlocks : (List Action → Type 0) → ℕ → ℕ → (ℕ → ℕ) → (ℕ → Bool) → ℕ → List Ins → Type 0
-AreBlocks Are total count size aligned zero list = list ≡ []
-AreBlocks Are total count size aligned (suc b) list =
-    (before : List Ins) × (actions : List Action) × AreBlocks Are total count size aligned b before × Are actions × (list ≡ before ++ actions_far_code count size (far_by ((total - b) * count) (b * count) size) aligned actions)
+-- so many blocks of `count` elements each, one behind another, with the pointers at the first; each is of actions of which Are holds
+abbrev pub AreBlocks : (List Action → Type 0) → ℕ → (ℕ → ℕ) → (ℕ → Bool) → ℕ → List Ins → Type 0
+AreBlocks Are count size aligned zero list = list ≡ []
+AreBlocks Are count size aligned (suc b) list =
+    (before : List Ins) × (actions : List Action) × AreBlocks Are count size aligned b before × Are actions × (list ≡ before ++ actions_far_code count size (far_by (b * count) size) aligned actions)
 
 -- a turn of so many blocks: the pointers of dests and of sources and the counter go on once
 abbrev pub IsBlocksTurn : (List Action → Type 0) → ℕ → (ℕ → ℕ) → (ℕ → Bool) → ℕ → ℕ → ℕ → List Ins → Type 0
 IsBlocksTurn Are count size aligned dests sources b list =
-    (blocks : List Ins) × AreBlocks Are b count size aligned b blocks × (list ≡ blocks ++ (advance_code size (b * count) 0 dests ++ (advance_code size (b * count) 4 sources ++ AluImm Sub 1 (pos (b * count)) ∷ [])))
+    (blocks : List Ins) × AreBlocks Are count size aligned b blocks × (list ≡ blocks ++ (advance_code size (b * count) 0 dests ++ (advance_code size (b * count) 4 sources ++ AluImm Sub 1 (pos (b * count)) ∷ [])))
 
 -- a turn of blocks of steps with these seats, by the sizes of array slots
 abbrev pub IsTurnBy : Seats → List ℕ → List Step → ℕ → ℕ → Span → ℕ → List Ins → Type 0
@@ -539,12 +535,12 @@ IsTurnBy seats sizes steps dests sources span = IsBlocksTurn (AreActions span.ta
 
 -- so many elements from the one that the pointers are at, by rules for the target, with aligned stores to the first dest or without
 abbrev pub span_of : CodeTarget → ℕ → Bool → Span
-span_of target count aligned = record { first = 0; lowered = count; count = count; aligned = aligned; target = target }
+span_of target count aligned = record { first = 0; count = count; aligned = aligned; target = target }
 
 -- a block for so many elements of a function's code for the target, by these places of its values, with aligned stores to the first dest or without
 abbrev pub IsBlock : FunctionValue → CodeTarget → List ℕ → ℕ → Bool → List Ins → Type 0
 IsBlock f target at count aligned list =
-    (actions : List Action) × AreActions target (seats_of f at) count (steps_of f) actions × (list ≡ actions_far_code count (size_of_slot f.vars) (far_by count 0 (size_of_slot f.vars)) (aligned_first aligned) actions)
+    (actions : List Action) × AreActions target (seats_of f at) count (steps_of f) actions × (list ≡ actions_far_code count (size_of_slot f.vars) (far_by 0 (size_of_slot f.vars)) (aligned_first aligned) actions)
 
 -- a turn of so many blocks of a function's code, each of `count` elements, with aligned stores to the first dest or without
 abbrev pub IsTurnOf : FunctionValue → CodeTarget → List ℕ → ℕ → Bool → ℕ → List Ins → Type 0

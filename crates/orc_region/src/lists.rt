@@ -59,7 +59,7 @@ fn load_cells(
 ) -> Result<(), AllocError>
     requires moved { IsMoved (slice_index setting.now.sizes.now) setting.now.span.count slot }
     requires near { setting.now.span.first ≤ 64 }
-    ensures { OnOk result (list.new ≡ list.old ++ load_far_code (setting.now.span.count * slice_index setting.now.sizes.now slot) dst (pointer slot) ((far_by setting.now.span.lowered setting.now.span.first (slice_index setting.now.sizes.now)).bytes slot)) }
+    ensures { OnOk result (list.new ≡ list.old ++ load_far_code (setting.now.span.count * slice_index setting.now.sizes.now slot) dst (pointer slot) (far_by setting.now.span.first (slice_index setting.now.sizes.now) slot)) }
 {
     let size = setting.sizes[slot] as usize;
     push_load_far(
@@ -80,7 +80,7 @@ fn store_cells(
 ) -> Result<(), AllocError>
     requires moved { IsMoved (slice_index setting.now.sizes.now) setting.now.span.count slot }
     requires near { setting.now.span.first ≤ 64 }
-    ensures { OnOk result (list.new ≡ list.old ++ store_either_code (aligned_first setting.now.span.aligned slot) (setting.now.span.count * slice_index setting.now.sizes.now slot) src (pointer slot) ((far_by setting.now.span.lowered setting.now.span.first (slice_index setting.now.sizes.now)).bytes slot)) }
+    ensures { OnOk result (list.new ≡ list.old ++ store_either_code (aligned_first setting.now.span.aligned slot) (setting.now.span.count * slice_index setting.now.sizes.now slot) src (pointer slot) (far_by setting.now.span.first (slice_index setting.now.sizes.now) slot)) }
 {
     let span = setting.span;
     let size = setting.sizes[slot] as usize;
@@ -133,7 +133,7 @@ fn push_pattern(
 ) -> Result<(), AllocError>
     requires layout { IsLayout setting.now.layout.now }
     requires loaded { IsLoaded setting.now.layout.now (slice_index setting.now.sizes.now) setting.now.span.count (from_pattern (seats_in setting.now.seats) pattern) }
-    ensures { OnOk result (list.new ≡ list.old ++ source_far_code setting.now.span.count (slice_index setting.now.sizes.now) (far_by setting.now.span.lowered setting.now.span.first (slice_index setting.now.sizes.now)) dst (from_pattern (seats_in setting.now.seats) pattern)) }
+    ensures { OnOk result (list.new ≡ list.old ++ source_far_code setting.now.span.count (slice_index setting.now.sizes.now) (far_by setting.now.span.first (slice_index setting.now.sizes.now)) dst (from_pattern (seats_in setting.now.seats) pattern)) }
 {
     let number = pattern_number(setting.seats.sums, pattern);
     if is_resident(setting.seats.places, number) {
@@ -157,7 +157,7 @@ fn push_source(
     requires layout { IsLayout setting.now.layout.now }
     requires loaded { IsLoaded setting.now.layout.now (slice_index setting.now.sizes.now) setting.now.span.count (source_of (seats_in setting.now.seats) item) }
     requires near { setting.now.span.first ≤ 64 }
-    ensures { OnOk result (list.new ≡ list.old ++ source_far_code setting.now.span.count (slice_index setting.now.sizes.now) (far_by setting.now.span.lowered setting.now.span.first (slice_index setting.now.sizes.now)) dst (source_of (seats_in setting.now.seats) item)) }
+    ensures { OnOk result (list.new ≡ list.old ++ source_far_code setting.now.span.count (slice_index setting.now.sizes.now) (far_by setting.now.span.first (slice_index setting.now.sizes.now)) dst (source_of (seats_in setting.now.seats) item)) }
 {
     match item {
         Item::Value(value) => {
@@ -189,7 +189,7 @@ fn push_brought(
     requires layout { IsLayout setting.now.layout.now }
     requires loaded { IsLoaded setting.now.layout.now (slice_index setting.now.sizes.now) setting.now.span.count (source_of (seats_in setting.now.seats) item) }
     requires near { setting.now.span.first ≤ 64 }
-    ensures { OnOk result (list.new ≡ list.old ++ brought taken (source_far_code setting.now.span.count (slice_index setting.now.sizes.now) (far_by setting.now.span.lowered setting.now.span.first (slice_index setting.now.sizes.now)) dst (source_of (seats_in setting.now.seats) item))) }
+    ensures { OnOk result (list.new ≡ list.old ++ brought taken (source_far_code setting.now.span.count (slice_index setting.now.sizes.now) (far_by setting.now.span.first (slice_index setting.now.sizes.now)) dst (source_of (seats_in setting.now.seats) item))) }
 {
     if taken {
         Ok(())
@@ -209,7 +209,7 @@ fn push_sources(
     requires layout { IsLayout setting.now.layout.now }
     requires loaded { Each (IsLoaded setting.now.layout.now (slice_index setting.now.sizes.now) setting.now.span.count) (map (source_of (seats_in setting.now.seats)) sources.now) }
     requires near { setting.now.span.first ≤ 64 }
-    ensures { OnOk result (list.new ≡ list.old ++ sources_far_code takes.first takes.second setting.now.span.count (slice_index setting.now.sizes.now) (far_by setting.now.span.lowered setting.now.span.first (slice_index setting.now.sizes.now)) homes.now.first homes.now.second (map (source_of (seats_in setting.now.seats)) sources.now)) }
+    ensures { OnOk result (list.new ≡ list.old ++ sources_far_code takes.first takes.second setting.now.span.count (slice_index setting.now.sizes.now) (far_by setting.now.span.first (slice_index setting.now.sizes.now)) homes.now.first homes.now.second (map (source_of (seats_in setting.now.seats)) sources.now)) }
 {
     let (one, two) = (takes.first, takes.second);
     match sources {
@@ -251,7 +251,7 @@ fn push_result(
     requires layout { IsLayout setting.now.layout.now }
     requires stored { IsStored setting.now.layout.now (slice_index setting.now.sizes.now) setting.now.span.count (target_of setting.now.seats.places.now item) }
     requires near { setting.now.span.first ≤ 64 }
-    ensures { OnOk result (list.new ≡ list.old ++ result_far_code setting.now.span.count (slice_index setting.now.sizes.now) (far_by setting.now.span.lowered setting.now.span.first (slice_index setting.now.sizes.now)) (aligned_first setting.now.span.aligned) src (target_of setting.now.seats.places.now item)) }
+    ensures { OnOk result (list.new ≡ list.old ++ result_far_code setting.now.span.count (slice_index setting.now.sizes.now) (far_by setting.now.span.first (slice_index setting.now.sizes.now)) (aligned_first setting.now.span.aligned) src (target_of setting.now.seats.places.now item)) }
 {
     match item {
         Item::Value(value) => {
@@ -283,7 +283,7 @@ fn push_results(
     requires layout { IsLayout setting.now.layout.now }
     requires stored { Each (IsStored setting.now.layout.now (slice_index setting.now.sizes.now) setting.now.span.count) (map (target_of setting.now.seats.places.now) results.now) }
     requires near { setting.now.span.first ≤ 64 }
-    ensures { OnOk result (list.new ≡ list.old ++ results_far_code setting.now.span.count (slice_index setting.now.sizes.now) (far_by setting.now.span.lowered setting.now.span.first (slice_index setting.now.sizes.now)) (aligned_first setting.now.span.aligned) (map (target_of setting.now.seats.places.now) results.now)) }
+    ensures { OnOk result (list.new ≡ list.old ++ results_far_code setting.now.span.count (slice_index setting.now.sizes.now) (far_by setting.now.span.first (slice_index setting.now.sizes.now)) (aligned_first setting.now.span.aligned) (map (target_of setting.now.seats.places.now) results.now)) }
 {
     match results {
         [] => Ok(()),

@@ -9,8 +9,6 @@ use orc_ops::Target;
 pub struct Span {
     /// The number of the first element.
     pub first: usize,
-    /// By how many the counter is lower than the elements that are left from the first one on.
-    pub lowered: usize,
     /// How many elements there are: 1, or as many as are done at once.
     pub count: usize,
     /// Whether the first dest's cells are stored at a multiple of 16.

@@ -93,7 +93,7 @@ fn blocks_list(
     requires ready { All (IsReady layout.now (seats_with layout.now places.now) (slice_index core.now.sizes) span.count) core.now.steps }
     requires count { span.count ≤ 16 }
     requires blocks { blocks ≤ 4 }
-    ensures { IfOk result (AreBlocks (AreActions span.target (seats_with layout.now places.now) span.count core.now.steps) blocks span.count (slice_index core.now.sizes) (aligned_first span.aligned) blocks) }
+    ensures { IfOk result (AreBlocks (AreActions span.target (seats_with layout.now places.now) span.count core.now.steps) span.count (slice_index core.now.sizes) (aligned_first span.aligned) blocks) }
 {
     let mut list = InsList::new(alloc);
     for k in 0..blocks {
@@ -103,7 +103,6 @@ fn blocks_list(
             layout,
             span: Span {
                 first: k * span.count,
-                lowered: (blocks - k) * span.count,
                 ..span
             },
         };
@@ -155,7 +154,6 @@ fn turn(
 {
     let span = Span {
         first: 0,
-        lowered: count,
         count,
         aligned,
         target: making.target,
@@ -179,7 +177,6 @@ fn block(alloc: Global, making: &Making, count: usize, aligned: bool) -> Result<
 {
     let span = Span {
         first: 0,
-        lowered: count,
         count,
         aligned,
         target: making.target,

@@ -34,7 +34,7 @@ use Rattle.orc_program.specs.Meaning.{sub_lane, pack}
 use Rattle.orc_frame.specs.Layout.{pattern_slot, sum_slot, frame_size, spill_slot}
 use Rattle.orc_program.specs.Need.{registers}
 use Rattle.orc_frame.specs.Parts.{InChanged}
-use Rattle.orc_region.specs.Code.{Ahead, Action, spares_second, IsRule, Source, FromArray, FromPattern, FromResident, FromPlace, FromSlot, FromFar, Target, ToArray, ToSum, ToResident, ToPlace, ToSlot, pointer, place_register, resident_register, slot_place, made_in, first_register, second_register, third_register, sum_home, rule_register, rule_code, source_far_code, brought, sources_far_code, sum_code, result_far_code, results_far_code, action_code, action_far_code}
+use Rattle.orc_region.specs.Code.{Action, spares_second, IsRule, Source, FromArray, FromPattern, FromResident, FromPlace, FromSlot, FromFar, Target, ToArray, ToSum, ToResident, ToPlace, ToSlot, pointer, place_register, resident_register, slot_place, made_in, first_register, second_register, third_register, sum_home, rule_register, rule_code, source_far_code, brought, sources_far_code, sum_code, result_far_code, results_far_code, action_code, action_far_code}
 use Rattle.orc_region.specs.Elements.{sum_byte}
 use Rattle.orc_region.proofs.Block.RuleRegisters.{register_0, register_1, register_one, register_place, adds_renamed, adding_register, resident_0, resident_1, resident_2, resident_grown, resident_kept, seen}
 use Rattle.orc_region.proofs.Block.Sums.{IsResident, IsFramed, SameSums, byte_register, byte_slot, byte_same, SourceWithin, TargetWithin, IsClear, clear_of}
@@ -131,7 +131,7 @@ pub record Ground (n : ℕ) (base size : ℕ → ℕ) (P : ℕ → Type 0) (numb
   -- arrays lie outside the frame
   pub apart : (k : ℕ) → P k → (i : ℕ) → i < n → (r : ℕ) → r < size k → rsp ≤ base k + i * size k + r → base k + i * size k + r < rsp + frame_size → ⊥
 
-module _ (n : ℕ) (base size : ℕ → ℕ) (P : ℕ → Type 0) (numbers : Numbers) (rsp : ℕ) (ground : Ground n base size P numbers rsp) (Q : Core → Ins → Type 0) (far : Ahead) (aligned : ℕ → Bool) (count : ℕ) (some : 0 < count) where
+module _ (n : ℕ) (base size : ℕ → ℕ) (P : ℕ → Type 0) (numbers : Numbers) (rsp : ℕ) (ground : Ground n base size P numbers rsp) (Q : Core → Ins → Type 0) (far : ℕ → ℕ) (aligned : ℕ → Bool) (count : ℕ) (some : 0 < count) where
   separate : Separate n base size P
   separate = ground.separate
 
@@ -152,7 +152,7 @@ module _ (n : ℕ) (base size : ℕ → ℕ) (P : ℕ → Type 0) (numbers : Num
 
   -- the pointers of the arrays that have bytes, and what aligned stores ask
   abbrev pub Points : ℕ → (ℕ → ℕ) → Type 0
-  Points i gpr = (k : ℕ) → P k → 0 < size k → (gpr (pointer k) + far.bytes k ≡ base k + i * size k) × (aligned k ≡ true → (count * size k ≡ 16) × ((base k + i * size k) % 16 ≡ 0))
+  Points i gpr = (k : ℕ) → P k → 0 < size k → (gpr (pointer k) + far k ≡ base k + i * size k) × (aligned k ≡ true → (count * size k ≡ 16) × ((base k + i * size k) % 16 ≡ 0))
 
   -- in the 16 bytes at a place stands a value of so many bytes an element, of each of the elements
   abbrev pub StandsAt : (ℕ → ℕ) → (ℕ → Local) → Core → ℕ → Type 0
@@ -198,7 +198,7 @@ module _ (n : ℕ) (base size : ℕ → ℕ) (P : ℕ → Type 0) (numbers : Num
     lanes : AreBytes (d.xmm x) → (q : ℕ) → q < count → (p : ℕ) → p < prefix → lane w (q * prefix + p) (d.xmm x) ≡ sub_lane (8 * w) ((sig q).cells k) p
 
   load_cells : (i k w prefix x : ℕ) (c : Core) (sig : ℕ → Local) → IsOf n base size P k (w * prefix) → IsWidth (count * size k) → i + count ≤ n → Points i c.gpr → Lanes n base size P i count c.memory sig → Stays c
-      → (d : Core) × Line Q (load_far_code (count * size k) x (pointer k) (far.bytes k)) c d × Got k w prefix x sig c d
+      → (d : Core) × Line Q (load_far_code (count * size k) x (pointer k) (far k)) c d × Got k w prefix x sig c d
   load_cells i k w prefix x c sig o wide fits at h stays =
       let b = w * prefix in
       let p = base k + i * size k in
@@ -206,7 +206,7 @@ module _ (n : ℕ) (base size : ℕ → ℕ) (P : ℕ → Type 0) (numbers : Num
       let byte = each_byte i k b c.memory sig o h in
       let there : (j : ℕ) → j < count * size k → c.memory (p + j) ≡ Some (z j) = λ j l. let v = byte j l in v.2 ∙ ap (λ m. Some (or_else 0 m)) (sym v.2) in
       let small : (j : ℕ) → j < count * size k → z j < 256 = λ j l. let v = byte j l in subst (λ m. or_else 0 m < 256) (sym v.2) v.1 in
-      let l = load_line_at Q c (count * size k) x (pointer k) (far.bytes k) p z (λ u ins m g t. stays u ins m g) wide (at k o.array o.some).0 (near i k b o fits) there (λ two. small 0 (omega (arith, two))) in
+      let l = load_line_at Q c (count * size k) x (pointer k) (far k) p z (λ u ins m g t. stays u ins m g) wide (at k o.array o.some).0 (near i k b o fits) there (λ two. small 0 (omega (arith, two))) in
       let d = l.0 in
       let g = l.2 in
       let digits : AreBytes (d.xmm x) → (q : ℕ) → q < count → (r : ℕ) → r < size k → get_or (d.xmm x) (q * size k + r) 0 ≡ digit ((sig q).cells k) r = λ bytes q lq r lr.
@@ -487,7 +487,7 @@ module _ (n : ℕ) (base size : ℕ → ℕ) (P : ℕ → Type 0) (numbers : Num
       let back = brought two (source_far_code count size far e t) in
       let x = bring_source one i s (size_of_source op 0) prefix a c live sig totals known.0 wide.0 w at stack h framed stand.0 (first_room op prefix s room) bound stays in
       let b = x.0 in
-      let at' : Points i b.gpr = λ j hj s. (ap (λ y. y + far.bytes j) (x.2.gpr (pointer j) (not_0 j)) ∙ (at j hj s).0, (at j hj s).1) in
+      let at' : Points i b.gpr = λ j hj s. (ap (λ y. y + far j) (x.2.gpr (pointer j) (not_0 j)) ∙ (at j hj s).0, (at j hj s).1) in
       let h' : Lanes n base size P i count b.memory sig = λ j hj q l r lr. ap (λ f. f (base j + (i + q) * size j + r)) x.2.memory ∙ h j hj q l r lr in
       let there : IsAt two live sig (size_of_source op 1) prefix e b t = at_still two live sig (size_of_source op 1) prefix e c b t ts (λ z. apart (sym z)) kept.1.0 x.2.memory (λ z ne. x.2.others z ne) stand.1 in
       let y = bring_source two i t (size_of_source op 1) prefix e b live sig totals known.1 wide.1.0 w at' (x.2.gpr 4 (λ e. omega (arith, e)) ∙ stack) h' (framed_same numbers rsp ground.frame c b totals (λ y l u. ap (λ f. f y) x.2.memory) (λ g l. x.2.others (resident_register g) (λ e. (clear g l).0 (sym e))) framed) there (second_room op prefix t known.2 room) (line_bounded Q front c b (each_front IsIns front back ins) x.1 bound) (λ u i m g. stays u i (m ∙ x.2.memory) (λ r ne. g r ne ∙ x.2.gpr r ne)) in
@@ -555,14 +555,14 @@ module _ (n : ℕ) (base size : ℕ → ℕ) (P : ℕ → Type 0) (numbers : Num
 
   store_cells : (i k w prefix x : ℕ) (g : ℕ → ℕ → ℕ) (c : Core) (sig : ℕ → Local) → IsTo n base size P k (w * prefix) → IsWidth (count * size k) → i + count ≤ n → Points i c.gpr → Lanes n base size P i count c.memory sig → Stays c
       → AreBytes (c.xmm x) → ((q : ℕ) → q < count → (p : ℕ) → p < prefix → lane w (q * prefix + p) (c.xmm x) ≡ g q p)
-      → (d : Core) × Line Q (store_either_code (aligned k) (count * size k) x (pointer k) (far.bytes k)) c d × Put i k (λ q. pack (8 * w) prefix (g q)) sig c d
+      → (d : Core) × Line Q (store_either_code (aligned k) (count * size k) x (pointer k) (far k)) c d × Put i k (λ q. pack (8 * w) prefix (g q)) sig c d
   store_cells i k w prefix x g c sig o wide fits at h stays bytes lanes =
       let b = w * prefix in
       let p = base k + i * size k in
       let v : ℕ → ℕ = λ q. pack (8 * w) prefix (g q) in
       let z : ℕ → ℕ = λ j. get_or (c.xmm x) j 0 in
       let there : (j : ℕ) → j < count * size k → IsMapped c.memory (p + j) = λ j l. ap is_some (each_byte i k b c.memory sig o.of h j l).2 in
-      let s = store_either_line Q c (aligned k) (count * size k) x (pointer k) (far.bytes k) p (at k o.of.array o.of.some).1 (λ u ins m g t. stays u ins m g) wide (not_0 k) (at k o.of.array o.of.some).0 (near i k b o.of fits) there bytes in
+      let s = store_either_line Q c (aligned k) (count * size k) x (pointer k) (far k) p (at k o.of.array o.of.some).1 (λ u ins m g t. stays u ins m g) wide (not_0 k) (at k o.of.array o.of.some).0 (near i k b o.of fits) there bytes in
       let d = s.0 in
       let numbers : (q r : ℕ) → q < count → r < size k → z (q * size k + r) ≡ digit (v q) r = λ q r l.
       subst (λ t. r < t → z (q * t + r) ≡ digit (v q) r) (sym o.of.bytes_are) (packed_bytes (c.xmm x) bytes w prefix q (g q) (lanes q l) r) in (
@@ -747,7 +747,7 @@ module _ (n : ℕ) (base size : ℕ → ℕ) (P : ℕ → Type 0) (numbers : Num
       let b = x.0 in
       let same : b.xmm (made_in 1 u) ≡ c.xmm (made_in 1 u) = ap (λ f. f (made_in 1 u)) x.2.xmm in
       let sig' : ℕ → Local = λ q. set_target n base size P (sig q) t (packed op prefix (g q)).0 in
-      let y = result_line i (size_of_result op 1) prefix 1 u (λ q p. (g q p).1) b first (live_target live t (size_of_result op 0 * prefix)) sig' totals (λ p. ⊥) (omega arith) known' wide' w (λ j hj s. (ap (λ y. y + far.bytes j) (x.2.gpr (pointer j) (not_0 j)) ∙ (at j hj s).0, (at j hj s).1))
+      let y = result_line i (size_of_result op 1) prefix 1 u (λ q p. (g q p).1) b first (live_target live t (size_of_result op 0 * prefix)) sig' totals (λ p. ⊥) (omega arith) known' wide' w (λ j hj s. (ap (λ y. y + far j) (x.2.gpr (pointer j) (not_0 j)) ∙ (at j hj s).0, (at j hj s).1))
       (x.2.gpr 4 (λ e. omega (arith, e)) ∙ stack) x.2.lanes x.2.framed (subst AreBytes (sym same) (holds.bytes (made_in 1 u))) (λ q l p lp. ap (lane (size_of_result op 1) (q * prefix + p)) same ∙ holds.second q l p lp) (λ p l out ne. x.2.standing p l ne) x.2.others (λ v ins gs m. keeps v ins (λ r ne. gs r ne ∙ x.2.gpr r ne) m) in
       let d = y.0 in (
         d,
@@ -996,7 +996,7 @@ module _ (n : ℕ) (base size : ℕ → ℕ) (P : ℕ → Type 0) (numbers : Num
       let e = x.0 in
       let g = x.2 in
       let s = finish_line i a.by a.op a.prefix a.sources a.rule a.to e first less sig totals known.to fit.rule known.apart known.to_within fit.to fits
-      (each_front IsIns (sum_code a.to) (rule_code a ++ results_far_code count size far aligned a.to) (each_back IsIns loads rest ins_a)) w (λ k hk t. (ap (λ y. y + far.bytes k) (g.gpr (pointer k) (not_0 k)) ∙ (at k hk t).0, (at k hk t).1)) (g.gpr 4 (λ z. omega (arith, z)) ∙ stack)
+      (each_front IsIns (sum_code a.to) (rule_code a ++ results_far_code count size far aligned a.to) (each_back IsIns loads rest ins_a)) w (λ k hk t. (ap (λ y. y + far k) (g.gpr (pointer k) (not_0 k)) ∙ (at k hk t).0, (at k hk t).1)) (g.gpr 4 (λ z. omega (arith, z)) ∙ stack)
       (λ k hk q l r lr. ap (λ f. f (base k + (i + q) * size k + r)) g.memory ∙ h k hk q l r lr) (framed_same numbers rsp ground.frame c e totals (λ y l u. ap (λ f. f y) g.memory) (λ k l. g.others (resident_register k) (λ z. (clear k l).0 (sym z)) (λ z. (clear k l).1 (sym z))) framed)
       (λ p l nf ns. still_there less sig c e p l (g.others (place_register p) (λ z. nf (sym z)) (λ z. ns (sym z))) (λ x a u. ap (λ f. f x) g.memory) (remains p l nf ns)) g.value g.bounded
       (λ v out sums. ap (λ f. f v) g.memory ∙ o v out sums) (λ t ins gs m. keeps t ins (λ r ne. gs r ne ∙ g.gpr r ne) m) in

@@ -19,9 +19,9 @@ scalar_slot [] h j l = absurd (omega (arith, l))
 scalar_slot (k ∷ ks) h zero l = (k, h.0, refl)
 scalar_slot (k ∷ ks) h (suc j) l = scalar_slot ks h.1 j (omega (arith, l))
 
-module _ (lowered : ℕ) (load : Far) (array : ℕ) (js : List ℕ) (few : array < 12) (patterns : Each (λ j. j < 48) js) (scalars : length js ≡ far_scalars load) where
+module _ (ahead : ℕ) (load : Far) (array : ℕ) (js : List ℕ) (few : array < 12) (patterns : Each (λ j. j < 48) js) (scalars : length js ≡ far_scalars load) where
   abbrev source : FarSource
-  source = far_source lowered load array js
+  source = far_source ahead load array js
 
   -- a word that is only read lies before those that are written
   pub kept_low : (z : ℤ) → IsKept source z → (d : ℕ) × (d + 8 ≤ index_slot) × (z ≡ pos d)

@@ -22,7 +22,7 @@ use Rattle.sse_acc.specs.Sums.{sum_below}
 use Rattle.orc_program.specs.Need.{registers}
 use Rattle.orc_frame.specs.Layout.{spill_slot}
 use Rattle.orc_region.proofs.Arithmetic.Digits.{digit}
-use Rattle.orc_region.specs.Code.{Ahead, Action, Source, FromArray, FromPattern, FromResident, FromPlace, FromSlot, FromFar, Target, ToArray, ToSum, ToResident, ToPlace, ToSlot, pointer, place_register, slot_place, resident_register, made_in, first_register, second_register, take_names, source_names, action_names, action_far_code, named_code}
+use Rattle.orc_region.specs.Code.{Action, Source, FromArray, FromPattern, FromResident, FromPlace, FromSlot, FromFar, Target, ToArray, ToSum, ToResident, ToPlace, ToSlot, pointer, place_register, slot_place, resident_register, made_in, first_register, second_register, take_names, source_names, action_names, action_far_code, named_code}
 use Rattle.orc_region.proofs.Block.Cells.{eq_yes, Numbers, Local, Lanes, IsFrom, AreFrom, IsMade, AreTo, IsKept, IsKnown, AllKnown, live_act, local_act, local}
 use Rattle.orc_region.proofs.Block.Frames.{Framed, framed_same, framed_totals}
 use Rattle.orc_region.proofs.Block.Keeping.{line_bounded}
@@ -128,7 +128,7 @@ apart_not true (FromPlace p) q h z = true≢false (sym (eq_yes q p (let e : q �
 
 -- ---- several elements at once
 
-module _ (n : ℕ) (base size : ℕ → ℕ) (P : ℕ → Type 0) (numbers : Numbers) (rsp : ℕ) (ground : Ground n base size P numbers rsp) (Q : Core → Ins → Type 0) (far : Ahead) (aligned : ℕ → Bool) (count : ℕ) (some : 0 < count) where
+module _ (n : ℕ) (base size : ℕ → ℕ) (P : ℕ → Type 0) (numbers : Numbers) (rsp : ℕ) (ground : Ground n base size P numbers rsp) (Q : Core → Ins → Type 0) (far : ℕ → ℕ) (aligned : ℕ → Bool) (count : ℕ) (some : 0 < count) where
   abbrev Stood : (ℕ → ℕ) → (ℕ → Local) → Core → ℕ → Type 0
   Stood = StandsAt n base size P numbers rsp ground Q far aligned count some
 
@@ -338,7 +338,7 @@ module _ (n : ℕ) (base size : ℕ → ℕ) (P : ℕ → Type 0) (numbers : Num
 
 -- ---- actions
 
-module _ (n : ℕ) (base size : ℕ → ℕ) (P : ℕ → Type 0) (numbers : Numbers) (rsp : ℕ) (ground : Ground n base size P numbers rsp) (Q : Core → Ins → Type 0) (far : Ahead) (aligned : ℕ → Bool) (count : ℕ) (some : 0 < count) where
+module _ (n : ℕ) (base size : ℕ → ℕ) (P : ℕ → Type 0) (numbers : Numbers) (rsp : ℕ) (ground : Ground n base size P numbers rsp) (Q : Core → Ins → Type 0) (far : ℕ → ℕ) (aligned : ℕ → Bool) (count : ℕ) (some : 0 < count) where
   -- what is known at each step of an action
   abbrev Near : ℕ → (ℕ → ℕ) → Memory → Core → Ins → Type 0
   Near i gpr first u ins = ((r : ℕ) → r ≢ 0 → u.gpr r ≡ gpr r) × Rest n base size P numbers rsp ground Q far aligned count some i first u.memory
@@ -409,7 +409,7 @@ module _ (n : ℕ) (base size : ℕ → ℕ) (P : ℕ → Type 0) (numbers : Num
       let less = forget_all a.takes_first a.takes_second a.sources live in
       let s = opened n base size P numbers rsp ground (Near i c.gpr first) far aligned count some a.takes_first a.takes_second rest a.op a.prefix a.to a.sources live sig names c taken.0 k.to k.sources k.kept k.apart (clear_of numbers.last a.to k.to_within) k.from_within (room_of n base size P numbers rsp ground (Near i c.gpr first) far aligned count some a fit.0.lanes) p fixed stand in
       let x = named_action mine i a c first live less sig totals s.permutes s.fixed k fit.0 ins.0 w at stack h framed s.at s.rest bound o keeps in
-      let y = named_line mine i rest x.0 first (live_act less a) (Acted a sig) (More a sig totals) s.permutes s.fixed (rest_known n base size P numbers live a rest taken.0 known.1) taken.1 fit.1 ins.1 w (λ j hj t. (ap (λ y. y + far.bytes j) (x.2.gpr (pointer j) (not_0 j)) ∙ (at j hj t).0, (at j hj t).1)) (x.2.gpr 4 (λ z. omega (arith, z)) ∙ stack)
+      let y = named_line mine i rest x.0 first (live_act less a) (Acted a sig) (More a sig totals) s.permutes s.fixed (rest_known n base size P numbers live a rest taken.0 known.1) taken.1 fit.1 ins.1 w (λ j hj t. (ap (λ y. y + far j) (x.2.gpr (pointer j) (not_0 j)) ∙ (at j hj t).0, (at j hj t).1)) (x.2.gpr 4 (λ z. omega (arith, z)) ∙ stack)
       x.2.lanes x.2.framed x.3 x.2.bounded x.2.others (λ u ins g. keeps u ins (λ r ne. g r ne ∙ x.2.gpr r ne)) in (
         y.0,
         line_append Q (map (renamed (renaming mine)) (action_far_code count size far aligned a)) (named_code mine count size far aligned rest) c x.0 y.0 x.1 y.1,

@@ -19,7 +19,7 @@ use Rattle.orc_frame.specs.Layout.{pattern_slot, sum_slot, frame_size, spill_slo
 use Rattle.orc_ops.specs.declared.opcode.Op.{Op}
 use Rattle.orc_ops.specs.Table.{size_of_result, size_of_source}
 use Rattle.orc_region.specs.Stores.{IsMovdquStore}
-use Rattle.orc_region.specs.Code.{Ahead, Action, spares_second, IsRule, Source, FromArray, FromPattern, FromResident, FromPlace, FromSlot, FromFar, Target, ToArray, ToSum, ToResident, ToPlace, ToSlot, pointer, first_register, second_register, rule_register, rule_code, source_far_code, brought, sources_far_code, sum_code, result_far_code, results_far_code, own_names, action_names, action_far_code, named_code, actions_far_code}
+use Rattle.orc_region.specs.Code.{Action, spares_second, IsRule, Source, FromArray, FromPattern, FromResident, FromPlace, FromSlot, FromFar, Target, ToArray, ToSum, ToResident, ToPlace, ToSlot, pointer, first_register, second_register, rule_register, rule_code, source_far_code, brought, sources_far_code, sum_code, result_far_code, results_far_code, own_names, action_names, action_far_code, named_code, actions_far_code}
 use Rattle.orc_region.proofs.Arithmetic.Digits.{byte_split, byte_further}
 use Rattle.orc_region.proofs.Block.Cells.{Numbers, Low, IsFrom, AreFrom, IsMade, AreTo, IsKnown, AllKnown, live_act}
 use Rattle.orc_region.proofs.Sizes.Bytes.{vectors_of, each_brought}
@@ -175,13 +175,13 @@ TouchesPart n base size P rsp Free u ins =
 -- ---- a block
 
 -- cells of arrays with P, so many elements at once, `far` behind the pointers, and with aligned stores for some slots
-module _ (n : ℕ) (base size : ℕ → ℕ) (P : ℕ → Type 0) (numbers : Numbers) (few_patterns : numbers.patterns ≤ 48) (few_sums : numbers.sums ≤ 4) (far : Ahead) (aligned : ℕ → Bool) (count : ℕ) (whole : (k : ℕ) → P k → aligned k ≡ true → count * size k ≡ 16) where
+module _ (n : ℕ) (base size : ℕ → ℕ) (P : ℕ → Type 0) (numbers : Numbers) (few_patterns : numbers.patterns ≤ 48) (few_sums : numbers.sums ≤ 4) (far : ℕ → ℕ) (aligned : ℕ → Bool) (count : ℕ) (whole : (k : ℕ) → P k → aligned k ≡ true → count * size k ≡ 16) where
   -- an instruction that goes to cells of a slot by its pointer
   pub record GoesToCells (k : ℕ) (i : Ins) : Type 0 where
     pub array : P k
     pub some : 0 < size k
     pub few : count * size k ≤ 16
-    pub by : GoesBy (pointer k) (far.bytes k) (count * size k) i
+    pub by : GoesBy (pointer k) (far k) (count * size k) i
     pub stores : IsMovdquStore i → (k < 4) × (aligned k ≡ false) × (count * size k ≡ 16)
 
   -- to nothing, to a slot of the frame by RSP, or to cells
@@ -192,9 +192,9 @@ module _ (n : ℕ) (base size : ℕ → ℕ) (P : ℕ → Type 0) (numbers : Num
   nowhere_goes list h = each_map GoesNowhere Goes (λ i x. inl x) list h
 
   source_goes : (live : ℕ → ℕ) (w prefix x : ℕ) (s : Source) → IsFrom n base size P numbers live w prefix s → IsMovedFrom count size s → Each Goes (source_far_code count size far x s)
-  source_goes live w prefix x (FromArray k) o wide = each_map (IsMove (pointer k) (far.bytes k) (count * size k) ⊥) Goes to_cells (load_far_code (count * size k) x (pointer k) (far.bytes k)) (load_moves (count * size k) x (pointer k) (far.bytes k) wide)
+  source_goes live w prefix x (FromArray k) o wide = each_map (IsMove (pointer k) (far k) (count * size k) ⊥) Goes to_cells (load_far_code (count * size k) x (pointer k) (far k)) (load_moves (count * size k) x (pointer k) (far k) wide)
     where
-      to_cells : (i : Ins) → IsMove (pointer k) (far.bytes k) (count * size k) ⊥ i → Goes i
+      to_cells : (i : Ins) → IsMove (pointer k) (far k) (count * size k) ⊥ i → Goes i
       to_cells i (inl h) = inl h
       to_cells i (inr h) = inr (inr (k, record { array = o.array; some = o.some; few = width_few (count * size k) wide; by = h.0; stores = λ m. absurd (h.1 m) }))
   source_goes live w prefix x (FromPattern j) o wide = (inr (inl (pattern_slot j, omega (arith, o.0, few_patterns), (refl, λ u. refl))), tt)
@@ -212,9 +212,9 @@ module _ (n : ℕ) (base size : ℕ → ℕ) (P : ℕ → Type 0) (numbers : Num
       each_both Goes (brought one front) (brought two back) (each_brought Goes one front (source_goes live (size_of_source op 0) prefix x s o.0 wide.0)) (each_brought Goes two back (source_goes live (size_of_source op 1) prefix y t o.1 wide.1.0))
 
   result_goes : (bytes x : ℕ) (t : Target) → IsMade n base size P numbers bytes t → IsMovedTo count size t → Each Goes (result_far_code count size far aligned x t)
-  result_goes bytes x (ToArray k) o wide = each_map (IsMove (pointer k) (far.bytes k) (count * size k) ((aligned k ≡ false) × (count * size k ≡ 16))) Goes to_cells (store_either_code (aligned k) (count * size k) x (pointer k) (far.bytes k)) (either_moves (aligned k) (count * size k) x (pointer k) (far.bytes k) (whole k o.of.array) wide)
+  result_goes bytes x (ToArray k) o wide = each_map (IsMove (pointer k) (far k) (count * size k) ((aligned k ≡ false) × (count * size k ≡ 16))) Goes to_cells (store_either_code (aligned k) (count * size k) x (pointer k) (far k)) (either_moves (aligned k) (count * size k) x (pointer k) (far k) (whole k o.of.array) wide)
     where
-      to_cells : (i : Ins) → IsMove (pointer k) (far.bytes k) (count * size k) ((aligned k ≡ false) × (count * size k ≡ 16)) i → Goes i
+      to_cells : (i : Ins) → IsMove (pointer k) (far k) (count * size k) ((aligned k ≡ false) × (count * size k ≡ 16)) i → Goes i
       to_cells i (inl h) = inl h
       to_cells i (inr h) = inr (inr (k, record { array = o.of.array; some = o.of.some; few = width_few (count * size k) wide; by = h.0; stores = λ m. (o.dest, (h.1 m).0, (h.1 m).1) }))
   result_goes bytes x (ToSum g) o wide = absurd o
@@ -262,7 +262,7 @@ module _ (n : ℕ) (base size : ℕ → ℕ) (P : ℕ → Type 0) (numbers : Num
       one (inr (inl g)) = inr (inl (g.0, g.1, by_renamed f 4 g.0 16 i g.2))
       one (inr (inr g)) =
           let k = g.0 in
-          inr (inr (k, record { array = g.1.array; some = g.1.some; few = g.1.few; by = by_renamed f (pointer k) (far.bytes k) (count * size k) i g.1.by; stores = λ m. g.1.stores (store_renamed f i m) }))
+          inr (inr (k, record { array = g.1.array; some = g.1.some; few = g.1.few; by = by_renamed f (pointer k) (far k) (count * size k) i g.1.by; stores = λ m. g.1.stores (store_renamed f i m) }))
 
   -- a whole block
   named_go : (names : List ℕ) (live : ℕ → ℕ) (actions : List Action) → AllKnown n base size P numbers live actions → Each (IsFit count size) actions → Each Goes (named_code names count size far aligned actions)
@@ -279,7 +279,7 @@ module _ (n : ℕ) (base size : ℕ → ℕ) (P : ℕ → Type 0) (numbers : Num
 
   module _ (rsp : ℕ) (stack_low : rsp + frame_size ≤ 2 ^ 47) (low : Low n base size P) (some : 0 < count) where
     -- where the pointers of arrays are at element i, the block's instructions touch the frame or cells of one array
-    pub goes_touch : (Free : Type 0) → (aligned 0 ≡ false → count * size 0 ≡ 16 → Free) → (i : ℕ) → i + count ≤ n → (u : Core) → u.gpr 4 ≡ rsp → ((k : ℕ) → P k → 0 < size k → u.gpr (pointer k) + far.bytes k ≡ base k + i * size k) → (ins : Ins) → Goes ins → TouchesPart n base size P rsp Free u ins
+    pub goes_touch : (Free : Type 0) → (aligned 0 ≡ false → count * size 0 ≡ 16 → Free) → (i : ℕ) → i + count ≤ n → (u : Core) → u.gpr 4 ≡ rsp → ((k : ℕ) → P k → 0 < size k → u.gpr (pointer k) + far k ≡ base k + i * size k) → (ins : Ins) → Goes ins → TouchesPart n base size P rsp Free u ins
     goes_touch Free free i within u stack at ins (inl h) = inl (λ a t. absurd (touches_none ins u (h.1 u) a t))
     goes_touch Free free i within u stack at ins (inr (inl h)) =
         let here : address u (away 4 h.0) ≡ rsp + h.0 = at_away u 4 rsp h.0 stack (omega (arith, stack_low, h.1)) in
@@ -289,8 +289,8 @@ module _ (n : ℕ) (base size : ℕ → ℕ) (P : ℕ → Type 0) (numbers : Num
         let g = h.1 in
         let p = base k + i * size k in
         let near : p < 2 ^ 47 = (let l = low k g.array i (omega (arith, within, some)) 0 g.some in omega (arith, l)) in
-        let sum : u.gpr (pointer k) + far.bytes k ≡ p = at k g.array g.some in
-        let here : address u (away (pointer k) (far.bytes k)) ≡ p = at_away u (pointer k) (u.gpr (pointer k)) (far.bytes k) refl (omega (arith, near, sum)) ∙ sum in
+        let sum : u.gpr (pointer k) + far k ≡ p = at k g.array g.some in
+        let here : address u (away (pointer k) (far k)) ≡ p = at_away u (pointer k) (u.gpr (pointer k)) (far k) refl (omega (arith, near, sum)) ∙ sum in
         let bytes : span ins u ≡ (p, count * size k) = g.by.1 u ∙ ap (λ a. (a, count * size k)) here in
         inr (
           k,

@@ -51,7 +51,7 @@ residents_more base c d at number begins n g i p q e f =
     is ∙ ap (λ l. l ++ last) p ∙ append_assoc base (residents_code at number begins n) last ∙ ap (λ k. base ++ residents_code at number begins k) (next n)
 
 -- blocks, and what moves the pointers and the counter on, make a turn; `inner` are the sizes as they are read
-pub turn_built : (Are : List Action → Type 0) (count : ℕ) (aligned : ℕ → Bool) (b : ℕ) (sizes inner : List ℕ) → inner ≡ sizes → (blocks l1 l2 l3 : List Ins) (dests sources : ℕ) → AreBlocks Are b count (slice_index sizes) aligned b blocks
+pub turn_built : (Are : List Action → Type 0) (count : ℕ) (aligned : ℕ → Bool) (b : ℕ) (sizes inner : List ℕ) → inner ≡ sizes → (blocks l1 l2 l3 : List Ins) (dests sources : ℕ) → AreBlocks Are count (slice_index sizes) aligned b blocks
     → l1 ≡ blocks ++ advance_code (slice_index inner) (b * count) 0 dests → dests ≡ used_from (slice_index inner) 0 4 → l2 ≡ l1 ++ advance_code (slice_index inner) (b * count) 4 sources → sources ≡ used_from (slice_index inner) 4 8 → l3 ≡ l2 ++ AluImm Sub 1 (pos (b * count)) ∷ []
     → IsBlocksTurn Are count (slice_index sizes) aligned (used_from (slice_index sizes) 0 4) (used_from (slice_index sizes) 4 8) b l3
 turn_built Are count aligned b sizes inner same blocks l1 l2 l3 dests sources are e1 d e2 s e3 =
@@ -74,13 +74,13 @@ module _ (size : ℕ → ℕ) (span : Span) where
       let a = action.0 in
       let from : a.sources ≡ sources = action.1.sources ∙ sym es in
       let to : a.to ≡ results = action.1.to ∙ sym er in
-      let code = action_far_code span.count size (far_by span.lowered span.first size) (aligned_first span.aligned) a in
+      let code = action_far_code span.count size (far_by span.first size) (aligned_first span.aligned) a in
       let same : action_names a names ≡ mine =
       ap (λ ss. source_names a.takes_first a.takes_second (first_register a.to) (second_register a.to) ss names) from
       ∙ ap₂ (λ b t. source_names b t (first_register a.to) (second_register a.to) sources names) action.2 action.3
       ∙ ap₂ (λ u v. source_names one two u v sources names) (ap first_register to ∙ sym ex) (ap second_register to ∙ sym ey)
       ∙ sym is in
-      let after : List ℕ → List Ins = λ ns. named_code ns span.count size (far_by span.lowered span.first size) (aligned_first span.aligned) rest.0 in (
+      let after : List ℕ → List Ins = λ ns. named_code ns span.count size (far_by span.first size) (aligned_first span.aligned) rest.0 in (
         a ∷ rest.0,
         ((action.1, record { first = action.2 ∙ first ∙ ap (is_first_taken seats later) (sym from); second = action.3 ∙ second ∙ ap (is_second_taken seats later) (sym from) }), rest.1),
         rest.2 ∙ ap (λ l. l ++ after mine) grown ∙ append_assoc base (map (renamed (renaming mine)) own) (after mine)
@@ -104,26 +104,26 @@ module _ (size : ℕ → ℕ) (span : Span) where
 
   -- sources, a sum, a rule and results make an action
   pub action_added : (seats : Seats) (step : Step) (one two : Bool) (x y : ℕ) (base c1 c2 c3 c4 : List Ins) → x ≡ first_register (map (target_of seats.places) step.results.items) → y ≡ second_register (map (target_of seats.places) step.results.items)
-      → c1 ≡ base ++ sources_far_code one (is_some (count_by seats step.op step.sources.items) || two) span.count size (far_by span.lowered span.first size) x y (map (source_of seats) step.sources.items) → c2 ≡ c1 ++ sum_code (map (target_of seats.places) step.results.items) → AddsRule span.target span.count step.op (count_by seats step.op step.sources.items) (map (target_of seats.places) step.results.items) c2 c3
-      → c4 ≡ c3 ++ results_far_code span.count size (far_by span.lowered span.first size) (aligned_first span.aligned) (map (target_of seats.places) step.results.items) → AddsAction seats size span step one two base c4
+      → c1 ≡ base ++ sources_far_code one (is_some (count_by seats step.op step.sources.items) || two) span.count size (far_by span.first size) x y (map (source_of seats) step.sources.items) → c2 ≡ c1 ++ sum_code (map (target_of seats.places) step.results.items) → AddsRule span.target span.count step.op (count_by seats step.op step.sources.items) (map (target_of seats.places) step.results.items) c2 c3
+      → c4 ≡ c3 ++ results_far_code span.count size (far_by span.first size) (aligned_first span.aligned) (map (target_of seats.places) step.results.items) → AddsAction seats size span step one two base c4
   action_added seats step one two x y base c1 c2 c3 c4 ex ey p q r t =
       let a : Action = record { op = step.op; prefix = step.prefix; to = map (target_of seats.places) step.results.items; sources = map (source_of seats) step.sources.items; by = count_by seats step.op step.sources.items; rule = r.0; takes_first = one; takes_second = two } in
-      let loads : c1 ≡ base ++ sources_far_code one (spares_second a) span.count size (far_by span.lowered span.first size) (first_register a.to) (second_register a.to) a.sources = p ∙ ap₂ (λ x y. base ++ sources_far_code one (spares_second a) span.count size (far_by span.lowered span.first size) x y a.sources) ex ey in (
+      let loads : c1 ≡ base ++ sources_far_code one (spares_second a) span.count size (far_by span.first size) (first_register a.to) (second_register a.to) a.sources = p ∙ ap₂ (λ x y. base ++ sources_far_code one (spares_second a) span.count size (far_by span.first size) x y a.sources) ex ey in (
         a,
         record { op = refl; prefix = refl; to = refl; sources = refl; by = refl; rule = r.1; few = r.2; for_target = r.3 },
         refl,
         refl,
-        four base (sources_far_code one (spares_second a) span.count size (far_by span.lowered span.first size) (first_register a.to) (second_register a.to) a.sources) (sum_code a.to) (rule_code a) (results_far_code span.count size (far_by span.lowered span.first size) (aligned_first span.aligned) a.to) c1 c2 c3 c4 loads q r.4 t,
+        four base (sources_far_code one (spares_second a) span.count size (far_by span.first size) (first_register a.to) (second_register a.to) a.sources) (sum_code a.to) (rule_code a) (results_far_code span.count size (far_by span.first size) (aligned_first span.aligned) a.to) c1 c2 c3 c4 loads q r.4 t,
       )
 
   -- the same where operands are read as slices
   pub action_of_slices : (seats : Seats) (step : Step) (one two first second : Bool) (rs ss : List Item) → first ≡ one → second ≡ (is_some (count_by seats step.op step.sources.items) || two) → rs ≡ step.results.items → ss ≡ step.sources.items → (x y : ℕ) (base c1 c2 c3 c4 : List Ins) → x ≡ first_register (map (target_of seats.places) rs) → y ≡ second_register (map (target_of seats.places) rs)
-      → c1 ≡ base ++ sources_far_code first second span.count size (far_by span.lowered span.first size) x y (map (source_of seats) ss) → c2 ≡ c1 ++ sum_code (map (target_of seats.places) rs) → AddsRule span.target span.count step.op (count_by seats step.op step.sources.items) (map (target_of seats.places) rs) c2 c3
-      → c4 ≡ c3 ++ results_far_code span.count size (far_by span.lowered span.first size) (aligned_first span.aligned) (map (target_of seats.places) rs) → AddsAction seats size span step one two base c4
+      → c1 ≡ base ++ sources_far_code first second span.count size (far_by span.first size) x y (map (source_of seats) ss) → c2 ≡ c1 ++ sum_code (map (target_of seats.places) rs) → AddsRule span.target span.count step.op (count_by seats step.op step.sources.items) (map (target_of seats.places) rs) c2 c3
+      → c4 ≡ c3 ++ results_far_code span.count size (far_by span.first size) (aligned_first span.aligned) (map (target_of seats.places) rs) → AddsAction seats size span step one two base c4
   action_of_slices seats step one two first second rs ss ef en er es x y base c1 c2 c3 c4 ex ey p q r t =
       let to : map (target_of seats.places) rs ≡ map (target_of seats.places) step.results.items = ap (map (target_of seats.places)) er in
-      action_added seats step one two x y base c1 c2 c3 c4 (ex ∙ ap first_register to) (ey ∙ ap second_register to) (p ∙ ap (λ xs. base ++ sources_far_code first second span.count size (far_by span.lowered span.first size) x y (map (source_of seats) xs)) es ∙ ap₂ (λ u v. base ++ sources_far_code u v span.count size (far_by span.lowered span.first size) x y (map (source_of seats) step.sources.items)) ef en)
-      (q ∙ ap (λ ts. c1 ++ sum_code ts) to) (subst (λ ts. AddsRule span.target span.count step.op (count_by seats step.op step.sources.items) ts c2 c3) to r) (t ∙ ap (λ ts. c3 ++ results_far_code span.count size (far_by span.lowered span.first size) (aligned_first span.aligned) ts) to)
+      action_added seats step one two x y base c1 c2 c3 c4 (ex ∙ ap first_register to) (ey ∙ ap second_register to) (p ∙ ap (λ xs. base ++ sources_far_code first second span.count size (far_by span.first size) x y (map (source_of seats) xs)) es ∙ ap₂ (λ u v. base ++ sources_far_code u v span.count size (far_by span.first size) x y (map (source_of seats) step.sources.items)) ef en)
+      (q ∙ ap (λ ts. c1 ++ sum_code ts) to) (subst (λ ts. AddsRule span.target span.count step.op (count_by seats step.op step.sources.items) ts c2 c3) to r) (t ∙ ap (λ ts. c3 ++ results_far_code span.count size (far_by span.first size) (aligned_first span.aligned) ts) to)
 
 -- ---- a rule under other names
 

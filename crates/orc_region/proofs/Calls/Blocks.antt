@@ -188,7 +188,7 @@ module _ (target : CodeTarget) (f : FunctionValue) (is : is_function f ≡ true)
     made : (from : ℕ) → Stands code from list → Made from
     made from stands =
         let y = block_steps args.n Base Slots (numbers f is known code s args back good at) low plan Emulates (InFrame low) set (s.core.gpr 7) c.memory count Free is_count.some (fit_actions f is at places count is_count target x.0 x.1)
-        (far_by count 0 fits) (aligned_first stored) (λ a b. (a, b)) 0 (λ k. refl) (ins_of_block f is at places count is_count stored target x.0 x.1) i i (let z : i ≡ 0 + i = omega arith in z) (aligns stored refl) e.memory (totals_in f is known code s args back good at e c h) c within begins reached in
+        (far_by 0 fits) (aligned_first stored) (λ a b. (a, b)) 0 (λ k. refl) (ins_of_block f is at places count is_count stored target x.0 x.1) i i (let z : i ≡ 0 + i = omega arith in z) (aligns stored refl) e.memory (totals_in f is known code s args back good at e c h) c within begins reached in
         let d = y.2 in
         let line : Line Here list c d = subst (λ l. Line Here l c d) (sym x.2) y.4 in
         let end = y.5 in

@@ -1,5 +1,5 @@
 -- The code's instructions are allowed; its steps and bytes are few.
-use Rattle.std.proofs.Common.{Option, ◌≡◌, ℕ, zero, suc, ◌+◌, ◌-◌, ◌*◌, ◌^◌, ◌<◌, ◌≤◌, Bool, true, false, pos, List, [], ◌∷◌, ◌++◌, length, map, suc-mul, refl, sym, subst, ◌∙◌, arith}
+use Rattle.std.proofs.Common.{Option, ◌≡◌, ℕ, zero, suc, ◌+◌, ◌*◌, ◌^◌, ◌<◌, ◌≤◌, Bool, true, false, pos, List, [], ◌∷◌, ◌++◌, length, map, suc-mul, refl, sym, subst, ◌∙◌, arith}
 use Rattle.std.proofs.Math.Nat.{mul-le-mul_right}
 use Rattle.x86_ins.specs.declared.ins.AluOp.TheVariants.{Add, Sub}
 use Rattle.x86_ins.specs.declared.ins.Ins.{Ins}
@@ -18,7 +18,7 @@ use Rattle.x86_flow.specs.Moves.{IsWidth, away, store_either_code}
 use Rattle.x86_flow.proofs.Spelled.{IsFine, fine_alu_imm, fits_up, each_both, fine_vec, fine_from_gpr, fine_to_gpr, fine_load_far, fine_store_far, fine_aligned_store, fine_vec_load, fine_vec_store}
 use Rattle.orc_frame.specs.Layout.{pattern_slot, sum_slot, spill_slot}
 use Rattle.orc_region.proofs.Block.Meeting.{meeting}
-use Rattle.orc_region.specs.Code.{Ahead, Action, spares_second, IsRule, Source, FromArray, FromPattern, FromResident, FromPlace, FromSlot, FromFar, Target, ToArray, ToSum, ToResident, ToPlace, ToSlot, Plan, pointer, place_register, resident_register, made_in, sum_home, first_register, second_register, third_register, rule_register, rule_code, AreBlocks, IsBlocksTurn, far_by, source_far_code, brought, sources_far_code, sum_code, result_far_code, results_far_code, own_names, action_names, action_far_code, named_code, actions_far_code, advance_code}
+use Rattle.orc_region.specs.Code.{Action, spares_second, IsRule, Source, FromArray, FromPattern, FromResident, FromPlace, FromSlot, FromFar, Target, ToArray, ToSum, ToResident, ToPlace, ToSlot, Plan, pointer, place_register, resident_register, made_in, sum_home, first_register, second_register, third_register, rule_register, rule_code, AreBlocks, IsBlocksTurn, far_by, source_far_code, brought, sources_far_code, sum_code, result_far_code, results_far_code, own_names, action_names, action_far_code, named_code, actions_far_code, advance_code}
 use Rattle.orc_frame.proofs.Counted.{fine_vec_imm, fine_shuffle}
 use Rattle.orc_region.proofs.Block.Keeping.{ins_of}
 use Rattle.orc_region.proofs.Block.Names.{IsSmall, own_permutes, source_permutes}
@@ -75,9 +75,9 @@ fine_store_either false width x r d is g e l = fine_store_far width x r d is g e
 
 -- ---- actions of so many elements, whose cells are near the pointers
 
-module _ (count : ℕ) (size : ℕ → ℕ) (far : Ahead) (aligned : ℕ → Bool) (near : (k : ℕ) → far.bytes k < 2 ^ 31) where
+module _ (count : ℕ) (size far : ℕ → ℕ) (aligned : ℕ → Bool) (near : (k : ℕ) → far k < 2 ^ 31) where
   fine_source : (x : ℕ) (s : Source) → x < 16 → IsFromSlot count size s → Each IsFine (source_far_code count size far x s)
-  fine_source x (FromArray k) l h = fine_load_far (count * size k) x (pointer k) (far.bytes k) h.0 l (pointer_small k h.1) (near k)
+  fine_source x (FromArray k) l h = fine_load_far (count * size k) x (pointer k) (far k) h.0 l (pointer_small k h.1) (near k)
   fine_source x (FromPattern j) l h = (fine_vec_load Movdqu x (away 4 (pattern_slot j)) l (omega arith) (fits_up (pattern_slot j) (omega (arith, h))), tt)
   fine_source x (FromResident j g) l h = fine_rule (Vec Movdqa x (resident_register g) ∷ []) refl ((l, omega arith), tt)
   fine_source x (FromPlace p) l h = fine_rule (Vec Movdqa x (place_register p) ∷ []) refl ((l, omega (arith, h)), tt)
@@ -101,7 +101,7 @@ module _ (count : ℕ) (size : ℕ → ℕ) (far : Ahead) (aligned : ℕ → Boo
   fine_sum (ToSum g ∷ more) h = (fine_vec_load Movdqu 2 (away 4 (sum_slot g)) (omega arith) (omega arith) (fits_up (sum_slot g) (let l : g < 4 = h.0 in omega (arith, l))), tt)
 
   fine_result : (x : ℕ) (t : Target) → x < 16 → IsToSlot count size t → Each IsFine (result_far_code count size far aligned x t)
-  fine_result x (ToArray k) l h = fine_store_either (aligned k) (count * size k) x (pointer k) (far.bytes k) h.0 l (pointer_small k h.1) (near k)
+  fine_result x (ToArray k) l h = fine_store_either (aligned k) (count * size k) x (pointer k) (far k) h.0 l (pointer_small k h.1) (near k)
   fine_result x (ToSum g) l h = (fine_vec_store Movdqu 2 (away 4 (sum_slot g)) (omega arith) (omega arith) (fits_up (sum_slot g) (omega (arith, h))), tt)
   fine_result x (ToResident g) l h = tt
   fine_result x (ToPlace p) l h = tt
@@ -210,7 +210,7 @@ step_small : (by size : ℕ) → by ≤ 64 → size ≤ 8 → by * size ≤ 512
 step_small by size most small = let m : by * size ≤ 64 * size = mul-le-mul_right size most in omega (arith, m, small)
 
 module _ (count : ℕ) (size : ℕ → ℕ) (small : (k : ℕ) → size k ≤ 8) (aligned : ℕ → Bool) where
-  near : (first : ℕ) → first ≤ 64 → (k : ℕ) → first * size k < 2 ^ 31
+  near : (first : ℕ) → first ≤ 64 → (k : ℕ) → far_by first size k < 2 ^ 31
   near first l k = (let m = step_small first (size k) l (small k) in omega (arith, m))
 
   fine_advance : (by : ℕ) → by ≤ 64 → (first n : ℕ) → first + n ≤ 12 → Each IsFine (advance_code size by first n)
@@ -221,21 +221,21 @@ module _ (count : ℕ) (size : ℕ → ℕ) (small : (k : ℕ) → size k ≤ 8)
       (fine_alu_imm Add (pointer (first + n)) (pos (by * size (first + n))) (pointer_small (first + n) (omega (arith, h))) (fits_up (by * size (first + n)) (omega (arith, step))), tt)
 
   -- the instructions of a block that is so many elements behind the pointers
-  pub ins_block : (actions : List Action) → Each (IsMovable count size) actions → (lowered first : ℕ) → first ≤ 64 → Each (λ a. Each IsIns (action_far_code count size (far_by lowered first size) aligned a)) actions
-  ins_block actions h lowered first l = ins_actions count size (far_by lowered first size) aligned (near first l) actions h
+  pub ins_block : (actions : List Action) → Each (IsMovable count size) actions → (first : ℕ) → first ≤ 64 → Each (λ a. Each IsIns (action_far_code count size (far_by first size) aligned a)) actions
+  ins_block actions h first l = ins_actions count size (far_by first size) aligned (near first l) actions h
 
   module _ (Are : List Action → Type 0) (movable : (actions : List Action) → Are actions → Each (IsMovable count size) actions) where
-    fine_blocks : (total b : ℕ) (list : List Ins) → b * count ≤ 64 → AreBlocks Are total count size aligned b list → Each IsFine list
-    fine_blocks total zero list l x = subst (Each IsFine) (sym x) tt
-    fine_blocks total (suc b) list l x =
-        let code = actions_far_code count size (far_by ((total - b) * count) (b * count) size) aligned x.1 in
-        subst (Each IsFine) (sym x.4) (each_both IsFine x.0 code (fine_blocks total b x.0 (omega (arith, l, suc-mul b count)) x.2) (fine_actions count size (far_by ((total - b) * count) (b * count) size) aligned (near (b * count) (omega (arith, l, suc-mul b count))) x.1 (movable x.1 x.3)))
+    fine_blocks : (b : ℕ) (list : List Ins) → b * count ≤ 64 → AreBlocks Are count size aligned b list → Each IsFine list
+    fine_blocks zero list l x = subst (Each IsFine) (sym x) tt
+    fine_blocks (suc b) list l x =
+        let code = actions_far_code count size (far_by (b * count) size) aligned x.1 in
+        subst (Each IsFine) (sym x.4) (each_both IsFine x.0 code (fine_blocks b x.0 (omega (arith, l, suc-mul b count)) x.2) (fine_actions count size (far_by (b * count) size) aligned (near (b * count) (omega (arith, l, suc-mul b count))) x.1 (movable x.1 x.3)))
 
     pub fine_turn : (dests sources : ℕ) → dests ≤ 4 → sources ≤ 8 → (b : ℕ) (list : List Ins) → b * count ≤ 64 → IsBlocksTurn Are count size aligned dests sources b list → Each IsFine list
     fine_turn dests sources few_dests few_sources b list l x =
         let by = b * count in
         let last = AluImm Sub 1 (pos by) ∷ [] in
         subst (Each IsFine) (sym x.2)
-        (each_both IsFine x.0 (advance_code size by 0 dests ++ (advance_code size by 4 sources ++ last)) (fine_blocks b b x.0 l x.1)
+        (each_both IsFine x.0 (advance_code size by 0 dests ++ (advance_code size by 4 sources ++ last)) (fine_blocks b x.0 l x.1)
         (each_both IsFine (advance_code size by 0 dests) (advance_code size by 4 sources ++ last) (fine_advance by l 0 dests (omega (arith, few_dests)))
         (each_both IsFine (advance_code size by 4 sources) last (fine_advance by l 4 sources (omega (arith, few_sources))) (fine_alu_imm Sub 1 (pos by) (omega arith) (fits_up by (omega (arith, l))), tt))))

@@ -1,5 +1,5 @@
 -- The instructions of the code's parts.
-use Rattle.std.proofs.Common.{◌≡◌, ℕ, zero, suc, ◌+◌, ◌-◌, ◌*◌, ◌<◌, ◌≤◌, Bool, true, false, pos, List, [], ◌∷◌, ◌++◌, length, map, ap, suc-mul, refl, arith, length-append}
+use Rattle.std.proofs.Common.{◌≡◌, ℕ, zero, suc, ◌+◌, ◌*◌, ◌<◌, ◌≤◌, Bool, true, false, pos, List, [], ◌∷◌, ◌++◌, length, map, ap, suc-mul, refl, arith, length-append}
 use Rattle.std.proofs.lemmas.List.{length-map}
 use Rattle.x86_ins.specs.declared.ins.AluOp.TheVariants.{Add, Sub}
 use Rattle.x86_ins.specs.declared.ins.Ins.{Ins}
@@ -10,7 +10,7 @@ use Rattle.x86_flow.specs.Moves.{IsWidth, load_far_code, store_either_code}
 use Rattle.x86_flow.proofs.Moves.{each_width}
 use Rattle.orc_program.specs.Need.{registers}
 use Rattle.orc_frame.specs.Layout.{spill_slots}
-use Rattle.orc_region.specs.Code.{Ahead, Action, spares_second, IsRule, Source, FromArray, FromPattern, FromResident, FromPlace, FromSlot, FromFar, Target, ToArray, ToSum, ToResident, ToPlace, ToSlot, AreBlocks, IsBlocksTurn, pointer, far_by, first_register, second_register, rule_register, rule_code, source_far_code, brought, sources_far_code, sum_code, result_far_code, results_far_code, own_names, action_names, action_far_code, named_code, actions_far_code, advance_code}
+use Rattle.orc_region.specs.Code.{Action, spares_second, IsRule, Source, FromArray, FromPattern, FromResident, FromPlace, FromSlot, FromFar, Target, ToArray, ToSum, ToResident, ToPlace, ToSlot, AreBlocks, IsBlocksTurn, pointer, far_by, first_register, second_register, rule_register, rule_code, source_far_code, brought, sources_far_code, sum_code, result_far_code, results_far_code, own_names, action_names, action_far_code, named_code, actions_far_code, advance_code}
 use Rattle.orc_region.proofs.Sizes.Cost.{from_weight, from_weights, to_weight, to_weights, weight, weights}
 
 -- a slot of an array whose elements can be moved so many at once, one of the frame, or a place's register
@@ -48,9 +48,9 @@ brought_length : (taken : Bool) (code : List Ins) → length (brought taken code
 brought_length true code = omega arith
 brought_length false code = omega arith
 
-module _ (count : ℕ) (size : ℕ → ℕ) (far : Ahead) (aligned : ℕ → Bool) where
+module _ (count : ℕ) (size far : ℕ → ℕ) (aligned : ℕ → Bool) where
   source_length : (x : ℕ) (s : Source) → IsFromSlot count size s → length (source_far_code count size far x s) ≤ from_weight s
-  source_length x (FromArray k) h = load_count (count * size k) x (pointer k) (far.bytes k) h.0
+  source_length x (FromArray k) h = load_count (count * size k) x (pointer k) (far k) h.0
   source_length x (FromPattern j) h = omega arith
   source_length x (FromResident j g) h = omega arith
   source_length x (FromPlace p) h = omega arith
@@ -66,7 +66,7 @@ module _ (count : ℕ) (size : ℕ → ℕ) (far : Ahead) (aligned : ℕ → Boo
       omega (arith, source_length x s h.0, source_length y t h.1.0, brought_length one front, brought_length two back, length-append (brought one front) (brought two back))
 
   result_length : (x : ℕ) (t : Target) → IsToSlot count size t → length (sum_code (t ∷ [])) + length (result_far_code count size far aligned x t) ≤ to_weight t
-  result_length x (ToArray k) h = let l = store_count (aligned k) (count * size k) x (pointer k) (far.bytes k) h.0 in omega (arith, l)
+  result_length x (ToArray k) h = let l = store_count (aligned k) (count * size k) x (pointer k) (far k) h.0 in omega (arith, l)
   result_length x (ToSum g) h = omega arith
   result_length x (ToResident g) h = omega arith
   result_length x (ToPlace p) h = omega arith
@@ -118,11 +118,11 @@ advance_count size count first (suc n) = omega (arith, length-append (advance_co
 
 -- turns of blocks of actions of which Are holds
 module _ (count : ℕ) (size : ℕ → ℕ) (aligned : ℕ → Bool) (Are : List Action → Type 0) (movable : (actions : List Action) → Are actions → Each (IsMovable count size) actions) (most : ℕ) (few : (actions : List Action) → Are actions → weights actions ≤ most) where
-  blocks_count : (total b : ℕ) (list : List Ins) → AreBlocks Are total count size aligned b list → length list ≤ b * most
-  blocks_count total zero list x = omega (arith, ap length x)
-  blocks_count total (suc b) list x =
-      let code = actions_far_code count size (far_by ((total - b) * count) (b * count) size) aligned x.1 in
-      omega (arith, ap length x.4, length-append x.0 code, blocks_count total b x.0 x.2, actions_count count size (far_by ((total - b) * count) (b * count) size) aligned x.1 (movable x.1 x.3), few x.1 x.3, suc-mul b most)
+  blocks_count : (b : ℕ) (list : List Ins) → AreBlocks Are count size aligned b list → length list ≤ b * most
+  blocks_count zero list x = omega (arith, ap length x)
+  blocks_count (suc b) list x =
+      let code = actions_far_code count size (far_by (b * count) size) aligned x.1 in
+      omega (arith, ap length x.4, length-append x.0 code, blocks_count b x.0 x.2, actions_count count size (far_by (b * count) size) aligned x.1 (movable x.1 x.3), few x.1 x.3, suc-mul b most)
 
   pub turn_count : (dests sources b : ℕ) (list : List Ins) → IsBlocksTurn Are count size aligned dests sources b list → length list ≤ b * most + (dests + sources) + 1
   turn_count dests sources b list x =
@@ -130,4 +130,4 @@ module _ (count : ℕ) (size : ℕ → ℕ) (aligned : ℕ → Bool) (Are : List
       let last = AluImm Sub 1 (pos by) ∷ [] in
       let first = advance_code size by 0 dests in
       let second = advance_code size by 4 sources in
-      omega (arith, ap length x.2, blocks_count b b x.0 x.1, length-append x.0 (first ++ (second ++ last)), length-append first (second ++ last), length-append second last, advance_count size by 0 dests, advance_count size by 4 sources)
+      omega (arith, ap length x.2, blocks_count b x.0 x.1, length-append x.0 (first ++ (second ++ last)), length-append first (second ++ last), length-append second last, advance_count size by 0 dests, advance_count size by 4 sources)

@@ -22,7 +22,7 @@ use Rattle.orc_program.specs.Slots.{size_of_slot}
 use Rattle.orc_frame.specs.Layout.{pattern_slot, sum_slot}
 use Rattle.sse_laws.specs.Targets.{IsCodeFor}
 use Rattle.sse_laws.proofs.Targeted.{behind_for, either_for, renamed_for}
-use Rattle.orc_region.specs.Code.{Ahead, Action, Source, FromArray, FromPattern, FromResident, FromPlace, FromSlot, FromFar, Target, ToArray, ToSum, ToResident, ToPlace, ToSlot, AreActions, AreBlocks, IsBlocksTurn, IsBlock, IsTurnOf, pointer, far_by, far_source, from_zero_code, aligned_first, first_register, second_register, rule_register, rule_code, source_far_code, brought, sources_far_code, sum_code, result_far_code, results_far_code, own_names, spares_second, action_names, action_far_code, named_code, actions_far_code, advance_code, Seats, seats_of, last_place, is_resident, resident_register, resident_code, residents_code, cleared, loaded, resident_loads_code, sum_store_code, sum_stores_code}
+use Rattle.orc_region.specs.Code.{Action, Source, FromArray, FromPattern, FromResident, FromPlace, FromSlot, FromFar, Target, ToArray, ToSum, ToResident, ToPlace, ToSlot, AreActions, AreBlocks, IsBlocksTurn, IsBlock, IsTurnOf, pointer, far_by, far_source, from_zero_code, aligned_first, first_register, second_register, rule_register, rule_code, source_far_code, brought, sources_far_code, sum_code, result_far_code, results_far_code, own_names, spares_second, action_names, action_far_code, named_code, actions_far_code, advance_code, Seats, seats_of, last_place, is_resident, resident_register, resident_code, residents_code, cleared, loaded, resident_loads_code, sum_store_code, sum_stores_code}
 
 module _ (t : CodeTarget) where
   -- ---- one action
@@ -97,13 +97,13 @@ module _ (t : CodeTarget) where
       go true = refl
       go false = refl
 
-  module _ (count : ℕ) (size : ℕ → ℕ) (far : Ahead) (aligned : ℕ → Bool) where
+  module _ (count : ℕ) (size : ℕ → ℕ) (far : ℕ → ℕ) (aligned : ℕ → Bool) where
     source_for : (x : ℕ) (s : Source) → IsCodeFor t (source_far_code count size far x s)
-    source_for x (FromArray k) = load_for (count * size k) x (pointer k) (far.bytes k)
+    source_for x (FromArray k) = load_for (count * size k) x (pointer k) (far k)
     source_for x (FromPattern j) = refl
     source_for x (FromResident j g) = refl
     source_for x (FromPlace p) = refl
-    source_for x (FromFar load array js) = behind_for t (bring_code (far_source far.lowered load array js) count) (from_zero_code x) (bring_for (far_source far.lowered load array js) count) (from_zero_for x)
+    source_for x (FromFar load array js) = behind_for t (bring_code (far_source (far array) load array js) count) (from_zero_code x) (bring_for (far_source (far array) load array js) count) (from_zero_for x)
     source_for x (FromSlot k) = refl
 
     brought_for : (taken : Bool) (code : List Ins) → IsCodeFor t code → IsCodeFor t (brought taken code)
@@ -129,7 +129,7 @@ module _ (t : CodeTarget) where
     result_for : (x : ℕ) (to : Target) → IsCodeFor t (result_far_code count size far aligned x to)
     result_for x (ToArray k) =
         let width = count * size k in
-        either_for t (aligned k) (aligned_store_far_code x (pointer k) (far.bytes k)) (store_far_code width x (pointer k) (far.bytes k)) refl (store_for width x (pointer k) (far.bytes k))
+        either_for t (aligned k) (aligned_store_far_code x (pointer k) (far k)) (store_far_code width x (pointer k) (far k)) refl (store_for width x (pointer k) (far k))
     result_for x (ToSum g) = refl
     result_for x (ToResident g) = refl
     result_for x (ToPlace p) = refl
@@ -164,7 +164,7 @@ module _ (t : CodeTarget) where
   rules_for seats count (s ∷ steps) [] are = absurd are
 
   module _ (seats : Seats) (count : ℕ) (steps : List Step) (size : ℕ → ℕ) (aligned : ℕ → Bool) where
-    actions_for : (far : Ahead) (actions : List Action) → AreActions t seats count steps actions → IsCodeFor t (actions_far_code count size far aligned actions)
+    actions_for : (far : ℕ → ℕ) (actions : List Action) → AreActions t seats count steps actions → IsCodeFor t (actions_far_code count size far aligned actions)
     actions_for far actions are = named_for count size far aligned own_names actions (rules_for seats count steps actions are)
 
     -- ---- turns
@@ -172,7 +172,7 @@ module _ (t : CodeTarget) where
     blocks_for : (total b : ℕ) (list : List Ins) → AreBlocks (AreActions t seats count steps) total count size aligned b list → IsCodeFor t list
     blocks_for total zero list x = subst (IsCodeFor t) (sym x) refl
     blocks_for total (suc b) list x =
-        subst (IsCodeFor t) (sym x.4) (behind_for t x.0 (actions_far_code count size (far_by ((total - b) * count) (b * count) size) aligned x.1) (blocks_for total b x.0 x.2) (actions_for (far_by ((total - b) * count) (b * count) size) x.1 x.3))
+        subst (IsCodeFor t) (sym x.4) (behind_for t x.0 (actions_far_code count size (far_by (b * count) size) aligned x.1) (blocks_for total b x.0 x.2) (actions_for (far_by (b * count) size) x.1 x.3))
 
     advance_for : (by first n : ℕ) → IsCodeFor t (advance_code size by first n)
     advance_for by first zero = refl
@@ -192,7 +192,7 @@ module _ (t : CodeTarget) where
 
 module _ (f : FunctionValue) (t : CodeTarget) (at : List ℕ) where
   pub block_is_for : (count : ℕ) (aligned : Bool) (list : List Ins) → IsBlock f t at count aligned list → IsCodeFor t list
-  block_is_for count aligned list x = subst (IsCodeFor t) (sym x.2) (actions_for t (seats_of f at) count (steps_of f) (size_of_slot f.vars) (aligned_first aligned) (far_by count 0 (size_of_slot f.vars)) x.0 x.1)
+  block_is_for count aligned list x = subst (IsCodeFor t) (sym x.2) (actions_for t (seats_of f at) count (steps_of f) (size_of_slot f.vars) (aligned_first aligned) (far_by 0 (size_of_slot f.vars)) x.0 x.1)
 
   pub turn_is_for : (count : ℕ) (aligned : Bool) (b : ℕ) (list : List Ins) → IsTurnOf f t at count aligned b list → IsCodeFor t list
   turn_is_for count aligned b list x = turn_for t (seats_of f at) count (steps_of f) (size_of_slot f.vars) (aligned_first aligned) (count_of kind.Dest f.vars) (count_of kind.Source f.vars) b list x

@@ -17,7 +17,7 @@ use Rattle.x86_flow.proofs.Moves.{line_append}
 use Rattle.x86_flow.proofs.Touching.{touches_none}
 use Rattle.x86_flow.proofs.Plans.{line_map}
 use Rattle.orc_frame.specs.Parts.{InChanged}
-use Rattle.orc_region.specs.Code.{Ahead, Plan, Action, AreBlocks, IsBlocksTurn, pointer, resident_register, far_by, own_names, action_far_code, actions_far_code, advance_code}
+use Rattle.orc_region.specs.Code.{Plan, Action, AreBlocks, IsBlocksTurn, pointer, resident_register, far_by, own_names, action_far_code, actions_far_code, advance_code}
 use Rattle.orc_region.proofs.Block.Registers.{not_0, not_1, not_4, not_7, pointer_one}
 use Rattle.sse_acc.specs.Sums.{sum_below}
 use Rattle.orc_region.proofs.Block.Cells.{Numbers, OfDests, Local, no_values, Lanes, Others, AtElements, AllKnown, Decided, Low, local, adds, elements_or_not, same_end}
@@ -180,7 +180,7 @@ module _ (n : ℕ) (base : ℕ → ℕ) (P : ℕ → Type 0) (numbers : Numbers)
           low_from j w k hk q l r lr = (let x = set.ground.low k hk (j + q) (omega (arith, l, w)) r lr in omega (arith, x, add-mul j q (p.size k)))
 
           -- the block does the elements from j on, which lie so far behind the pointers, and leaves the pointers
-          pub block_steps : (far : Ahead) (aligned : ℕ → Bool) → (aligned 0 ≡ false → count * p.size 0 ≡ 16 → Free) → (lag : ℕ) → ((k : ℕ) → far.bytes k ≡ lag * p.size k) → Each (λ a. Each IsIns (action_far_code count p.size far aligned a)) p.actions → (i j : ℕ) → j ≡ lag + i → Aligns aligned j → (e : Memory) (totals : ℕ → ℕ) (c : Core) → j + count ≤ n → Inside i e totals c → Emul j e totals
+          pub block_steps : (far : ℕ → ℕ) (aligned : ℕ → Bool) → (aligned 0 ≡ false → count * p.size 0 ≡ 16 → Free) → (lag : ℕ) → ((k : ℕ) → far k ≡ lag * p.size k) → Each (λ a. Each IsIns (action_far_code count p.size far aligned a)) p.actions → (i j : ℕ) → j ≡ lag + i → Aligns aligned j → (e : Memory) (totals : ℕ → ℕ) (c : Core) → j + count ≤ n → Inside i e totals c → Emul j e totals
               → (end : Memory) × (new : ℕ → ℕ) × (d : Core) × Emul (count + j) end new × Line (InBlock j c) (actions_far_code count p.size far aligned p.actions) c d × Inside i end new d × ((r : ℕ) → r ≢ 0 → d.gpr r ≡ c.gpr r)
               × ((a : ℕ) → (AtElements n base p.size (OfDests P) j count a → ⊥) → (InChanged rsp numbers.sums a → ⊥) → d.memory a ≡ c.memory a)
           block_steps far aligned free lag far_is ins_all i j same aligns e totals c w h em =
@@ -188,7 +188,7 @@ module _ (n : ℕ) (base : ℕ → ℕ) (P : ℕ → Type 0) (numbers : Numbers)
               let hc : Lanes n base p.size P j count c.memory sig = holds i j e totals c h w in
               let he : Lanes n base p.size P j count e sig = λ k hk q l r lr. sym (h.agree (base k + (j + q) * p.size k + r) (set.apart k hk (j + q) (omega (arith, l, w)) r lr)) ∙ hc k hk q l r lr in
               let dest : (a : ℕ) → AtElements n base p.size (OfDests P) j count a → IsDestCell a = λ a at. (at.0, at.1, j + at.2, omega (arith, at.3, w), at.4, at.5, at.6) in
-              let at : (k : ℕ) → P k → 0 < p.size k → (c.gpr (pointer k) + far.bytes k ≡ base k + j * p.size k) × (aligned k ≡ true → (count * p.size k ≡ 16) × ((base k + j * p.size k) % 16 ≡ 0)) = λ k hk s.
+              let at : (k : ℕ) → P k → 0 < p.size k → (c.gpr (pointer k) + far k ≡ base k + j * p.size k) × (aligned k ≡ true → (count * p.size k ≡ 16) × ((base k + j * p.size k) % 16 ≡ 0)) = λ k hk s.
               ((let l = set.ground.low k hk j (omega (arith, w, some)) 0 s in let x = h.pointers k (set.slots k hk) in omega (arith, l, x, far_is k, add-mul lag i (p.size k), ap (λ t. t * p.size k) same)), aligns k hk) in
               let Only : Core → Type 0 = λ u. (a : ℕ) → (AtElements n base p.size (OfDests P) j count a → ⊥) → (InChanged rsp numbers.sums a → ⊥) → u.memory a ≡ c.memory a in
               let Near : Core → Ins → Type 0 = λ u ins. Calm u × ((r : ℕ) → r ≢ 0 → u.gpr r ≡ c.gpr r) × Only u in
@@ -206,7 +206,7 @@ module _ (n : ℕ) (base : ℕ → ℕ) (P : ℕ → Type 0) (numbers : Numbers)
                 calm = q.0;
                 only = q.2;
                 touches = goes_touch count (base_from j) p.size P numbers frame.few_patterns frame.few_sums far aligned count whole rsp frame.low (low_from j w) some Free free 0 (omega arith) u q.0.stack
-                    (λ k hk s. ap (λ y. y + far.bytes k) (q.1 (pointer k) (not_0 k)) ∙ (at k hk s).0 ∙ (let z : base k + j * p.size k ≡ base k + j * p.size k + 0 * p.size k = omega arith in z)) ins (here ins g);
+                    (λ k hk s. ap (λ y. y + far k) (q.1 (pointer k) (not_0 k)) ∙ (at k hk s).0 ∙ (let z : base k + j * p.size k ≡ base k + j * p.size k + 0 * p.size k = omega arith in z)) ins (here ins g);
               } in
               let line : Line (InBlock j c) (actions_far_code count p.size far aligned p.actions) c b.0 = line_with Near (InBlock j c) (Goes n base p.size P numbers frame.few_patterns frame.few_sums far aligned count whole) touch (actions_far_code count p.size far aligned p.actions) goes c b.0 b.1 in
               let m = set.emulates j e totals sig em count w he in
@@ -238,7 +238,7 @@ module _ (n : ℕ) (base : ℕ → ℕ) (P : ℕ → Type 0) (numbers : Numbers)
       calm_none u i h e = calmly u i h (inl (λ a t. absurd (touches_none i u e a t)))
 
       -- a block for the elements so far behind the pointers, which it leaves
-      pub block_far_line : (count : ℕ) (some : 0 < count) (fit : Each (IsFit count p.size) p.actions) (far : Ahead) (aligned : ℕ → Bool) → (aligned 0 ≡ false → count * p.size 0 ≡ 16 → Free) → (lag : ℕ) → ((k : ℕ) → far.bytes k ≡ lag * p.size k) → Each (λ a. Each IsIns (action_far_code count p.size far aligned a)) p.actions → (i : ℕ) → Aligns count aligned (lag + i) → (e : Memory) (totals : ℕ → ℕ) (c : Core) → lag + i + count ≤ n → Inside i e totals c → Emul (lag + i) e totals
+      pub block_far_line : (count : ℕ) (some : 0 < count) (fit : Each (IsFit count p.size) p.actions) (far : ℕ → ℕ) (aligned : ℕ → Bool) → (aligned 0 ≡ false → count * p.size 0 ≡ 16 → Free) → (lag : ℕ) → ((k : ℕ) → far k ≡ lag * p.size k) → Each (λ a. Each IsIns (action_far_code count p.size far aligned a)) p.actions → (i : ℕ) → Aligns count aligned (lag + i) → (e : Memory) (totals : ℕ → ℕ) (c : Core) → lag + i + count ≤ n → Inside i e totals c → Emul (lag + i) e totals
           → (end : Memory) × (new : ℕ → ℕ) × (d : Core) × Emul (count + (lag + i)) end new × Line Q (actions_far_code count p.size far aligned p.actions) c d × Inside i end new d × (d.gpr 1 ≡ c.gpr 1)
       block_far_line count some fit far aligned free lag far_is ins_all i aligns e totals c w h em =
           let x = block_steps count Free some fit far aligned free lag far_is ins_all i (lag + i) refl aligns e totals c w h em in
@@ -297,7 +297,7 @@ module _ (n : ℕ) (base : ℕ → ℕ) (P : ℕ → Type 0) (numbers : Numbers)
 pub record Able (n : ℕ) (base : ℕ → ℕ) (P : ℕ → Type 0) (numbers : Numbers) (rsp : ℕ) (p : Plan) (Emul : ℕ → Memory → (ℕ → ℕ) → Type 0) (F : ℕ → Type 0) (count : ℕ) (aligned : ℕ → Bool) (actions : List Action) : Type 0 where
   pub set : Setting n base P numbers rsp (record p { actions = actions }) Emul F
   pub fit : Each (IsFit count p.size) actions
-  pub known : (lowered first : ℕ) → first ≤ 64 → Each (λ a. Each IsIns (action_far_code count p.size (far_by lowered first p.size) aligned a)) actions
+  pub known : (first : ℕ) → first ≤ 64 → Each (λ a. Each IsIns (action_far_code count p.size (far_by first p.size) aligned a)) actions
 
 module _ (n : ℕ) (base : ℕ → ℕ) (P : ℕ → Type 0) (numbers : Numbers) (rsp : ℕ) (p : Plan) (Emul : ℕ → Memory → (ℕ → ℕ) → Type 0) (F : ℕ → Type 0) (set : Setting n base P numbers rsp p Emul F) (rdi : ℕ) (mem : Memory)
     (Q : Core → Ins → Type 0) (Free : Type 0) (calmly : (u : Core) (i : Ins) → Calm n base P numbers rsp p Emul F set rdi mem u → TouchesPart n base p.size P rsp Free u i → Q u i) where
@@ -322,15 +322,15 @@ module _ (n : ℕ) (base : ℕ → ℕ) (P : ℕ → Type 0) (numbers : Numbers)
     AbleTo = Able n base P numbers rsp p Emul F count aligned
 
     -- so many blocks, one behind another
-    blocks_line : (total b : ℕ) (list : List Ins) → AreBlocks AbleTo total count p.size aligned b list → b * count ≤ 64 → (i : ℕ) → Aligns n base P numbers rsp p Emul F set rdi mem count aligned i → (e : Memory) (totals : ℕ → ℕ) (c : Core) → i + b * count ≤ n → Here i e totals c → Emul i e totals
+    blocks_line : (b : ℕ) (list : List Ins) → AreBlocks AbleTo count p.size aligned b list → b * count ≤ 64 → (i : ℕ) → Aligns n base P numbers rsp p Emul F set rdi mem count aligned i → (e : Memory) (totals : ℕ → ℕ) (c : Core) → i + b * count ≤ n → Here i e totals c → Emul i e totals
         → (end : Memory) × (new : ℕ → ℕ) × (d : Core) × Emul (b * count + i) end new × Line Q list c d × Here i end new d × (d.gpr 1 ≡ c.gpr 1)
-    blocks_line total zero list x near i aligns e totals c w h em = (let same : i ≡ 0 * count + i = omega arith in (e, totals, c, subst (λ k. Emul k e totals) same em, subst (λ l. Line Q l c c) (sym x) refl, h, refl))
-    blocks_line total (suc b) list x near i aligns e totals c w h em =
+    blocks_line zero list x near i aligns e totals c w h em = (let same : i ≡ 0 * count + i = omega arith in (e, totals, c, subst (λ k. Emul k e totals) same em, subst (λ l. Line Q l c c) (sym x) refl, h, refl))
+    blocks_line (suc b) list x near i aligns e totals c w h em =
         let acts = x.1 in
         let able = x.3 in
-        let code = actions_far_code count p.size (far_by ((total - b) * count) (b * count) p.size) aligned acts in
-        let y = blocks_line total b x.0 x.2 (omega (arith, near, suc-mul b count)) i aligns e totals c (omega (arith, w, suc-mul b count)) h em in
-        let z = block_far_line n base P numbers rsp (record p { actions = acts }) Emul F able.set rdi mem Q Free (there_calmly acts able.set) count some able.fit (far_by ((total - b) * count) (b * count) p.size) aligned free (b * count) (λ k. refl) (able.known ((total - b) * count) (b * count) (omega (arith, near, suc-mul b count))) i
+        let code = actions_far_code count p.size (far_by (b * count) p.size) aligned acts in
+        let y = blocks_line b x.0 x.2 (omega (arith, near, suc-mul b count)) i aligns e totals c (omega (arith, w, suc-mul b count)) h em in
+        let z = block_far_line n base P numbers rsp (record p { actions = acts }) Emul F able.set rdi mem Q Free (there_calmly acts able.set) count some able.fit (far_by (b * count) p.size) aligned free (b * count) (λ k. refl) (able.known (b * count) (omega (arith, near, suc-mul b count))) i
         (aligns_on n base P numbers rsp p Emul F set rdi mem count aligned i b aligns) y.0 y.1 y.2 (omega (arith, w, suc-mul b count)) (to_there acts able.set i y.0 y.1 y.2 y.5) y.3 in
         let here : count + (b * count + i) ≡ suc b * count + i = omega (arith, suc-mul b count) in (
           z.0,
@@ -346,6 +346,6 @@ module _ (n : ℕ) (base : ℕ → ℕ) (P : ℕ → Type 0) (numbers : Numbers)
     pub turn_line : (b : ℕ) (list : List Ins) → IsBlocksTurn AbleTo count p.size aligned p.dests p.sources b list → b * count ≤ 64 → Each IsIns list → (i : ℕ) → Aligns n base P numbers rsp p Emul F set rdi mem count aligned i → (e : Memory) (totals : ℕ → ℕ) (c : Core) → i + b * count ≤ n → Here i e totals c → Emul i e totals
         → (end : Memory) × (new : ℕ → ℕ) × (d : Core) × Emul (b * count + i) end new × Line Q list c d × Here (b * count + i) end new d × (d.gpr 1 ≡ (c.gpr 1 + (2 ^ 64 - b * count)) % 2 ^ 64) × Tested d
     turn_line b list x near known i aligns e totals c w h em =
-        let a = blocks_line b b x.0 x.1 near i aligns e totals c w h em in
+        let a = blocks_line b x.0 x.1 near i aligns e totals c w h em in
         let m = move_line n base P numbers rsp p Emul F set rdi mem Q Free calmly (b * count) near x.0 i a.0 a.1 c a.2 a.4 a.5 a.6 h.bounded (subst (Each IsIns) x.2 known) in
         (a.0, a.1, m.0, a.3, subst (λ l. Line Q l c m.0) (sym x.2) m.1, m.2, m.3, m.4)

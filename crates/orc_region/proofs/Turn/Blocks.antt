@@ -1,5 +1,5 @@
 -- Blocks for so many elements of a function's code: their lists are what the plan says, they are allowed, and few of their instructions go by pointers.
-use Rattle.std.proofs.Common.{refl, ◌≡◌, ℕ, ◌*◌, ◌^◌, ◌<◌, ◌≤◌, Bool, true, false, List, length, slice_index, sym, ap, ◌∙◌, subst, arith, All, IsTrue}
+use Rattle.std.proofs.Common.{◌≡◌, ℕ, ◌*◌, ◌^◌, ◌<◌, ◌≤◌, Bool, true, false, List, length, slice_index, sym, ap, ◌∙◌, subst, arith, All, IsTrue}
 use Rattle.orc_ops.specs.declared.target.Target.{Target as CodeTarget}
 use Rattle.orc_program.specs.Program.{FunctionValue}
 use Rattle.orc_program.specs.Kept.{is_function}
@@ -29,30 +29,30 @@ module _ (f : FunctionValue) (h : is_function f ≡ true) (at : List ℕ) (good 
   size = size_of_slot f.vars
 
   -- the cells are at the pointers
-  near : (k : ℕ) → (far_by count 0 size).bytes k < 2 ^ 31
+  near : (k : ℕ) → far_by 0 size k < 2 ^ 31
   near k = omega arith
 
   pub block_is : (target : CodeTarget) (list : List Ins) → IsBlockBy (seats_of f at) (sizes_of f) (steps_of f) (span_of target count aligned) list → IsBlock f target at count aligned list
   block_is target list x =
       let steps : ℕ → ℕ = slice_index (sizes_of f) in
-      let same = same_actions steps size count (far_by count 0 steps) (far_by count 0 size) (aligned_first aligned) (λ k e. ap (λ n. 0 * n) e) refl x.0 (all_same f h at (stand_is f h at good) count is_count target x.0 x.1) in
+      let same = same_actions steps size count (far_by 0 steps) (far_by 0 size) (aligned_first aligned) (λ k e. ap (λ n. 0 * n) e) x.0 (all_same f h at (stand_is f h at good) count is_count target x.0 x.1) in
       (x.0, x.1, x.2 ∙ same)
 
   -- the instructions of its actions
-  pub ins_of_block : (target : CodeTarget) (actions : List Action) → AreActions target (seats_of f at) count (steps_of f) actions → Each (λ a. Each IsIns (action_far_code count size (far_by count 0 size) (aligned_first aligned) a)) actions
-  ins_of_block target actions is = ins_actions count size (far_by count 0 size) (aligned_first aligned) near actions (small_plan f h at good count is_count target actions is).actions
+  pub ins_of_block : (target : CodeTarget) (actions : List Action) → AreActions target (seats_of f at) count (steps_of f) actions → Each (λ a. Each IsIns (action_far_code count size (far_by 0 size) (aligned_first aligned) a)) actions
+  ins_of_block target actions is = ins_actions count size (far_by 0 size) (aligned_first aligned) near actions (small_plan f h at good count is_count target actions is).actions
 
   module _ (target : CodeTarget) (list : List Ins) (x : IsBlock f target at count aligned list) where
     pub block_fine : Each IsFine list
-    block_fine = subst (Each IsFine) (sym x.2) (fine_actions count size (far_by count 0 size) (aligned_first aligned) near x.0 (small_plan f h at good count is_count target x.0 x.1).actions)
+    block_fine = subst (Each IsFine) (sym x.2) (fine_actions count size (far_by 0 size) (aligned_first aligned) near x.0 (small_plan f h at good count is_count target x.0 x.1).actions)
 
     pub block_spelled : All (λ i. IsTrue (has_spelling i)) list
     block_spelled = all_spelled list block_fine
 
     pub block_few : length list ≤ cost_for f target
-    block_few = omega (arith, ap length x.2, actions_count count size (far_by count 0 size) (aligned_first aligned) x.0 (small_plan f h at good count is_count target x.0 x.1).actions, weights_few f h at good count is_count target x.0 x.1)
+    block_few = omega (arith, ap length x.2, actions_count count size (far_by 0 size) (aligned_first aligned) x.0 (small_plan f h at good count is_count target x.0 x.1).actions, weights_few f h at good count is_count target x.0 x.1)
 
     -- the instructions that go by some registers, of which RSP is none, are at most as many as the function's operands that are arrays
     pub block_light : (by : ℕ → Bool) → by 4 ≡ false → weigh (touch_weight by) list ≤ (subject_of f).operands
     block_light by by_stack =
-        omega (arith, ap (weigh (touch_weight by)) x.2, actions_few by by_stack count size (far_by count 0 size) (aligned_first aligned) x.0 (fit_actions f h at good count is_count target x.0 x.1), arrays_few target f h is_count.near at (stand_is f h at good) count x.0 x.1)
+        omega (arith, ap (weigh (touch_weight by)) x.2, actions_few by by_stack count size (far_by 0 size) (aligned_first aligned) x.0 (fit_actions f h at good count is_count target x.0 x.1), arrays_few target f h is_count.near at (stand_is f h at good) count x.0 x.1)

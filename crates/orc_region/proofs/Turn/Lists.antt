@@ -1,5 +1,5 @@
 -- Turns of so many elements of a function's code: their lists are what the plan says, they are allowed, and their instructions and bytes are few.
-use Rattle.std.proofs.Common.{refl, ◌≡◌, ℕ, zero, suc, ◌+◌, ◌-◌, ◌*◌, ◌≤◌, Bool, true, false, if◌then◌else◌, nat_lt, pos, List, [], ◌∷◌, ◌++◌, length, slice_index, ap, ap₂, ◌∙◌, arith, All, IsTrue, inl, inr}
+use Rattle.std.proofs.Common.{◌≡◌, ℕ, zero, suc, ◌+◌, ◌*◌, ◌≤◌, Bool, true, false, if◌then◌else◌, nat_lt, pos, List, [], ◌∷◌, ◌++◌, length, slice_index, ap, ap₂, ◌∙◌, arith, All, IsTrue, inl, inr}
 use Rattle.std.proofs.Math.Nat.{mul-le-mul_right}
 use Rattle.orc_ops.specs.declared.target.Target.{Target as CodeTarget}
 use Rattle.orc_program.specs.declared.program.VarKind.TheVariants as kind
@@ -34,12 +34,12 @@ use Rattle.orc_region.proofs.Checked.Knows.{all_movable, all_fit, all_ready, all
 
 -- turns of actions of which more is known
 module _ (A B : List Action → Type 0) (count : ℕ) (size : ℕ → ℕ) (aligned : ℕ → Bool) (more : (actions : List Action) → A actions → B actions) where
-  blocks_map : (total b : ℕ) (list : List Ins) → AreBlocks A total count size aligned b list → AreBlocks B total count size aligned b list
-  blocks_map total zero list x = x
-  blocks_map total (suc b) list x = (x.0, x.1, blocks_map total b x.0 x.2, more x.1 x.3, x.4)
+  blocks_map : (b : ℕ) (list : List Ins) → AreBlocks A count size aligned b list → AreBlocks B count size aligned b list
+  blocks_map zero list x = x
+  blocks_map (suc b) list x = (x.0, x.1, blocks_map b x.0 x.2, more x.1 x.3, x.4)
 
   pub turns_map : (dests sources b : ℕ) (list : List Ins) → IsBlocksTurn A count size aligned dests sources b list → IsBlocksTurn B count size aligned dests sources b list
-  turns_map dests sources b list x = (x.0, blocks_map b b x.0 x.1, x.2)
+  turns_map dests sources b list x = (x.0, blocks_map b x.0 x.1, x.2)
 
 -- a large turn has at most four blocks
 pub few_blocks : (n : ℕ) → blocks_of n ≤ 4
@@ -91,14 +91,14 @@ module _ (f : FunctionValue) (h : is_function f ≡ true) (at : List ℕ) (good 
 
     -- ---- the lists are what the plan says
 
-    same_blocks : (target : CodeTarget) (aligned : Bool) (total b : ℕ) (list : List Ins) → AreBlocks (Acts target) total count steps (aligned_first aligned) b list → AreBlocks (Acts target) total count slots (aligned_first aligned) b list
-    same_blocks target aligned total zero list x = x
-    same_blocks target aligned total (suc b) list x =
-        let block = same_actions steps slots count (far_by ((total - b) * count) (b * count) steps) (far_by ((total - b) * count) (b * count) slots) (aligned_first aligned) (λ k e. ap (λ n. b * count * n) e) refl x.1 (all_same f h at stand_is count is_count target x.1 x.3) in
-        (x.0, x.1, same_blocks target aligned total b x.0 x.2, x.3, x.4 ∙ ap (λ (l : List Ins). x.0 ++ l) block)
+    same_blocks : (target : CodeTarget) (aligned : Bool) (b : ℕ) (list : List Ins) → AreBlocks (Acts target) count steps (aligned_first aligned) b list → AreBlocks (Acts target) count slots (aligned_first aligned) b list
+    same_blocks target aligned zero list x = x
+    same_blocks target aligned (suc b) list x =
+        let block = same_actions steps slots count (far_by (b * count) steps) (far_by (b * count) slots) (aligned_first aligned) (λ k e. ap (λ n. b * count * n) e) x.1 (all_same f h at stand_is count is_count target x.1 x.3) in
+        (x.0, x.1, same_blocks target aligned b x.0 x.2, x.3, x.4 ∙ ap (λ (l : List Ins). x.0 ++ l) block)
 
     pub turn_is : (target : CodeTarget) (aligned : Bool) (b : ℕ) (list : List Ins) → IsTurnBy (seats_of f at) (sizes_of f) (steps_of f) (count_of kind.Dest f.vars) (count_of kind.Source f.vars) (span_of target count aligned) b list → IsTurnOf f target at count aligned b list
-    turn_is target aligned b list x = (x.0, same_blocks target aligned b b x.0 x.1, x.2 ∙ ap (λ (l : List Ins). x.0 ++ l) (same_moves (b * count)))
+    turn_is target aligned b list x = (x.0, same_blocks target aligned b x.0 x.1, x.2 ∙ ap (λ (l : List Ins). x.0 ++ l) (same_moves (b * count)))
 
     -- ---- the plan by actions of the steps
 
@@ -113,7 +113,7 @@ module _ (f : FunctionValue) (h : is_function f ≡ true) (at : List ℕ) (good 
       fit_actions = all_fit f h at stand_is count is_count target actions is
 
       -- the instructions of a block that is so many elements behind the pointers
-      pub ins_blocks : (aligned : Bool) (lowered first : ℕ) → first ≤ 64 → Each (λ a. Each IsIns (action_far_code count (size_of_slot f.vars) (far_by lowered first (size_of_slot f.vars)) (aligned_first aligned) a)) actions
+      pub ins_blocks : (aligned : Bool) (first : ℕ) → first ≤ 64 → Each (λ a. Each IsIns (action_far_code count (size_of_slot f.vars) (far_by first (size_of_slot f.vars)) (aligned_first aligned) a)) actions
       ins_blocks aligned = ins_block count (size_of_slot f.vars) small_plan.size (aligned_first aligned) actions small_plan.actions
 
     -- ---- turns of so many blocks

@@ -7,7 +7,7 @@ use Rattle.x86_ins.specs.Renaming.{renamed, renaming}
 use Rattle.x86_ins.specs.Way.{Each}
 use Rattle.x86_flow.specs.Moves.{load_far_code, store_either_code}
 use Rattle.orc_resample.specs.Code.{bring_code}
-use Rattle.orc_region.specs.Code.{far_source, from_zero_code, Ahead, Action, spares_second, Source, FromArray, FromPattern, FromResident, FromPlace, FromSlot, FromFar, Target, ToArray, ToSum, ToResident, ToPlace, ToSlot, pointer, first_register, second_register, rule_code, source_far_code, brought, sources_far_code, sum_code, result_far_code, results_far_code, own_names, action_names, named_code, actions_far_code, advance_code}
+use Rattle.orc_region.specs.Code.{far_source, from_zero_code, Action, spares_second, Source, FromArray, FromPattern, FromResident, FromPlace, FromSlot, FromFar, Target, ToArray, ToSum, ToResident, ToPlace, ToSlot, pointer, first_register, second_register, rule_code, source_far_code, brought, sources_far_code, sum_code, result_far_code, results_far_code, own_names, action_names, named_code, actions_far_code, advance_code}
 
 module _ (size other : ℕ → ℕ) where
   abbrev pub SameFrom : Source → Type 0
@@ -15,7 +15,7 @@ module _ (size other : ℕ → ℕ) where
   SameFrom (FromPattern j) = Unit {0}
   SameFrom (FromResident j g) = Unit {0}
   SameFrom (FromPlace p) = Unit {0}
-  SameFrom (FromFar load array js) = Unit {0}
+  SameFrom (FromFar load array js) = size array ≡ other array
   SameFrom (FromSlot k) = Unit {0}
 
   abbrev pub SameTo : Target → Type 0
@@ -28,13 +28,13 @@ module _ (size other : ℕ → ℕ) where
   abbrev pub SameFor : Action → Type 0
   SameFor a = Each SameFrom a.sources × Each SameTo a.to
 
-  module _ (count : ℕ) (far away : Ahead) (aligned : ℕ → Bool) (same : (k : ℕ) → size k ≡ other k → far.bytes k ≡ away.bytes k) (low : far.lowered ≡ away.lowered) where
+  module _ (count : ℕ) (far away : ℕ → ℕ) (aligned : ℕ → Bool) (same : (k : ℕ) → size k ≡ other k → far k ≡ away k) where
     same_source : (x : ℕ) (s : Source) → SameFrom s → source_far_code count size far x s ≡ source_far_code count other away x s
     same_source x (FromArray k) h = ap₂ (λ n d. load_far_code (count * n) x (pointer k) d) h (same k h)
     same_source x (FromPattern j) h = refl
     same_source x (FromResident j g) h = refl
     same_source x (FromPlace p) h = refl
-    same_source x (FromFar load array js) h = ap (λ n. bring_code (far_source n load array js) count ++ from_zero_code x) low
+    same_source x (FromFar load array js) h = ap (λ n. bring_code (far_source n load array js) count ++ from_zero_code x) (same array h)
     same_source x (FromSlot k) h = refl
 
     same_sources : (one two : Bool) (x y : ℕ) (ss : List Source) → Each SameFrom ss → sources_far_code one two count size far x y ss ≡ sources_far_code one two count other away x y ss

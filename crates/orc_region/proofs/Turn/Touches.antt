@@ -1,5 +1,5 @@
 -- How many instructions of a turn go by the pointers of arrays: at most one for each operand that is an array.
-use Rattle.std.proofs.Common.{◌≡◌, ℕ, zero, suc, ◌+◌, ◌-◌, ◌*◌, ◌≤◌, Bool, true, false, if◌then◌else◌, suc-mul, pos, List, [], ◌∷◌, ◌++◌, map, refl, ap, arith}
+use Rattle.std.proofs.Common.{◌≡◌, ℕ, zero, suc, ◌+◌, ◌*◌, ◌≤◌, Bool, true, false, if◌then◌else◌, suc-mul, pos, List, [], ◌∷◌, ◌++◌, map, refl, ap, arith}
 use Rattle.x86_ins.specs.declared.ins.AluOp.TheVariants.{Add, Sub}
 use Rattle.x86_ins.specs.declared.ins.Ins.{Ins}
 use Rattle.x86_ins.specs.declared.ins.Ins.TheVariants.{AluImm}
@@ -9,7 +9,7 @@ use Rattle.x86_flow.specs.Moves.{IsWidth, store_either_code}
 use Rattle.x86_flow.specs.Touching.{weight_by, touch_weight}
 use Rattle.x86_flow.proofs.Plans.{weigh, weigh_append}
 use Rattle.x86_flow.proofs.Moves.{load_weight, store_weight, aligned_store_weight}
-use Rattle.orc_region.specs.Code.{Ahead, Action, spares_second, IsRule, Source, FromArray, FromPattern, FromResident, FromPlace, FromSlot, FromFar, Target, ToArray, ToSum, ToResident, ToPlace, ToSlot, AreBlocks, IsBlocksTurn, pointer, far_by, first_register, second_register, rule_code, source_far_code, brought, sources_far_code, sum_code, result_far_code, results_far_code, own_names, action_names, action_far_code, named_code, actions_far_code, advance_code}
+use Rattle.orc_region.specs.Code.{Action, spares_second, IsRule, Source, FromArray, FromPattern, FromResident, FromPlace, FromSlot, FromFar, Target, ToArray, ToSum, ToResident, ToPlace, ToSlot, AreBlocks, IsBlocksTurn, pointer, far_by, first_register, second_register, rule_code, source_far_code, brought, sources_far_code, sum_code, result_far_code, results_far_code, own_names, action_names, action_far_code, named_code, actions_far_code, advance_code}
 use Rattle.orc_region.proofs.Block.Touched.{GoesNowhere, rule_nowhere, base_renamed}
 use Rattle.orc_region.proofs.Block.Actions.{IsMovedFrom, IsMovedTo, IsFit}
 
@@ -72,9 +72,9 @@ module _ (by : ℕ → Bool) (by_stack : by 4 ≡ false) where
 
   -- ---- blocks
 
-  module _ (count : ℕ) (size : ℕ → ℕ) (far : Ahead) (aligned : ℕ → Bool) where
+  module _ (count : ℕ) (size far : ℕ → ℕ) (aligned : ℕ → Bool) where
     from_few : (x : ℕ) (s : Source) → IsMovedFrom count size s → weigh v (source_far_code count size far x s) ≤ from_arrays (s ∷ [])
-    from_few x (FromArray k) h = load_weight by (count * size k) x (pointer k) (far.bytes k) h
+    from_few x (FromArray k) h = load_weight by (count * size k) x (pointer k) (far k) h
     from_few x (FromPattern j) h = omega (arith, none_4)
     from_few x (FromResident j g) h = omega (arith, none_4)
     from_few x (FromPlace p) h = omega arith
@@ -100,7 +100,7 @@ module _ (by : ℕ → Bool) (by_stack : by 4 ≡ false) where
     either_few true width x r d is = aligned_store_weight by x r d
 
     to_few : (x : ℕ) (t : Target) → IsMovedTo count size t → weigh v (result_far_code count size far aligned x t) ≤ to_arrays (t ∷ [])
-    to_few x (ToArray k) h = either_few (aligned k) (count * size k) x (pointer k) (far.bytes k) h
+    to_few x (ToArray k) h = either_few (aligned k) (count * size k) x (pointer k) (far k) h
     to_few x (ToSum g) h = omega (arith, none_4)
     to_few x (ToResident g) h = omega arith
     to_few x (ToPlace p) h = omega arith
@@ -161,11 +161,11 @@ module _ (by : ℕ → Bool) (by_stack : by 4 ≡ false) where
 
   -- of blocks of actions of which Are holds; each block touches cells at most once for each operand that is an array
   module _ (count : ℕ) (size : ℕ → ℕ) (aligned : ℕ → Bool) (Are : List Action → Type 0) (fit : (actions : List Action) → Are actions → Each (IsFit count size) actions) (most : ℕ) (few : (actions : List Action) → Are actions → arrays_of actions ≤ most) where
-    blocks_few : (total b : ℕ) (list : List Ins) → AreBlocks Are total count size aligned b list → weigh v list ≤ b * most
-    blocks_few total zero list x = omega (arith, ap (weigh v) x)
-    blocks_few total (suc b) list x =
-        let code = actions_far_code count size (far_by ((total - b) * count) (b * count) size) aligned x.1 in
-        omega (arith, ap (weigh v) x.4, weigh_append v x.0 code, blocks_few total b x.0 x.2, actions_few count size (far_by ((total - b) * count) (b * count) size) aligned x.1 (fit x.1 x.3), few x.1 x.3, suc-mul b most)
+    blocks_few : (b : ℕ) (list : List Ins) → AreBlocks Are count size aligned b list → weigh v list ≤ b * most
+    blocks_few zero list x = omega (arith, ap (weigh v) x)
+    blocks_few (suc b) list x =
+        let code = actions_far_code count size (far_by (b * count) size) aligned x.1 in
+        omega (arith, ap (weigh v) x.4, weigh_append v x.0 code, blocks_few b x.0 x.2, actions_few count size (far_by (b * count) size) aligned x.1 (fit x.1 x.3), few x.1 x.3, suc-mul b most)
 
     pub turn_few : (dests sources b : ℕ) (list : List Ins) → IsBlocksTurn Are count size aligned dests sources b list → weigh v list ≤ b * most
     turn_few dests sources b list x =
@@ -173,4 +173,4 @@ module _ (by : ℕ → Bool) (by_stack : by 4 ≡ false) where
         let first = advance_code size by_many 0 dests in
         let second = advance_code size by_many 4 sources in
         let last = AluImm Sub 1 (pos by_many) ∷ [] in
-        omega (arith, ap (weigh v) x.2, blocks_few b b x.0 x.1, weigh_append v x.0 (first ++ (second ++ last)), weigh_append v first (second ++ last), weigh_append v second last, advance_free size by_many 0 dests, advance_free size by_many 4 sources)
+        omega (arith, ap (weigh v) x.2, blocks_few b x.0 x.1, weigh_append v x.0 (first ++ (second ++ last)), weigh_append v first (second ++ last), weigh_append v second last, advance_free size by_many 0 dests, advance_free size by_many 4 sources)
