@@ -12,6 +12,8 @@ use Rattle.x86_ins.specs.Spelling.{IsIns}
 use Rattle.x86_ins.specs.Way.{Each}
 use Rattle.orc_ops.specs.declared.far.Far.{Far}
 use Rattle.orc_ops.specs.declared.opcode.Op.{Op}
+use Rattle.orc_ops.specs.declared.opcode.Op.TheVariants as opcode
+use Rattle.orc_ops.specs.Far.{far_of, far_size, far_scalars}
 use Rattle.orc_resample.specs.declared.turn.FarSource.{FarSource}
 use Rattle.orc_resample.specs.Code.{bring_code}
 use Rattle.orc_ops.specs.declared.target.Target.{Target as CodeTarget}
@@ -21,7 +23,7 @@ use Rattle.orc_program.specs.declared.program.VarKind.TheVariants as kind
 use Rattle.orc_program.specs.declared.program.Operand.{Operand}
 use Rattle.orc_program.specs.declared.program.Operand.TheVariants as operand
 use Rattle.orc_program.specs.declared.program.Pattern.{Pattern}
-use Rattle.orc_program.specs.Program.{FunctionValue, count_of, has_far}
+use Rattle.orc_program.specs.Program.{FunctionValue, count_of}
 use Rattle.orc_program.specs.Checks.{patterns_of}
 use Rattle.orc_program.specs.Need.{lanes, registers, has_whole_turns, begins_aligned}
 use Rattle.orc_program.specs.Slots.{size_of_slot}
@@ -355,6 +357,32 @@ target_of at (item.Array slot) = ToArray slot
 target_of at (item.Acc slot size) = to_sum at slot
 target_of at (item.Pattern j) = ToArray j
 
+-- the number of the pattern that an item is
+abbrev pub scalar_pattern : Item → ℕ
+scalar_pattern (item.Pattern j) = j
+scalar_pattern other = 0
+
+-- where a far load's values come from: its array, and the patterns of the scalars behind it
+abbrev pub far_sources : Far → List Item → List Source
+far_sources load (item.Array slot ∷ scalars) = FromFar load slot (map scalar_pattern scalars) ∷ []
+far_sources load items = []
+
+-- where a step's sources come from; a far load is one source
+abbrev pub sources_of : Seats → Option Far → List Item → List Source
+sources_of seats None items = map (source_of seats) items
+sources_of seats (Some load) items = far_sources load items
+
+-- the opcode that is computed from these sources: of a far load, whose source is the value, it is the copy of its size
+abbrev pub copy_of : ℕ → Op
+copy_of size = if size == 1 then opcode.Copyb else (if size == 2 then opcode.Copyw else opcode.Copyl)
+
+abbrev pub computed_by : Op → Option Far → Op
+computed_by o None = o
+computed_by o (Some load) = copy_of (far_size load)
+
+abbrev pub computed_op : Op → Op
+computed_op o = computed_by o (far_of o)
+
 -- the number that an operand is itself
 abbrev pub plain_number : Operand → Option ℕ
 plain_number (operand.Number n) = Some n
@@ -374,15 +402,15 @@ known_second patterns items = None
 abbrev pub count_by : Seats → Op → List Item → Option ℕ
 count_by seats op items = if has_shift op then known_second seats.patterns items else None
 
--- the action is the step's, by some list of the target's instructions that computes its opcode, in at most as many as its class for the target says
+-- the action is the step's, by some list of the target's instructions that computes its opcode, in at most as many as its class for the target says; a far load's class is 0: its value is the source
 pub record IsAction (target : CodeTarget) (seats : Seats) (count : ℕ) (step : Step) (a : Action) : Type 0 where
-  pub op : a.op ≡ step.op
+  pub op : a.op ≡ computed_op step.op
   pub prefix : a.prefix ≡ step.prefix
   pub to : a.to ≡ map (target_of seats.places) step.results.items
-  pub sources : a.sources ≡ map (source_of seats) step.sources.items
+  pub sources : a.sources ≡ sources_of seats (far_of step.op) step.sources.items
   pub by : a.by ≡ count_by seats step.op step.sources.items
   pub rule : IsRule count a.op a.by a.rule
-  pub few : length a.rule ≤ class_for a.op target
+  pub few : length a.rule ≤ class_for step.op target
   pub for_target : IsCodeFor target a.rule
 
 -- ---- which registers are taken over
@@ -499,7 +527,7 @@ sum_stores_code at (suc n) = sum_stores_code at n ++ sum_store_code at n
 -- ---- code by some lists that compute the opcodes
 
 abbrev pub AddsRule : CodeTarget → ℕ → Op → Option ℕ → List Target → List Ins → List Ins → Type 0
-AddsRule target count op by to old new = (rule : List Ins) × IsRule count op by rule × (length rule ≤ class_for op target) × IsCodeFor target rule × (new ≡ old ++ map (renamed (rule_register to)) rule)
+AddsRule target count op by to old new = (rule : List Ins) × IsRule count (computed_op op) by rule × (length rule ≤ class_for op target) × IsCodeFor target rule × (new ≡ old ++ map (renamed (rule_register to)) rule)
 
 -- `size` has the bytes of an element of each array slot
 abbrev pub AddsAction : Seats → (ℕ → ℕ) → Span → Step → Bool → Bool → List Ins → List Ins → Type 0
@@ -616,10 +644,9 @@ ArePartsOf f target at parts = has_whole_turns f ≡ false → AreParts (IsPart 
 abbrev pub AreByParts : FunctionValue → CodeTarget → List ℕ → ℕ → List Ins → Type 0
 AreByParts f target at from list = (parts : TurnParts) × AreParts (IsPart f target at) from parts × (list ≡ flat (parts_flow from parts))
 
--- the turns of a function's code by good places of its values; it has no far load
+-- the turns of a function's code by good places of its values
 pub record Turns (f : FunctionValue) (target : CodeTarget) (at : List ℕ) (parts : TurnParts) (wide aligned large : List Ins) : Type 0 where
   pub good : GoodPlaces (steps_of f) at
-  pub near : has_far f ≡ false
   pub fewer : ArePartsOf f target at parts
   pub more : IsTurnOf f target at (lanes f) false 1 wide
   pub stored : fills f ≡ true → IsTurnOf f target at (lanes f) true 1 aligned
@@ -663,7 +690,7 @@ IsLoaded l size count (FromArray k) = IsMoved size count k
 IsLoaded l size count (FromPattern j) = j < length l.patterns.items
 IsLoaded l size count (FromResident j g) = g < registers
 IsLoaded l size count (FromPlace p) = p < registers
-IsLoaded l size count (FromFar load array js) = ⊥
+IsLoaded l size count (FromFar load array js) = (array < 12) × IsWidth (count * far_size load) × (size array ≡ far_size load) × (length js ≡ far_scalars load) × Each (λ j. j < length l.patterns.items) js
 IsLoaded l size count (FromSlot k) = k < spill_slots
 
 -- a result can be stored
@@ -676,5 +703,5 @@ IsStored l size count (ToSlot k) = k < spill_slots
 
 pub record IsReady (l : Layout) (seats : Seats) (size : ℕ → ℕ) (count : ℕ) (step : Step) : Type 0 where
   pub has_rule : HasRule count step.op
-  pub sources : Each (IsLoaded l size count) (map (source_of seats) step.sources.items)
+  pub sources : Each (IsLoaded l size count) (sources_of seats (far_of step.op) step.sources.items)
   pub to : Each (IsStored l size count) (map (target_of seats.places) step.results.items)

@@ -54,7 +54,7 @@ IsMovedFrom count size (FromArray k) = IsWidth (count * size k)
 IsMovedFrom count size (FromPattern j) = Unit {0}
 IsMovedFrom count size (FromResident j g) = Unit {0}
 IsMovedFrom count size (FromPlace p) = Unit {0}
-IsMovedFrom count size (FromFar load array js) = ⊥
+IsMovedFrom count size (FromFar load array js) = IsWidth (count * far_size load)
 IsMovedFrom count size (FromSlot k) = Unit {0}
 
 abbrev pub IsMovedTo : ℕ → (ℕ → ℕ) → Target → Type 0

@@ -5,6 +5,8 @@ use Rattle.orc_bits.specs.Lanes.{change}
 use Rattle.orc_bits.specs.Memory.{Memory}
 use Rattle.orc_bits.proofs.LaneLaws.{eq_false}
 use Rattle.orc_ops.specs.declared.opcode.Op.{Op}
+use Rattle.orc_ops.specs.declared.far.Far.{Far}
+use Rattle.orc_ops.specs.Far.{far_size}
 use Rattle.orc_ops.specs.Table.{row, size_of_result, size_of_source}
 use Rattle.orc_program.specs.Meaning.{sub_lane, lanewise}
 use Rattle.x86_flow.proofs.Moves.{IsFill}
@@ -19,13 +21,14 @@ use Rattle.orc_region.proofs.Block.Sums.{IsResident, SourceWithin, TargetWithin}
 pub eq_yes : (x y : ℕ) → x ≡ y → (x == y) ≡ true
 eq_yes x y e = grind (arith, e)
 
--- the numbers of one element: of its cells by the array's slot, and of its values by place
+-- the numbers of one element: of its cells by the array's slot, of its values by place, and of its far loads' values by the array's slot and the patterns of the scalars
 pub record Local : Type 0 where
   pub cells : ℕ → ℕ
   pub values : ℕ → ℕ
+  pub fars : Far → ℕ → List ℕ → ℕ
 
 -- the patterns and the running sums of a function, and the last place of its values
-pub record Numbers : Type 0 where
+pub record Numbers : Type 1 where
   pub patterns : ℕ
   -- the number of a pattern, and after how many bytes it repeats
   pub number : ℕ → ℕ
@@ -34,6 +37,8 @@ pub record Numbers : Type 0 where
   -- the bytes of a sum
   pub width : ℕ → ℕ
   pub last : ℕ
+  -- the far loads that there are, by the array's slot and the patterns of the scalars
+  pub far : Far → ℕ → List ℕ → Type 0
 
 -- what a source of so many bytes gives to each sub-lane
 abbrev pub given_by : (ℕ → ℕ) → ℕ → Local → Source → ℕ → ℕ
@@ -41,7 +46,7 @@ given_by number w l (FromArray k) = sub_lane (8 * w) (l.cells k)
 given_by number w l (FromPattern j) = λ q. number j
 given_by number w l (FromResident j g) = λ q. number j
 given_by number w l (FromPlace p) = sub_lane (8 * w) (l.values p)
-given_by number w l (FromFar load array js) = λ q. 0
+given_by number w l (FromFar load array js) = sub_lane (8 * w) (l.fars load array js)
 given_by number w l (FromSlot k) = sub_lane (8 * w) (l.values (slot_place k))
 
 -- what each sub-lane of an opcode's sources holds
@@ -101,14 +106,14 @@ module _ (n : ℕ) (base size : ℕ → ℕ) (P : ℕ → Type 0) where
 
   -- a write reaches each array that is the very same one
   abbrev pub set_local : Local → ℕ → ℕ → Local
-  set_local l d v = record { cells = λ k. if base k == base d then v else l.cells k; values = l.values }
+  set_local l d v = record { cells = λ k. if base k == base d then v else l.cells k; values = l.values; fars = l.fars }
 
   abbrev pub set_target : Local → Target → ℕ → Local
   set_target l (ToArray d) v = set_local l d v
   set_target l (ToSum g) v = l
   set_target l (ToResident g) v = l
-  set_target l (ToPlace p) v = record { cells = l.cells; values = change l.values p v }
-  set_target l (ToSlot k) v = record { cells = l.cells; values = change l.values (slot_place k) v }
+  set_target l (ToPlace p) v = record { cells = l.cells; values = change l.values p v; fars = l.fars }
+  set_target l (ToSlot k) v = record { cells = l.cells; values = change l.values (slot_place k) v; fars = l.fars }
 
   -- the first result before the second
   abbrev pub set_results : Local → List Target → ℕ × ℕ → Local
@@ -167,7 +172,7 @@ module _ (n : ℕ) (base size : ℕ → ℕ) (P : ℕ → Type 0) where
     IsFrom live w prefix (FromPattern j) = (j < numbers.patterns) × (numbers.period j ≡ w)
     IsFrom live w prefix (FromResident j g) = (j < numbers.patterns) × (numbers.period j ≡ w) × (g ≡ numbers.sums + j) × IsResident numbers.last g
     IsFrom live w prefix (FromPlace p) = (p < registers) × (live p ≡ w * prefix)
-    IsFrom live w prefix (FromFar load array js) = ⊥
+    IsFrom live w prefix (FromFar load array js) = numbers.far load array js × (w ≡ far_size load) × (prefix ≡ 1)
     IsFrom live w prefix (FromSlot k) = (k < spill_slots) × (live (slot_place k) ≡ w * prefix)
 
     -- a count is a pattern

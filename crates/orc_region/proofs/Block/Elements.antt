@@ -41,6 +41,11 @@ AreRead f patterns V op prefix (x ∷ []) (s ∷ []) = IsRead f patterns V (size
 AreRead f patterns V op prefix (x ∷ y ∷ []) (s ∷ t ∷ []) = IsRead f patterns V (size_of_source op 0) prefix x s × IsRead f patterns V (size_of_source op 1) prefix y t
 AreRead f patterns V op prefix os ss = ⊥
 
+-- what an instruction reads and what an action's sources are: operands one by one, or, of a far load, its value; D has the far loads that there are
+abbrev pub AreBrought : FunctionValue → (ℕ → Operand) → (Far → ℕ → List ℕ → Type 0) → (ℕ → ℕ → Type 0) → Insn → List Source → Option Far → Type 0
+AreBrought f patterns D V insn ss None = AreRead f patterns V insn.op insn.prefix insn.sources.items ss
+AreBrought f patterns D V insn ss (Some load) = (k : ℕ) × (js : List ℕ) × (ss ≡ FromFar load k js ∷ []) × D load k js × (insn.prefix ≡ 1) × (x : IsFarOf f patterns load k js) × (x.insn ≡ insn)
+
 -- what stands where after one write did so before it, or is what was written
 abbrev pub Follows : (ℕ → ℕ → Type 0) → Operand → Target → (ℕ → ℕ → Type 0) → Type 0
 Follows V o (ToArray k) W = (x p : ℕ) → W x p → V x p
@@ -65,18 +70,17 @@ module _ {View : Type 0} (At : View → ℕ → ℕ → Type 0) where
   AreWritten f op prefix os ts v w = ⊥
 
   -- the action does what the instruction does, and takes view v to view w
-  pub record IsMeant (f : FunctionValue) (patterns : ℕ → Operand) (v w : View) (insn : Insn) (a : Action) : Type 0 where
-    pub near : is_far insn ≡ false
-    pub op : a.op ≡ insn.op
+  pub record IsMeant (f : FunctionValue) (patterns : ℕ → Operand) (D : Far → ℕ → List ℕ → Type 0) (v w : View) (insn : Insn) (a : Action) : Type 0 where
+    pub op : a.op ≡ computed_op insn.op
     pub prefix : a.prefix ≡ insn.prefix
-    pub to : AreWritten f insn.op insn.prefix insn.results.items a.to v w
-    pub sources : AreRead f patterns (At v) insn.op insn.prefix insn.sources.items a.sources
+    pub to : AreWritten f a.op insn.prefix insn.results.items a.to v w
+    pub sources : AreBrought f patterns D (At v) insn a.sources (far_of insn.op)
 
-  abbrev pub AreMeant : FunctionValue → (ℕ → Operand) → View → List Insn → List Action → Type 0
-  AreMeant f patterns v [] [] = Unit {0}
-  AreMeant f patterns v (insn ∷ insns) (a ∷ rest) = (w : View) × IsMeant f patterns v w insn a × AreMeant f patterns w insns rest
-  AreMeant f patterns v [] (a ∷ rest) = ⊥
-  AreMeant f patterns v (insn ∷ insns) [] = ⊥
+  abbrev pub AreMeant : FunctionValue → (ℕ → Operand) → (Far → ℕ → List ℕ → Type 0) → View → List Insn → List Action → Type 0
+  AreMeant f patterns D v [] [] = Unit {0}
+  AreMeant f patterns D v (insn ∷ insns) (a ∷ rest) = (w : View) × IsMeant f patterns D v w insn a × AreMeant f patterns D w insns rest
+  AreMeant f patterns D v [] (a ∷ rest) = ⊥
+  AreMeant f patterns D v (insn ∷ insns) [] = ⊥
 
 -- the place of a variable
 abbrev number_of_var : Operand → ℕ

@@ -20,11 +20,12 @@ use Rattle.x86_flow.proofs.Moves.{IsFill, fill_is}
 use Rattle.orc_region.proofs.Arithmetic.Digits.{digit, value_digits}
 use Rattle.orc_region.proofs.Arithmetic.SubLanes.{cut_sub_lane, same_lanewise}
 
--- the variable at a place is an array of elements of so many bytes
+-- the variable at a place is an array of elements of so many bytes, which has a cell for each element
 pub record IsCells (f : FunctionValue) (p bytes : ℕ) : Type 0 where
   pub inside : p < length f.vars
   pub array : is_array (var_at f.vars p) ≡ true
   pub size : (var_at f.vars p).size ≡ bytes
+  pub near : is_near f p ≡ true
 
 abbrev pub IsDest : FunctionValue → ℕ → Type 0
 IsDest f d = (var_at f.vars d).kind ≡ kind.Dest

@@ -37,6 +37,10 @@ pattern_of f j = get_or (patterns_in f) j no_pattern
 abbrev pub number_of : FunctionValue → ℕ → Operand
 number_of f j = (pattern_of f j).number
 
+-- some instruction is this far load, and the patterns of its scalars have 4 bytes
+abbrev pub HasFar : FunctionValue → Far → ℕ → List ℕ → Type 0
+HasFar f load k js = IsFarOf f (number_of f) load k js × (length js ≡ far_scalars load) × Each (λ j. (j < length (patterns_in f)) × ((pattern_of f j).way ≡ 4)) js
+
 -- a source of an instruction: cells of the opcode's size, a number that is a pattern, which may be a resident behind the running sums, or a temp of the opcode's size that stands at a place; a count is a number
 abbrev pub IsSourced : FunctionValue → List ℕ → List ℕ → List Step → Op → ℕ → ℕ → Operand → Source → Type 0
 IsSourced f at temps steps op prefix position o (FromArray k) = (p : ℕ) × (o ≡ operand.Var p) × IsCells f p (size_of_source op position * prefix) × (slot_of f.vars p ≡ k) × (position ≡ 1 → is_shift (row op).kind ≡ false)

@@ -70,6 +70,7 @@ numbers_of f at call = record {
   sums = count_of kind.Accumulator f.vars;
   width = width_of f;
   last = last_place at;
+  far = HasFar f;
 }
 
 -- ---- an instruction's step

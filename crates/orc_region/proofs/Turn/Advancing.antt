@@ -80,11 +80,14 @@ pub record Setting (n : ℕ) (base : ℕ → ℕ) (P : ℕ → Type 0) (numbers 
   pub few_sources : p.sources ≤ 8
   pub few : n < 2 ^ 31
   -- memory and the totals of running sums after i elements, and what more of them do
-  pub emulates : (i : ℕ) (mem : Memory) (totals : ℕ → ℕ) (sig : ℕ → Local) → Emul i mem totals → (c : ℕ) → i + c ≤ n → Lanes n base p.size P i c mem sig
+  pub emulates : (i : ℕ) (mem : Memory) (totals : ℕ → ℕ) (sig : ℕ → Local) → Emul i mem totals → (c : ℕ) → i + c ≤ n → Lanes n base p.size P i c mem sig → FarValues base numbers i c mem sig
       → (end : Memory) × Emul (c + i) end (λ g. totals g + sum_below c (λ q. adds n base p.size P numbers p.actions (sig q) g)) × Lanes n base p.size P i c end (λ q. local n base p.size P numbers p.actions (sig q)) × Others n base p.size P i c mem end
   -- F are the addresses where the code's memory need not agree with emulation's: no cells, and all running sums and spill slots
   pub apart : (k : ℕ) → P k → (i : ℕ) → i < n → (r : ℕ) → r < p.size k → F (base k + i * p.size k + r) → ⊥
   pub changed : (a : ℕ) → InChanged rsp numbers.sums a → F a
+  -- what far loads read; F has none of it
+  pub fars : FarGround n base p.size P numbers rsp
+  pub fars_apart : (a : ℕ) → InFars base numbers 0 n a → F a → ⊥
 
 module _ (n : ℕ) (base : ℕ → ℕ) (P : ℕ → Type 0) (numbers : Numbers) (rsp : ℕ) (p : Plan) (Emul : ℕ → Memory → (ℕ → ℕ) → Type 0) (F : ℕ → Type 0) (set : Setting n base P numbers rsp p Emul F) where
   -- the address of a byte of an element of the slots with D
@@ -116,6 +119,7 @@ module _ (n : ℕ) (base : ℕ → ℕ) (P : ℕ → Type 0) (numbers : Numbers)
       pub mapped : (a : ℕ) → IsCell a → IsMapped e a
       pub framed : Framed numbers rsp c totals
       pub bounded : Bounded c
+      pub row : FarRow n base numbers rsp rdi mem
 
     -- ---- a block of so many elements
 
