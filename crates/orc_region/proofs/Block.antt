@@ -4,6 +4,7 @@ pub mod Cells
 pub mod Elements
 pub mod Emulated
 pub mod Far
+pub mod Fars
 pub mod Frames
 pub mod Keeping
 pub mod Meeting
