@@ -4,6 +4,9 @@ pub mod Cells
 pub mod Elements
 pub mod Emulated
 pub mod Far
+pub mod FarActions
+pub mod FarPointers
+pub mod FarWords
 pub mod Fars
 pub mod Frames
 pub mod Keeping

@@ -8,6 +8,7 @@ use Rattle.orc_bits.specs.Memory.{Memory, IsMapped}
 use Rattle.orc_bits.proofs.LaneLaws.{lane_of_digits, lane_one, lane-from_lanes, change_other, change_same}
 use Rattle.orc_bits.proofs.Memories.{or_else, mapped_value}
 use Rattle.orc_ops.specs.declared.opcode.Op.{Op}
+use Rattle.orc_ops.specs.Far.{far_size}
 use Rattle.orc_ops.specs.Table.{row, wide, to, size_of_result, size_of_source}
 use Rattle.orc_ops.specs.Stems.{apply}
 use Rattle.orc_ops.specs.Formula.{formula, source_of}
@@ -45,6 +46,7 @@ use Rattle.orc_region.proofs.Checked.Sized.{one_shift, shift_two}
 use Rattle.orc_region.proofs.Block.Cells.{Numbers, OfDests, Local, given_by, given, adds_to, results_add, live_target, live_targets, live_act, Lanes, Others, AtElements, IsOf, IsTo, IsFrom, IsBeside, IsNumber, IsCounted, AreFrom, IsMade, AreMade, AreTo, IsKept, IsKnown, Separate, Low, set_local, set_target, set_results, value_of, local_act, adds, store_lanes, store_others}
 use Rattle.orc_region.proofs.Block.Meeting.{results_by, Meeting, meeting}
 use Rattle.orc_region.proofs.Block.Keeping.{line_bounded, each_front, each_back}
+use Rattle.orc_region.proofs.Block.Taken.{IsNear, AreNear}
 use Rattle.orc_region.proofs.Block.Places.{held, held_register, held_slot, held_same, held_beside}
 use Rattle.orc_region.proofs.Block.Frames.{IsFrame, Framed, framed_same, framed_totals, framed_spilled, framed_grown, load_slot, store_slot, pattern_lane, same_sum, no_sum, adds_all, sum_both}
 
@@ -72,20 +74,20 @@ pub record IsFit (count : ℕ) (size : ℕ → ℕ) (a : Action) : Type 0 where
   pub rule : IsRule count a.op a.by a.rule
   pub known : Each IsIns (action_code count size a)
 
-lane_fits : (q count w : ℕ) → q < count → count * w ≤ 16 → q * w + w ≤ 16
+pub lane_fits : (q count w : ℕ) → q < count → count * w ≤ 16 → q * w + w ≤ 16
 lane_fits q count w l h =
     let m : suc q * w ≤ count * w = mul-le-mul_right w (let p : suc q ≤ count = omega (arith, l) in p) in
     let e : suc q * w ≡ q * w + w = omega arith in
     omega (arith, m, e, h)
 
-no_lane : (x : List ℕ) (n q : ℕ) → n ≡ 0 → lane n q x ≡ 0
+pub no_lane : (x : List ℕ) (n q : ℕ) → n ≡ 0 → lane n q x ≡ 0
 no_lane x n q e = ap (λ w. lane w q x) e ∙ lane_of_digits x 0 q 0 (λ k l. absurd (omega (arith, l)))
 
-second_is : (op : Op) (q : ℕ) (x : ℕ → List ℕ) → is_shift (row op).kind ≡ false → second_of op q x ≡ lane (size_of_source op 1) q (x 1)
+pub second_is : (op : Op) (q : ℕ) (x : ℕ → List ℕ) → is_shift (row op).kind ≡ false → second_of op q x ≡ lane (size_of_source op 1) q (x 1)
 second_is op q x e = ap (λ b. if b then lane 8 0 (x 1) else lane (size_of_source op 1) q (x 1)) e
 
 -- a copy has the register's bytes
-copied_byte : (x y : List ℕ) → AreBytes y → (j : ℕ) → j < 16 → get_or (result_of (shape Movdqa) x y) j 0 ≡ get_or y j 0
+pub copied_byte : (x y : List ℕ) → AreBytes y → (j : ℕ) → j < 16 → get_or (result_of (shape Movdqa) x y) j 0 ≡ get_or y j 0
 copied_byte x y bytes j l =
     let z = result_of (shape Movdqa) x y in
     let there : lane 1 j z ≡ lane 1 j y % 256 ^ 1 = lane-from_lanes 1 (λ q. lane 1 q y) j (omega arith) (omega (arith, l)) in
@@ -166,7 +168,7 @@ module _ (n : ℕ) (base size : ℕ → ℕ) (P : ℕ → Type 0) (numbers : Num
   still live sig c d p same h q l r lr lb = same (q * live p + r) lb ∙ h q l r lr lb
 
   -- where the vector register and the frame's memory stay
-  still_there : (live : ℕ → ℕ) (sig : ℕ → Local) (c d : Core) (p : ℕ) → p ≤ numbers.last → d.xmm (place_register p) ≡ c.xmm (place_register p) → ((x : ℕ) → rsp + spill_slot 0 ≤ x → x < rsp + frame_size → d.memory x ≡ c.memory x) → StandsAt live sig c p → StandsAt live sig d p
+  pub still_there : (live : ℕ → ℕ) (sig : ℕ → Local) (c d : Core) (p : ℕ) → p ≤ numbers.last → d.xmm (place_register p) ≡ c.xmm (place_register p) → ((x : ℕ) → rsp + spill_slot 0 ≤ x → x < rsp + frame_size → d.memory x ≡ c.memory x) → StandsAt live sig c p → StandsAt live sig d p
   still_there live sig c d p lp x same = still live sig c d p (λ b lb. held_same rsp c d p b x (same (rsp + spill_slot (p - registers) + b) (omega arith) (omega (arith, lp, lb, ground.frame.few_places))))
 
   -- what a block leaves
@@ -232,7 +234,7 @@ module _ (n : ℕ) (base size : ℕ → ℕ) (P : ℕ → Type 0) (numbers : Num
   InRegister w prefix sig (FromPattern j) x = (b : ℕ) → b < 16 → get_or x b 0 ≡ digit (numbers.number j) (b % numbers.period j)
   InRegister w prefix sig (FromResident j g) x = (b : ℕ) → b < 16 → get_or x b 0 ≡ digit (numbers.number j) (b % numbers.period j)
   InRegister w prefix sig (FromPlace k) x = (q : ℕ) → q < count → (p : ℕ) → p < prefix → lane w (q * prefix + p) x ≡ sub_lane (8 * w) ((sig q).values k) p
-  InRegister w prefix sig (FromFar load array js) x = Unit {0}
+  InRegister w prefix sig (FromFar load array js) x = (q : ℕ) → q < count → (p : ℕ) → p < prefix → lane w (q * prefix + p) x ≡ sub_lane (8 * w) ((sig q).fars load array js) p
   InRegister w prefix sig (FromSlot k) x = (q : ℕ) → q < count → (p : ℕ) → p < prefix → lane w (q * prefix + p) x ≡ sub_lane (8 * w) ((sig q).values (slot_place k)) p
 
   -- what a source at a place is loaded from
@@ -289,18 +291,18 @@ module _ (n : ℕ) (base size : ℕ → ℕ) (P : ℕ → Type 0) (numbers : Num
       let b = q * (w * prefix) + r in
       ap (λ v. get_or v b 0) same ∙ ap (or_else 0) (sym (held_register rsp c p b few) ∙ bytes_at live sig c p (w * prefix) size_is stand q lq r lr (omega (arith, within, room))))
 
-  load_source : (i : ℕ) (s : Source) (w prefix x : ℕ) (c : Core) (live : ℕ → ℕ) (sig : ℕ → Local) (totals : ℕ → ℕ) → IsFrom n base size P numbers live w prefix s → IsMovedFrom count size s → i + count ≤ n → Points i c.gpr → c.gpr 4 ≡ rsp
+  load_source : (i : ℕ) (s : Source) (w prefix x : ℕ) (c : Core) (live : ℕ → ℕ) (sig : ℕ → Local) (totals : ℕ → ℕ) → IsNear s → IsFrom n base size P numbers live w prefix s → IsMovedFrom count size s → i + count ≤ n → Points i c.gpr → c.gpr 4 ≡ rsp
       → Lanes n base size P i count c.memory sig → Framed numbers rsp c totals → IsThere live sig c s → HasRoom w prefix s → Bounded c → Stays c → (d : Core) × Line Q (source_far_code count size far x s) c d × GotFrom s w prefix x sig c d
-  load_source i (FromArray k) w prefix x c live sig totals o wide fits at stack h framed there room bound stays =
+  load_source i (FromArray k) w prefix x c live sig totals near o wide fits at stack h framed there room bound stays =
       let l = load_cells i k w prefix x c sig o wide fits at h stays in
       (l.0, l.1, record { memory = l.2.memory; gpr = l.2.gpr; others = l.2.others; lanes = l.2.lanes })
-  load_source i (FromPattern j) w prefix x c live sig totals o wide fits at stack h framed there room bound stays =
+  load_source i (FromPattern j) w prefix x c live sig totals near o wide fits at stack h framed there room bound stays =
       let l = load_slot c x rsp (pattern_slot j) (λ b. digit (numbers.number j) (b % numbers.period j)) stack (omega (arith, ground.frame.low, ground.frame.few_patterns, o.0)) (framed.patterns j o.0) in (
         l.0,
         (stays c _ refl (λ r ne. refl), (l.0, l.1, refl)),
         record { memory = l.2.memory; gpr = λ r ne. ap (λ f. f r) l.2.gpr; others = l.2.others; lanes = λ bytes. l.2.bytes },
       )
-  load_source i (FromResident j g) w prefix x c live sig totals o wide fits at stack h framed there room bound stays =
+  load_source i (FromResident j g) w prefix x c live sig totals near o wide fits at stack h framed there room bound stays =
       let y = resident_register g in
       let new = result_of (shape Movdqa) (c.xmm x) (c.xmm y) in
       let d : Core = with_lanes c (change c.xmm x new) in
@@ -315,7 +317,7 @@ module _ (n : ℕ) (base size : ℕ → ℕ) (P : ℕ → Type 0) (numbers : Num
           lanes = λ bytes b lb. ap (λ v. get_or v b 0) (change_same c.xmm x new) ∙ copied_byte (c.xmm x) (c.xmm y) (bound.xmm y) b lb ∙ byte b lb;
         },
       )
-  load_source i (FromPlace p) w prefix x c live sig totals o wide fits at stack h framed there room bound stays =
+  load_source i (FromPlace p) w prefix x c live sig totals near o wide fits at stack h framed there room bound stays =
       let y = place_register p in
       let new = result_of (shape Movdqa) (c.xmm x) (c.xmm y) in
       let d : Core = with_lanes c (change c.xmm x new) in
@@ -333,11 +335,11 @@ module _ (n : ℕ) (base size : ℕ → ℕ) (P : ℕ → Type 0) (numbers : Num
           lanes = λ bytes q lq. lane_sub_lane (d.xmm x) w prefix q ((sig q).values p) (byte q lq);
         },
       )
-  load_source i (FromFar load array js) w prefix x c live sig totals o wide fits at stack h framed there room bound stays = absurd o
-  load_source i (FromSlot k) w prefix x c live sig totals o wide fits at stack h framed there room bound stays =
+  load_source i (FromFar load array js) w prefix x c live sig totals near o wide fits at stack h framed there room bound stays = absurd near
+  load_source i (FromSlot k) w prefix x c live sig totals near o wide fits at stack h framed there room bound stays =
       let p = rsp + spill_slot k in
       let z : ℕ → ℕ = λ b. or_else 0 (c.memory (p + b)) in
-      let mapped : (b : ℕ) → b < 16 → c.memory (p + b) ≡ Some (z b) = λ b lb. let v = mapped_value c.memory (p + b) (framed.spilled (p + b) (omega arith, (let few = o.0 in omega (arith, few, lb)))) in v.1 ∙ ap (λ m. Some (or_else 0 m)) (sym v.1) in
+      let mapped : (b : ℕ) → b < 16 → c.memory (p + b) ≡ Some (z b) = λ b lb. let v = mapped_value c.memory (p + b) (framed.worked (p + b) (omega arith, (let few = o.0 in omega (arith, few, lb)))) in v.1 ∙ ap (λ m. Some (or_else 0 m)) (sym v.1) in
       let l = load_slot c x rsp (spill_slot k) z stack (let few = o.0 in omega (arith, ground.frame.low, few)) mapped in
       let byte : (q : ℕ) → q < count → (r : ℕ) → r < w * prefix → get_or (l.0.xmm x) (q * (w * prefix) + r) 0 ≡ digit ((sig q).values (slot_place k)) r = λ q lq r lr.
       let b = q * (w * prefix) + r in
@@ -369,10 +371,10 @@ module _ (n : ℕ) (base size : ℕ → ℕ) (P : ℕ → Type 0) (numbers : Num
   at_still true live sig w prefix y c d s ts ne kept memory same h = subst (InRegister w prefix sig s) (sym (same y ne)) h
   at_still false live sig w prefix y c d s ts ne kept memory same h = there_still live sig c d s ts kept memory same h
 
-  bring_source : (taken : Bool) (i : ℕ) (s : Source) (w prefix x : ℕ) (c : Core) (live : ℕ → ℕ) (sig : ℕ → Local) (totals : ℕ → ℕ) → IsFrom n base size P numbers live w prefix s → IsMovedFrom count size s → i + count ≤ n → Points i c.gpr → c.gpr 4 ≡ rsp
+  bring_source : (taken : Bool) (i : ℕ) (s : Source) (w prefix x : ℕ) (c : Core) (live : ℕ → ℕ) (sig : ℕ → Local) (totals : ℕ → ℕ) → IsNear s → IsFrom n base size P numbers live w prefix s → IsMovedFrom count size s → i + count ≤ n → Points i c.gpr → c.gpr 4 ≡ rsp
       → Lanes n base size P i count c.memory sig → Framed numbers rsp c totals → IsAt taken live sig w prefix x c s → HasRoom w prefix s → Bounded c → Stays c → (d : Core) × Line Q (brought taken (source_far_code count size far x s)) c d × GotFrom s w prefix x sig c d
-  bring_source true i s w prefix x c live sig totals o wide fits at stack h framed there room bound stays = (c, refl, record { memory = refl; gpr = λ r ne. refl; others = λ y ne. refl; lanes = λ bytes. there })
-  bring_source false i s w prefix x c live sig totals o wide fits at stack h framed there room bound stays = load_source i s w prefix x c live sig totals o wide fits at stack h framed there room bound stays
+  bring_source true i s w prefix x c live sig totals near o wide fits at stack h framed there room bound stays = (c, refl, record { memory = refl; gpr = λ r ne. refl; others = λ y ne. refl; lanes = λ bytes. there })
+  bring_source false i s w prefix x c live sig totals near o wide fits at stack h framed there room bound stays = load_source i s w prefix x c live sig totals near o wide fits at stack h framed there room bound stays
 
   -- the lanes of a pattern as a first source, and as a second one or a count
   pattern_first : (op : Op) (prefix j : ℕ) (x : List ℕ) → numbers.period j ≡ size_of_source op 0 → ((k : ℕ) → k < 16 → get_or x k 0 ≡ digit (numbers.number j) (k % numbers.period j))
@@ -399,11 +401,11 @@ module _ (n : ℕ) (base size : ℕ → ℕ) (P : ℕ → Type 0) (numbers : Num
           ∙ ap (λ w. formula op a (lane w 0 (x 1))) (sym eight) ∙ at_lane 0 (omega (arith, eight))
 
   -- the first source of a lane
-  first_value : (op : Op) (prefix : ℕ) (s : Source) (live : ℕ → ℕ) (sig : ℕ → Local) (x : List ℕ) → IsFrom n base size P numbers live (size_of_source op 0) prefix s → InRegister (size_of_source op 0) prefix sig s x
+  pub first_value : (op : Op) (prefix : ℕ) (s : Source) (live : ℕ → ℕ) (sig : ℕ → Local) (x : List ℕ) → IsFrom n base size P numbers live (size_of_source op 0) prefix s → InRegister (size_of_source op 0) prefix sig s x
       → (q : ℕ) → q < count → (p : ℕ) → p < prefix → (q * prefix + p) * widest op + widest op ≤ 16 → (b : ℕ) → formula op (lane (size_of_source op 0) (q * prefix + p) x) b ≡ formula op (given_by numbers.number (size_of_source op 0) (sig q) s p) b
   first_value op prefix (FromArray k) live sig x o h q l p lp fits b = ap (λ v. formula op v b) (h q l p lp)
   first_value op prefix (FromPlace k) live sig x o h q l p lp fits b = ap (λ v. formula op v b) (h q l p lp)
-  first_value op prefix (FromFar load array js) live sig x o h q l p lp fits b = absurd o
+  first_value op prefix (FromFar load array js) live sig x o h q l p lp fits b = ap (λ v. formula op v b) (h q l p lp)
   first_value op prefix (FromSlot k) live sig x o h q l p lp fits b = ap (λ v. formula op v b) (h q l p lp)
   first_value op prefix (FromPattern j) live sig x o h q l p lp fits b = pattern_first op prefix j x o.1 h q p fits b
   first_value op prefix (FromResident j g) live sig x o h q l p lp fits b = pattern_first op prefix j x o.1 h q p fits b
@@ -413,17 +415,17 @@ module _ (n : ℕ) (base size : ℕ → ℕ) (P : ℕ → Type 0) (numbers : Num
       → (q : ℕ) → q < count → (p : ℕ) → p < prefix → (q * prefix + p) * widest op + widest op ≤ 16 → (a : ℕ) → formula op a (second_of op (q * prefix + p) x) ≡ formula op a (given_by numbers.number (size_of_source op 1) (sig q) s p)
   second_value op prefix (FromArray k) live sig x o plain h q l p lp fits a = ap (formula op a) (second_is op (q * prefix + p) x plain ∙ h q l p lp)
   second_value op prefix (FromPlace k) live sig x o plain h q l p lp fits a = ap (formula op a) (second_is op (q * prefix + p) x plain ∙ h q l p lp)
-  second_value op prefix (FromFar load array js) live sig x o plain h q l p lp fits a = absurd o
+  second_value op prefix (FromFar load array js) live sig x o plain h q l p lp fits a = absurd plain
   second_value op prefix (FromSlot k) live sig x o plain h q l p lp fits a = ap (formula op a) (second_is op (q * prefix + p) x plain ∙ h q l p lp)
   second_value op prefix (FromPattern j) live sig x o plain h q l p lp fits a = pattern_second op prefix j x o.1 h q p fits a
   second_value op prefix (FromResident j g) live sig x o plain h q l p lp fits a = pattern_second op prefix j x o.1 h q p fits a
 
   -- what an opcode makes of each sub-lane
-  abbrev made : Op → Local → List Source → ℕ → ℕ × ℕ
+  abbrev pub made : Op → Local → List Source → ℕ → ℕ × ℕ
   made op l ss p = formula op ((given numbers.number op l ss).0 p) ((given numbers.number op l ss).1 p)
 
   -- the registers hold an action's sources, but for a count that the rule has in itself
-  abbrev Values : Option ℕ → Op → ℕ → List Source → (ℕ → Local) → (ℕ → List ℕ) → Type 0
+  abbrev pub Values : Option ℕ → Op → ℕ → List Source → (ℕ → Local) → (ℕ → List ℕ) → Type 0
   Values by op prefix ss sig x = (q : ℕ) → q < count → (p : ℕ) → p < prefix → results_by by op (q * prefix + p) x ≡ made op (sig q) ss p
 
   abbrev pub Fits : Op → ℕ → Type 0
@@ -458,14 +460,14 @@ module _ (n : ℕ) (base size : ℕ → ℕ) (P : ℕ → Type 0) (numbers : Num
   second_room op prefix (FromFar load array js) plain room = tt
   second_room op prefix (FromSlot k) plain room = room.second plain
 
-  sources_line : (one two : Bool) (i : ℕ) (op : Op) (prefix : ℕ) (ss : List Source) (ts : List Target) (c : Core) (live : ℕ → ℕ) (sig : ℕ → Local) (totals : ℕ → ℕ) → AreFrom n base size P numbers live op prefix ss → Each (IsKept n base size P numbers ts) ss → first_register ts ≢ second_register ts → IsClear numbers.last ts
+  sources_line : (one two : Bool) (i : ℕ) (op : Op) (prefix : ℕ) (ss : List Source) (ts : List Target) (c : Core) (live : ℕ → ℕ) (sig : ℕ → Local) (totals : ℕ → ℕ) → AreNear ss → AreFrom n base size P numbers live op prefix ss → Each (IsKept n base size P numbers ts) ss → first_register ts ≢ second_register ts → IsClear numbers.last ts
       → Fits op prefix → Room op prefix → Each (IsMovedFrom count size) ss → Each IsIns (sources_far_code one two count size far (first_register ts) (second_register ts) ss) → i + count ≤ n
       → Points i c.gpr → c.gpr 4 ≡ rsp → Lanes n base size P i count c.memory sig → Framed numbers rsp c totals → AreAt one two op prefix live sig ts c ss → Bounded c → Stays c
       → (d : Core) × Line Q (sources_far_code one two count size far (first_register ts) (second_register ts) ss) c d × Read None op prefix ss sig (first_register ts) (second_register ts) c d
-  sources_line one two i op prefix [] ts c live sig totals known kept apart clear fits room wide ins w at stack h framed stand bound stays = absurd known
-  sources_line one two i op prefix (s ∷ []) ts c live sig totals known kept apart clear fits room wide ins w at stack h framed stand bound stays =
+  sources_line one two i op prefix [] ts c live sig totals near known kept apart clear fits room wide ins w at stack h framed stand bound stays = absurd known
+  sources_line one two i op prefix (s ∷ []) ts c live sig totals near known kept apart clear fits room wide ins w at stack h framed stand bound stays =
       let a = first_register ts in
-      let x = bring_source one i s (size_of_source op 0) prefix a c live sig totals known.0 wide.0 w at stack h framed stand (first_room op prefix s room) bound stays in
+      let x = bring_source one i s (size_of_source op 0) prefix a c live sig totals near known.0 wide.0 w at stack h framed stand (first_room op prefix s room) bound stays in
       let d = x.0 in
       let b = line_bounded Q (brought one (source_far_code count size far a s)) c d ins x.1 bound in (
         d,
@@ -480,17 +482,17 @@ module _ (n : ℕ) (base size : ℕ → ℕ) (P : ℕ → Type 0) (numbers : Num
               ∙ first_value op prefix s live sig (v 0) known.0 (subst (InRegister (size_of_source op 0) prefix sig s) (sym e0) (x.2.lanes (b.xmm a))) q l p lp (fits q l p lp) 0;
         },
       )
-  sources_line one two i op prefix (s ∷ t ∷ more) ts c live sig totals known kept apart clear fits room wide ins w at stack h framed stand bound stays =
+  sources_line one two i op prefix (s ∷ t ∷ more) ts c live sig totals near known kept apart clear fits room wide ins w at stack h framed stand bound stays =
       let a = first_register ts in
       let e = second_register ts in
       let front = brought one (source_far_code count size far a s) in
       let back = brought two (source_far_code count size far e t) in
-      let x = bring_source one i s (size_of_source op 0) prefix a c live sig totals known.0 wide.0 w at stack h framed stand.0 (first_room op prefix s room) bound stays in
+      let x = bring_source one i s (size_of_source op 0) prefix a c live sig totals near.0 known.0 wide.0 w at stack h framed stand.0 (first_room op prefix s room) bound stays in
       let b = x.0 in
       let at' : Points i b.gpr = λ j hj s. (ap (λ y. y + far j) (x.2.gpr (pointer j) (not_0 j)) ∙ (at j hj s).0, (at j hj s).1) in
       let h' : Lanes n base size P i count b.memory sig = λ j hj q l r lr. ap (λ f. f (base j + (i + q) * size j + r)) x.2.memory ∙ h j hj q l r lr in
       let there : IsAt two live sig (size_of_source op 1) prefix e b t = at_still two live sig (size_of_source op 1) prefix e c b t ts (λ z. apart (sym z)) kept.1.0 x.2.memory (λ z ne. x.2.others z ne) stand.1 in
-      let y = bring_source two i t (size_of_source op 1) prefix e b live sig totals known.1 wide.1.0 w at' (x.2.gpr 4 (λ e. omega (arith, e)) ∙ stack) h' (framed_same numbers rsp ground.frame c b totals (λ y l u. ap (λ f. f y) x.2.memory) (λ g l. x.2.others (resident_register g) (λ e. (clear g l).0 (sym e))) framed) there (second_room op prefix t known.2 room) (line_bounded Q front c b (each_front IsIns front back ins) x.1 bound) (λ u i m g. stays u i (m ∙ x.2.memory) (λ r ne. g r ne ∙ x.2.gpr r ne)) in
+      let y = bring_source two i t (size_of_source op 1) prefix e b live sig totals near.1 known.1 wide.1.0 w at' (x.2.gpr 4 (λ e. omega (arith, e)) ∙ stack) h' (framed_same numbers rsp ground.frame c b totals (λ y l u. ap (λ f. f y) x.2.memory) (λ g l. x.2.others (resident_register g) (λ e. (clear g l).0 (sym e))) framed) there (second_room op prefix t known.2 room) (line_bounded Q front c b (each_front IsIns front back ins) x.1 bound) (λ u i m g. stays u i (m ∙ x.2.memory) (λ r ne. g r ne ∙ x.2.gpr r ne)) in
       let d = y.0 in
       let line : Line Q (front ++ back) c d = line_append Q front back c b d x.1 y.1 in
       let bd = line_bounded Q (front ++ back) c d ins line bound in
@@ -518,18 +520,18 @@ module _ (n : ℕ) (base size : ℕ → ℕ) (P : ℕ → Type 0) (numbers : Num
   number_given m w l (FromSlot k) p h = absurd h
 
   -- the same where the rule may have the second source in itself
-  sources_line_by : (by : Option ℕ) (one two : Bool) (i : ℕ) (op : Op) (prefix : ℕ) (ss : List Source) (ts : List Target) (c : Core) (live : ℕ → ℕ) (sig : ℕ → Local) (totals : ℕ → ℕ) → IsCounted n base size P numbers by ss → AreFrom n base size P numbers live op prefix ss → Each (IsKept n base size P numbers ts) ss → first_register ts ≢ second_register ts
+  sources_line_by : (by : Option ℕ) (one two : Bool) (i : ℕ) (op : Op) (prefix : ℕ) (ss : List Source) (ts : List Target) (c : Core) (live : ℕ → ℕ) (sig : ℕ → Local) (totals : ℕ → ℕ) → AreNear ss → IsCounted n base size P numbers by ss → AreFrom n base size P numbers live op prefix ss → Each (IsKept n base size P numbers ts) ss → first_register ts ≢ second_register ts
       → IsClear numbers.last ts → Fits op prefix → Room op prefix → Each (IsMovedFrom count size) ss → Each IsIns (sources_far_code one (is_some by || two) count size far (first_register ts) (second_register ts) ss) → i + count ≤ n
       → Points i c.gpr → c.gpr 4 ≡ rsp → Lanes n base size P i count c.memory sig → Framed numbers rsp c totals → AreAt one two op prefix live sig ts c ss → Bounded c → Stays c
       → (d : Core) × Line Q (sources_far_code one (is_some by || two) count size far (first_register ts) (second_register ts) ss) c d × Read by op prefix ss sig (first_register ts) (second_register ts) c d
-  sources_line_by None one two i op prefix ss ts c live sig totals counted known kept apart clear fits room wide ins w at stack h framed stand bound stays =
-      sources_line one two i op prefix ss ts c live sig totals known kept apart clear fits room wide ins w at stack h framed stand bound stays
-  sources_line_by (Some m) one two i op prefix [] ts c live sig totals counted known kept apart clear fits room wide ins w at stack h framed stand bound stays = absurd counted
-  sources_line_by (Some m) one two i op prefix (s ∷ []) ts c live sig totals counted known kept apart clear fits room wide ins w at stack h framed stand bound stays = absurd counted
-  sources_line_by (Some m) one two i op prefix (s ∷ t ∷ more) ts c live sig totals counted known kept apart clear fits room wide ins w at stack h framed stand bound stays =
+  sources_line_by None one two i op prefix ss ts c live sig totals near counted known kept apart clear fits room wide ins w at stack h framed stand bound stays =
+      sources_line one two i op prefix ss ts c live sig totals near known kept apart clear fits room wide ins w at stack h framed stand bound stays
+  sources_line_by (Some m) one two i op prefix [] ts c live sig totals near counted known kept apart clear fits room wide ins w at stack h framed stand bound stays = absurd counted
+  sources_line_by (Some m) one two i op prefix (s ∷ []) ts c live sig totals near counted known kept apart clear fits room wide ins w at stack h framed stand bound stays = absurd counted
+  sources_line_by (Some m) one two i op prefix (s ∷ t ∷ more) ts c live sig totals near counted known kept apart clear fits room wide ins w at stack h framed stand bound stays =
       let a = first_register ts in
       let code = brought one (source_far_code count size far a s) in
-      let x = bring_source one i s (size_of_source op 0) prefix a c live sig totals known.0 wide.0 w at stack h framed stand.0 (first_room op prefix s room) bound stays in
+      let x = bring_source one i s (size_of_source op 0) prefix a c live sig totals near.0 known.0 wide.0 w at stack h framed stand.0 (first_room op prefix s room) bound stays in
       let d = x.0 in
       let line : Line Q (code ++ []) c d = subst (λ l. Line Q l c d) (sym (append-nil code)) x.1 in
       let b = line_bounded Q (code ++ []) c d ins line bound in (
@@ -582,16 +584,16 @@ module _ (n : ℕ) (base size : ℕ → ℕ) (P : ℕ → Type 0) (numbers : Num
     first : (q : ℕ) → q < count → (p : ℕ) → p < prefix → lane (size_of_result op 0) (q * prefix + p) (x a) ≡ (g q p).0
     second : (q : ℕ) → q < count → (p : ℕ) → p < prefix → lane (size_of_result op 1) (q * prefix + p) (x b) ≡ (g q p).1
 
-  abbrev packed : Op → ℕ → (ℕ → ℕ × ℕ) → ℕ × ℕ
+  abbrev pub packed : Op → ℕ → (ℕ → ℕ × ℕ) → ℕ × ℕ
   packed op prefix g = (pack (8 * size_of_result op 0) prefix (λ p. (g p).0), pack (8 * size_of_result op 1) prefix (λ p. (g p).1))
 
   -- what the rule and the stores of an action leave
-  record Wrote (i : ℕ) (op : Op) (prefix : ℕ) (ts : List Target) (v : ℕ → ℕ × ℕ) (live : ℕ → ℕ) (sig : ℕ → Local) (totals : ℕ → ℕ) (first : Memory) (c d : Core) : Type 0 where
-    gpr : (r : ℕ) → r ≢ 0 → d.gpr r ≡ c.gpr r
-    lanes : Lanes n base size P i count d.memory (λ q. set_results n base size P (sig q) ts (v q))
-    standing : Standing (live_targets live op prefix ts) (λ q. set_results n base size P (sig q) ts (v q)) d
-    framed : Framed numbers rsp d (λ g. totals g + sum_below count (λ q. results_add ts (v q) g))
-    others : Rest i first d.memory
+  pub record Wrote (i : ℕ) (op : Op) (prefix : ℕ) (ts : List Target) (v : ℕ → ℕ × ℕ) (live : ℕ → ℕ) (sig : ℕ → Local) (totals : ℕ → ℕ) (first : Memory) (c d : Core) : Type 0 where
+    pub gpr : (r : ℕ) → r ≢ 0 → d.gpr r ≡ c.gpr r
+    pub lanes : Lanes n base size P i count d.memory (λ q. set_results n base size P (sig q) ts (v q))
+    pub standing : Standing (live_targets live op prefix ts) (λ q. set_results n base size P (sig q) ts (v q)) d
+    pub framed : Framed numbers rsp d (λ g. totals g + sum_below count (λ q. results_add ts (v q) g))
+    pub others : Rest i first d.memory
 
   -- what holds while memory stands
   stay : (i : ℕ) (c : Core) (gpr : ℕ → ℕ) (first : Memory) → ((r : ℕ) → r ≢ 0 → c.gpr r ≡ gpr r) → Rest i first c.memory → Keeps i gpr first → Stays c
@@ -690,7 +692,7 @@ module _ (n : ℕ) (base size : ℕ → ℕ) (P : ℕ → Type 0) (numbers : Num
         },
       )
   result_line i w prefix x (ToSlot k) g c first live sig totals Out few known wide fits at stack h framed bytes lanes stand o keeps =
-      let s = store_slot c x rsp (spill_slot k) stack (omega (arith, ground.frame.low, known)) (λ b lb. framed.spilled (rsp + spill_slot k + b) (omega arith, omega (arith, known, lb))) in
+      let s = store_slot c x rsp (spill_slot k) stack (omega (arith, ground.frame.low, known)) (λ b lb. framed.worked (rsp + spill_slot k + b) (omega arith, omega (arith, known, lb))) in
       let d = s.0 in
       let z : ℕ → ℕ = λ b. get_or (c.xmm x) b 0 in
       let f : IsFill 16 c.memory (rsp + spill_slot k) z d.memory = s.4 in
@@ -939,7 +941,7 @@ module _ (n : ℕ) (base size : ℕ → ℕ) (P : ℕ → Type 0) (numbers : Num
       let s = two_results_line i op prefix (λ q. made op (sig q) ss) t u more v first live sig totals known.0 known.2 wide wide' w at stack h (framed_same numbers rsp ground.frame c v totals (λ y l m. refl) x.3 framed) x.1 x.2 o keeps in
       (s.0, line_append Q list stores c v s.0 x.0 s.1, record { gpr = s.2.gpr; lanes = s.2.lanes; standing = s.2.standing; framed = s.2.framed; others = s.2.others })
 
-  finish_line : (i : ℕ) (by : Option ℕ) (op : Op) (prefix : ℕ) (ss : List Source) (rule : List Ins) (ts : List Target) (c : Core) (first : Memory) (live : ℕ → ℕ) (sig : ℕ → Local) (totals : ℕ → ℕ) → AreTo n base size P numbers op prefix ts → IsRule count op by rule → first_register ts ≢ second_register ts → Each (TargetWithin numbers.last) ts → Each (IsMovedTo count size) ts → Fits op prefix
+  pub finish_line : (i : ℕ) (by : Option ℕ) (op : Op) (prefix : ℕ) (ss : List Source) (rule : List Ins) (ts : List Target) (c : Core) (first : Memory) (live : ℕ → ℕ) (sig : ℕ → Local) (totals : ℕ → ℕ) → AreTo n base size P numbers op prefix ts → IsRule count op by rule → first_register ts ≢ second_register ts → Each (TargetWithin numbers.last) ts → Each (IsMovedTo count size) ts → Fits op prefix
       → Each IsIns (sum_code ts) → i + count ≤ n → Points i c.gpr → c.gpr 4 ≡ rsp → Lanes n base size P i count c.memory sig → Framed numbers rsp c totals → Remains ts live sig c
       → ((x : ℕ → List ℕ) → x 0 ≡ c.xmm (first_register ts) → x 1 ≡ c.xmm (second_register ts) → Values by op prefix ss sig x) → Bounded c → Rest i first c.memory → Keeps i c.gpr first
       → (d : Core) × Line Q (sum_code ts ++ (map (renamed (rule_register ts)) rule ++ results_far_code count size far aligned ts)) c d × Wrote i op prefix ts (λ q. packed op prefix (made op (sig q) ss)) live sig totals first c d
@@ -983,16 +985,17 @@ module _ (n : ℕ) (base size : ℕ → ℕ) (P : ℕ → Type 0) (numbers : Num
           let e : count * (w * a.prefix) ≡ count * a.prefix * w = omega arith in
           omega (arith, m, e, h)
 
-  pub action_line : (i : ℕ) (a : Action) (c : Core) (first : Memory) (live less : ℕ → ℕ) (sig : ℕ → Local) (totals : ℕ → ℕ) → IsKnown n base size P numbers live a → IsFit count size a → Each IsIns (action_far_code count size far aligned a) → i + count ≤ n → Points i c.gpr → c.gpr 4 ≡ rsp
+  -- one whose sources are no far load's values
+  pub action_line : (i : ℕ) (a : Action) (c : Core) (first : Memory) (live less : ℕ → ℕ) (sig : ℕ → Local) (totals : ℕ → ℕ) → AreNear a.sources → IsKnown n base size P numbers live a → IsFit count size a → Each IsIns (action_far_code count size far aligned a) → i + count ≤ n → Points i c.gpr → c.gpr 4 ≡ rsp
       → Lanes n base size P i count c.memory sig → Framed numbers rsp c totals → AreAt a.takes_first a.takes_second a.op a.prefix live sig a.to c a.sources → Remains a.to less sig c
       → Bounded c → Rest i first c.memory → Keeps i c.gpr first → (d : Core) × Line Q (action_far_code count size far aligned a) c d × After i c d first (live_act less a) (λ q. local_act n base size P numbers a (sig q)) (GrownBy a sig totals)
-  action_line i a c first live less sig totals known fit ins_a w at stack h framed there remains bound o keeps =
+  action_line i a c first live less sig totals near known fit ins_a w at stack h framed there remains bound o keeps =
       let loads = sources_far_code a.takes_first (spares_second a) count size far (first_register a.to) (second_register a.to) a.sources in
       let rest = sum_code a.to ++ (rule_code a ++ results_far_code count size far aligned a.to) in
       let stays = stay i c c.gpr first (λ r ne. refl) o keeps in
       let fits : Fits a.op a.prefix = λ q l p lp. lane_fits (q * a.prefix + p) (count * a.prefix) (widest a.op) (byte_within q count a.prefix p l lp) fit.lanes in
       let clear = clear_of numbers.last a.to known.to_within in
-      let x = sources_line_by a.by a.takes_first a.takes_second i a.op a.prefix a.sources a.to c live sig totals known.counted known.sources known.kept known.apart clear fits (room_of a fit.lanes) fit.sources (each_front IsIns loads rest ins_a) w at stack h framed there bound stays in
+      let x = sources_line_by a.by a.takes_first a.takes_second i a.op a.prefix a.sources a.to c live sig totals near known.counted known.sources known.kept known.apart clear fits (room_of a fit.lanes) fit.sources (each_front IsIns loads rest ins_a) w at stack h framed there bound stays in
       let e = x.0 in
       let g = x.2 in
       let s = finish_line i a.by a.op a.prefix a.sources a.rule a.to e first less sig totals known.to fit.rule known.apart known.to_within fit.to fits

@@ -20,7 +20,7 @@ use Rattle.x86_flow.proofs.Moves.{IsFill, fill_is}
 use Rattle.sse_acc.specs.Sums.{sum_below, sum_of}
 use Rattle.sse_acc.proofs.Totals.{sum_below-zero, sum_below-suc, sum_below-same}
 use Rattle.orc_frame.specs.Layout.{pattern_slot, sum_slot, saved_slot, frame_size, spill_slot}
-use Rattle.orc_frame.specs.Parts.{InSpilled}
+use Rattle.orc_frame.specs.Parts.{InWorked}
 use Rattle.orc_program.specs.Need.{places}
 use Rattle.orc_region.specs.Code.{ToSum, resident_register}
 use Rattle.orc_region.specs.Elements.{sum_byte}
@@ -127,7 +127,7 @@ module _ (numbers : Numbers) (rsp : ℕ) where
     pub low : rsp + frame_size ≤ 2 ^ 47
     pub few_places : numbers.last < places
 
-  -- the patterns' slots hold their bytes, and their registers, where they stand in some, the lanes of each running sum add up to its total, modulo what the sum's bytes hold, and the spill slots are mapped
+  -- the patterns' slots hold their bytes, and their registers, where they stand in some, the lanes of each running sum add up to its total, modulo what the sum's bytes hold, and the words in which far loads' code works and the spill slots are mapped
   pub record Framed (c : Core) (totals : ℕ → ℕ) : Type 0 where
     pub patterns : (j : ℕ) → j < numbers.patterns → (b : ℕ) → b < 16 → c.memory (rsp + pattern_slot j + b) ≡ Some (digit (numbers.number j) (b % numbers.period j))
     pub residents : (j : ℕ) → j < numbers.patterns → IsResident numbers.last (numbers.sums + j) → (b : ℕ) → b < 16 → get_or (c.xmm (resident_register (numbers.sums + j))) b 0 ≡ digit (numbers.number j) (b % numbers.period j)
@@ -135,14 +135,14 @@ module _ (numbers : Numbers) (rsp : ℕ) where
     pub bytes : (g : ℕ) → AreBytes (running g)
     pub sums : (g : ℕ) → g < numbers.sums → (b : ℕ) → b < 16 → sum_byte numbers.last rsp c g b ≡ Some (get_or (running g) b 0)
     pub totals_are : (g : ℕ) → g < numbers.sums → cut (8 * numbers.width g) (sum_of (numbers.width g) (running g)) ≡ cut (8 * numbers.width g) (totals g)
-    pub spilled : (x : ℕ) → InSpilled rsp x → IsMapped c.memory x
+    pub worked : (x : ℕ) → InWorked rsp x → IsMapped c.memory x
 
   -- the registers of residents are as before
   abbrev pub Resting : Core → Core → Type 0
   Resting = SameSums numbers.last rsp
 
-  -- the patterns and sums stay where their bytes do, and the spill slots where theirs stay mapped
-  pub framed_below : IsFrame → (c d : Core) (totals : ℕ → ℕ) → ((x : ℕ) → rsp ≤ x → x < rsp + saved_slot 0 → d.memory x ≡ c.memory x) → ((x : ℕ) → InSpilled rsp x → IsMapped c.memory x → IsMapped d.memory x) → Resting c d → Framed c totals → Framed d totals
+  -- the patterns and sums stay where their bytes do, and those words and the spill slots where theirs stay mapped
+  pub framed_below : IsFrame → (c d : Core) (totals : ℕ → ℕ) → ((x : ℕ) → rsp ≤ x → x < rsp + saved_slot 0 → d.memory x ≡ c.memory x) → ((x : ℕ) → InWorked rsp x → IsMapped c.memory x → IsMapped d.memory x) → Resting c d → Framed c totals → Framed d totals
   framed_below is c d totals same there rest h = record {
     patterns = λ j l b lb. same (rsp + pattern_slot j + b) (omega arith) (omega (arith, l, lb, is.few_patterns)) ∙ h.patterns j l b lb;
     residents = λ j l r b lb. ap (λ v. get_or v b 0) (rest (numbers.sums + j) r) ∙ h.residents j l r b lb;
@@ -150,7 +150,7 @@ module _ (numbers : Numbers) (rsp : ℕ) where
     bytes = h.bytes;
     sums = λ g l b lb. byte_same numbers.last rsp c d g b (rest g) (λ f. same (rsp + sum_slot g + b) (omega arith) (omega (arith, l, lb, is.few_sums))) ∙ h.sums g l b lb;
     totals_are = h.totals_are;
-    spilled = λ x i. there x i (h.spilled x i);
+    worked = λ x i. there x i (h.worked x i);
   }
 
   pub framed_same : IsFrame → (c d : Core) (totals : ℕ → ℕ) → ((x : ℕ) → rsp ≤ x → x < rsp + frame_size → d.memory x ≡ c.memory x) → Resting c d → Framed c totals → Framed d totals
@@ -165,7 +165,7 @@ module _ (numbers : Numbers) (rsp : ℕ) where
     bytes = h.bytes;
     sums = h.sums;
     totals_are = λ g l. h.totals_are g l ∙ ap (cut (8 * numbers.width g)) (e g);
-    spilled = h.spilled;
+    worked = h.worked;
   }
 
   -- a spill slot was stored
@@ -191,7 +191,7 @@ module _ (numbers : Numbers) (rsp : ℕ) where
   -- a running sum has grown, and nothing else in the frame
   module _ (is : IsFrame) (c d : Core) (totals : ℕ → ℕ) (h : Framed c totals) (g v : ℕ) (l : g < numbers.sums) (x : List ℕ) (small : AreBytes x)
       (there : (b : ℕ) → b < 16 → sum_byte numbers.last rsp d g b ≡ Some (get_or x b 0)) (beside : (k : ℕ) → k < numbers.sums → k ≢ g → (b : ℕ) → b < 16 → sum_byte numbers.last rsp d k b ≡ sum_byte numbers.last rsp c k b)
-      (rest : (k : ℕ) → k ≢ g → IsResident numbers.last k → d.xmm (resident_register k) ≡ c.xmm (resident_register k)) (low : (y : ℕ) → rsp ≤ y → y < rsp + sum_slot 0 → d.memory y ≡ c.memory y) (high : (y : ℕ) → InSpilled rsp y → d.memory y ≡ c.memory y)
+      (rest : (k : ℕ) → k ≢ g → IsResident numbers.last k → d.xmm (resident_register k) ≡ c.xmm (resident_register k)) (low : (y : ℕ) → rsp ≤ y → y < rsp + sum_slot 0 → d.memory y ≡ c.memory y) (high : (y : ℕ) → InWorked rsp y → d.memory y ≡ c.memory y)
       (grows : cut (8 * numbers.width g) (sum_of (numbers.width g) x) ≡ cut (8 * numbers.width g) (sum_of (numbers.width g) (h.running g) + v)) where
     abbrev new : ℕ → List ℕ
     new = change h.running g x
@@ -227,5 +227,5 @@ module _ (numbers : Numbers) (rsp : ℕ) where
       bytes = grown_bytes;
       sums = grown_there;
       totals_are = grown_total;
-      spilled = λ y i. ap is_some (high y i) ∙ h.spilled y i;
+      worked = λ y i. ap is_some (high y i) ∙ h.worked y i;
     }

@@ -1,9 +1,10 @@
 -- Actions under names of the vector registers that change from one to the next: some take over the registers of their sources.
-use Rattle.std.proofs.Common.{◌≡◌, ◌≢◌, ℕ, ◌+◌, ◌-◌, ◌*◌, ◌<◌, ◌≤◌, Bool, true, false, true≢false, List, [], ◌∷◌, map, Some, Result, Ok, Err, refl, sym, ap, ◌∙◌, subst, arith, ⊎_elim}
+use Rattle.std.proofs.Common.{◌≡◌, ◌≢◌, ℕ, ◌+◌, ◌-◌, ◌*◌, ◌%◌, ◌^◌, ◌<◌, ◌≤◌, ◌⊎◌, inl, inr, Bool, true, false, true≢false, List, [], ◌∷◌, map, Some, Result, Ok, Err, refl, sym, ap, ◌∙◌, subst, arith, ⊎_elim}
 use Rattle.std.proofs.lemmas.Bool.{cases_eq}
 use Rattle.orc_bits.specs.Lanes.{change}
 use Rattle.orc_bits.specs.Memory.{Memory}
 use Rattle.orc_bits.proofs.LaneLaws.{change_other, change_same}
+use Rattle.orc_ops.specs.declared.far.Far.{Far}
 use Rattle.orc_ops.specs.declared.opcode.Op.{Op}
 use Rattle.orc_ops.specs.Table.{size_of_result, size_of_source}
 use Rattle.x86_ins.specs.declared.ins.Ins.{Ins}
@@ -23,7 +24,9 @@ use Rattle.orc_program.specs.Need.{registers}
 use Rattle.orc_frame.specs.Layout.{spill_slot}
 use Rattle.orc_region.proofs.Arithmetic.Digits.{digit}
 use Rattle.orc_region.specs.Code.{Action, Source, FromArray, FromPattern, FromResident, FromPlace, FromSlot, FromFar, Target, ToArray, ToSum, ToResident, ToPlace, ToSlot, pointer, place_register, slot_place, resident_register, made_in, first_register, second_register, take_names, source_names, action_names, action_far_code, named_code}
-use Rattle.orc_region.proofs.Block.Cells.{eq_yes, Numbers, Local, Lanes, IsFrom, AreFrom, IsMade, AreTo, IsKept, IsKnown, AllKnown, live_act, local_act, local}
+use Rattle.orc_region.proofs.Block.Cells.{eq_yes, Numbers, Local, Lanes, IsFrom, AreFrom, IsMade, AreTo, IsKept, IsKnown, AllKnown, live_act, set_target, set_results, value_of, local_act, local}
+use Rattle.orc_region.proofs.Block.FarActions.{Near, Step, Fetching, far_action_line}
+use Rattle.orc_region.proofs.Block.Fars.{FarGround}
 use Rattle.orc_region.proofs.Block.Frames.{Framed, framed_same, framed_totals}
 use Rattle.orc_region.proofs.Block.Keeping.{line_bounded}
 use Rattle.orc_region.proofs.Block.Names.{IsSmall, take_permutes, exchanged_name}
@@ -31,8 +34,9 @@ use Rattle.orc_region.proofs.Block.Places.{held, held_same, held_still}
 use Rattle.orc_region.proofs.Block.Registers.{not_0}
 use Rattle.orc_region.proofs.Block.RuleRegisters.{exchange_other, exchange_first}
 use Rattle.orc_region.proofs.Block.Sums.{IsResident, SourceWithin, IsClear, clear_of}
-use Rattle.orc_region.proofs.Block.Taken.{MayTake, IsApart, AreTaken, AllTaken, forget, forget_all, rest_known}
-use Rattle.orc_region.proofs.Block.Actions.{IsFit, Ground, InRegister, IsThere, HasRoom, IsAt, AreAt, Room, first_room, second_room, room_of, is_there, in_register, still, Remains, Rest, Keeps, Points, StandsAt, Standing, GrownBy, Grown, grown_on, no_growth, action_line}
+use Rattle.orc_region.proofs.Block.Taken.{MayTake, IsApart, AreNear, AreTaken, AllTaken, forget, forget_all, rest_known}
+use Rattle.orc_region.proofs.Block.Touched.{near_action_code, near_same, line_with, far_renamed}
+use Rattle.orc_region.proofs.Block.Actions.{IsFit, Ground, InRegister, IsThere, HasRoom, IsAt, AreAt, Room, first_room, second_room, room_of, is_there, in_register, still, Remains, Rest, After, Points, StandsAt, Standing, GrownBy, Grown, grown_on, no_growth, action_line}
 use Rattle.orc_region.proofs.Sizes.Bytes.{each_renamed}
 
 -- ---- instructions under other names
@@ -338,10 +342,33 @@ module _ (n : ℕ) (base size : ℕ → ℕ) (P : ℕ → Type 0) (numbers : Num
 
 -- ---- actions
 
-module _ (n : ℕ) (base size : ℕ → ℕ) (P : ℕ → Type 0) (numbers : Numbers) (rsp : ℕ) (ground : Ground n base size P numbers rsp) (Q : Core → Ins → Type 0) (far : ℕ → ℕ) (aligned : ℕ → Bool) (count : ℕ) (some : 0 < count) where
-  -- what is known at each step of an action
-  abbrev Near : ℕ → (ℕ → ℕ) → Memory → Core → Ins → Type 0
-  Near i gpr first u ins = ((r : ℕ) → r ≢ 0 → u.gpr r ≡ gpr r) × Rest n base size P numbers rsp ground Q far aligned count some i first u.memory
+-- a far load's values, as the one source of an action
+abbrev FarAlone : Bool → List Source → Type 0
+FarAlone one ss = (load : Far) × (k : ℕ) × (js : List ℕ) × (ss ≡ FromFar load k js ∷ []) × (one ≡ false)
+
+near_or_far : (one two : Bool) (rest : List Action) (ss : List Source) → AreTaken one two rest ss → AreNear ss ⊎ FarAlone one ss
+near_or_far one two rest [] m = inl tt
+near_or_far one two rest (FromArray k ∷ []) m = inl tt
+near_or_far one two rest (FromPattern j ∷ []) m = inl tt
+near_or_far one two rest (FromResident j g ∷ []) m = inl tt
+near_or_far one two rest (FromPlace p ∷ []) m = inl tt
+near_or_far false two rest (FromFar load k js ∷ []) m = inr (load, k, js, refl, refl)
+near_or_far true two rest (FromFar load k js ∷ []) m = absurd m
+near_or_far one two rest (FromSlot k ∷ []) m = inl tt
+near_or_far one two rest (s ∷ t ∷ more) m = inl m.4
+
+-- G holds of the instructions of actions but for far loads' code, under all names
+module _ (n : ℕ) (base size : ℕ → ℕ) (P : ℕ → Type 0) (numbers : Numbers) (rsp : ℕ) (ground : Ground n base size P numbers rsp) (fars : FarGround n base size P numbers rsp) (small : n < 2 ^ 31) (G : Ins → Type 0) (turned : (f : ℕ → ℕ) (i : Ins) → G i → G (renamed f i)) (Q : Core → Ins → Type 0) (far : ℕ → ℕ) (aligned : ℕ → Bool) (count : ℕ) (some : 0 < count) where
+  -- what is known at each step of an action that reads no far load's values
+  abbrev Nearby : ℕ → (ℕ → ℕ) → Memory → Core → Ins → Type 0
+  Nearby = Near n base size P numbers rsp ground far aligned count some
+
+  -- and at each step of any
+  abbrev Steps : ℕ → (ℕ → ℕ) → Memory → Core → Ins → Type 0
+  Steps = Step n base size P numbers rsp ground far aligned count some G
+
+  abbrev Fetches : ℕ → (ℕ → ℕ) → Memory → (ℕ → Local) → Type 0
+  Fetches = Fetching n base size P numbers rsp ground far aligned count some
 
   -- what a block leaves
   pub record Left (i : ℕ) (c d : Core) (first : Memory) (sig : ℕ → Local) (totals : ℕ → ℕ) : Type 0 where
@@ -360,18 +387,55 @@ module _ (n : ℕ) (base size : ℕ → ℕ) (P : ℕ → Type 0) (numbers : Num
   abbrev Added : List Action → (ℕ → Local) → (ℕ → ℕ) → ℕ → ℕ
   Added = Grown n base size P numbers rsp ground Q far aligned count some
 
+  target_fars : (l : Local) (t : Target) (v : ℕ) → (set_target n base size P l t v).fars ≡ l.fars
+  target_fars l (ToArray k) v = refl
+  target_fars l (ToSum g) v = refl
+  target_fars l (ToResident g) v = refl
+  target_fars l (ToPlace p) v = refl
+  target_fars l (ToSlot k) v = refl
+
+  results_fars : (l : Local) (ts : List Target) (v : ℕ × ℕ) → (set_results n base size P l ts v).fars ≡ l.fars
+  results_fars l [] v = refl
+  results_fars l (t ∷ []) v = target_fars l t v.0
+  results_fars l (t ∷ u ∷ more) v = target_fars (set_target n base size P l t v.0) u v.1 ∙ target_fars l t v.0
+
+  -- far loads' code finds the same after an action
+  fetches_on : (i : ℕ) (a : Action) (c d : Core) (first : Memory) (sig : ℕ → Local) → ((r : ℕ) → r ≢ 0 → d.gpr r ≡ c.gpr r) → Fetches i c.gpr first sig → Fetches i d.gpr first (Acted a sig)
+  fetches_on i a c d first sig g h = record {
+    row = record { bases = h.row.bases; block = λ load k js f. h.row.block load k js f ∙ ap Some (sym (g 7 (λ z. omega (arith, z)))); mapped = h.row.mapped };
+    values = λ load k js f q l. (let x = h.values load k js f q l in (x.0, ap (λ t. t load k js) (results_fars (sig q) a.to (value_of n base size P numbers a (sig q))) ∙ x.1));
+    pointers = λ load k js f. ap (λ t. (t + far k) % 2 ^ 64) (g (pointer k) (not_0 k)) ∙ h.pointers load k js f;
+  }
+
+  -- one action as code sees it before names change
+  seen_action : (i : ℕ) (a : Action) (c : Core) (first : Memory) (live less : ℕ → ℕ) (sig : ℕ → Local) (totals : ℕ → ℕ) → AreNear a.sources ⊎ FarAlone a.takes_first a.sources → IsKnown n base size P numbers live a → IsFit count size a → Each IsIns (action_far_code count size far aligned a) → Each G (near_action_code count size far aligned a) → i + count ≤ n
+      → Points n base size P numbers rsp ground Q far aligned count some i c.gpr → c.gpr 4 ≡ rsp → Lanes n base size P i count c.memory sig → Framed numbers rsp c totals → AreAt n base size P numbers rsp ground (Nearby i c.gpr first) far aligned count some a.takes_first a.takes_second a.op a.prefix live sig a.to c a.sources
+      → Remains n base size P numbers rsp ground (Nearby i c.gpr first) far aligned count some a.to less sig c → Bounded c → Rest n base size P numbers rsp ground Q far aligned count some i first c.memory → Fetches i c.gpr first sig
+      → (d : Core) × Line (Steps i c.gpr first) (action_far_code count size far aligned a) c d × After n base size P numbers rsp ground (Nearby i c.gpr first) far aligned count some i c d first (live_act less a) (Acted a sig) (More a sig totals)
+  seen_action i a c first live less sig totals (inl near) known fit ins goes w at stack h framed there rest bound o fetch =
+      let N = Nearby i c.gpr first in
+      let list = action_far_code count size far aligned a in
+      let x = action_line n base size P numbers rsp ground N far aligned count some i a c first live less sig totals near known fit ins w at stack h framed there rest bound o (λ u ins g m. (g, m)) in
+      (x.0, line_with N (Steps i c.gpr first) G (λ u ins t g. inl (t, g)) list (subst (Each G) (near_same count size far aligned a near) goes) c x.0 x.1, x.2)
+  seen_action i a c first live less sig totals (inr alone) known fit ins goes w at stack h framed there rest bound o fetch =
+      far_action_line n base size P numbers rsp ground far aligned count some fars small G i a alone.0 alone.1 alone.2 c first live less sig totals alone.3 alone.4 known fit ins goes w at stack h framed rest bound o fetch
+
   -- one action under these names
-  named_action : (names : List ℕ) (i : ℕ) (a : Action) (c : Core) (first : Memory) (live less : ℕ → ℕ) (sig : ℕ → Local) (totals : ℕ → ℕ) → IsPermutation names → Fixed n base size P numbers rsp ground (Near i c.gpr first) far aligned count some names
-      → IsKnown n base size P numbers live a → IsFit count size a → Each IsIns (action_far_code count size far aligned a) → i + count ≤ n → Points n base size P numbers rsp ground Q far aligned count some i c.gpr → c.gpr 4 ≡ rsp → Lanes n base size P i count c.memory sig → Framed numbers rsp c totals
-      → AreAt n base size P numbers rsp ground (Near i c.gpr first) far aligned count some a.takes_first a.takes_second a.op a.prefix live sig a.to (seen_as names c) a.sources → Remains n base size P numbers rsp ground (Near i c.gpr first) far aligned count some a.to less sig (seen_as names c) → Bounded c
-      → Rest n base size P numbers rsp ground Q far aligned count some i first c.memory → Keeps n base size P numbers rsp ground Q far aligned count some i c.gpr first
+  named_action : (names : List ℕ) (i : ℕ) (a : Action) (c : Core) (first : Memory) (live less : ℕ → ℕ) (sig : ℕ → Local) (totals : ℕ → ℕ) → AreNear a.sources ⊎ FarAlone a.takes_first a.sources → IsPermutation names → Fixed n base size P numbers rsp ground (Nearby i c.gpr first) far aligned count some names
+      → IsKnown n base size P numbers live a → IsFit count size a → Each IsIns (action_far_code count size far aligned a) → Each G (near_action_code count size far aligned a) → i + count ≤ n → Points n base size P numbers rsp ground Q far aligned count some i c.gpr → c.gpr 4 ≡ rsp → Lanes n base size P i count c.memory sig → Framed numbers rsp c totals
+      → AreAt n base size P numbers rsp ground (Nearby i c.gpr first) far aligned count some a.takes_first a.takes_second a.op a.prefix live sig a.to (seen_as names c) a.sources → Remains n base size P numbers rsp ground (Nearby i c.gpr first) far aligned count some a.to less sig (seen_as names c) → Bounded c
+      → Rest n base size P numbers rsp ground Q far aligned count some i first c.memory → Fetches i c.gpr first sig → ((u : Core) (ins : Ins) → Steps i c.gpr first u ins → Q u ins)
       → (d : Core) × Line Q (map (renamed (renaming names)) (action_far_code count size far aligned a)) c d × Left i c d first (Acted a sig) (More a sig totals) × Standing n base size P numbers rsp ground Q far aligned count some (live_act less a) (Acted a sig) (seen_as names d)
-  named_action names i a c first live less sig totals p fixed known fit ins w at stack h framed there rest bound o keeps =
+  named_action names i a c first live less sig totals kind p fixed known fit ins goes w at stack h framed there rest bound o fetch keeps =
       let list = action_far_code count size far aligned a in
       let v = seen_as names c in
-      let x = action_line n base size P numbers rsp ground (Near i c.gpr first) far aligned count some i a v first live less sig totals known fit ins w at stack h
-      (framed_same numbers rsp ground.frame c v totals (λ y l u. refl) (λ g l. ap c.xmm (fixed g l)) framed) there rest (seen_bounded names c p bound) o (λ u ins g m. (g, m)) in
-      let y = line_named names p (Near i c.gpr first) Q (λ u t ins r q. keeps t (renamed (renaming names) ins) (λ k ne. ap (λ g. g k) r.gpr ∙ q.0 k ne) (λ b m s. ap (λ g. g b) r.memory ∙ q.1 b m s)) list v x.0 c (seen_renames names c) x.1 in
+      let S = Steps i c.gpr first in
+      let x = seen_action i a v first live less sig totals kind known fit ins goes w at stack h (framed_same numbers rsp ground.frame c v totals (λ y l u. refl) (λ g l. ap c.xmm (fixed g l)) framed) there rest (seen_bounded names c p bound) o fetch in
+      let carry : (u t : Core) (ins : Ins) → Renames (renaming names) u t → S u ins → Q t (renamed (renaming names) ins) = λ u t ins r q. keeps t (renamed (renaming names) ins) (⊎_elim
+      (λ m. inl ((λ k ne. ap (λ g. g k) r.gpr ∙ m.0.0 k ne, λ b e z. ap (λ g. g b) r.memory ∙ m.0.1 b e z), turned (renaming names) ins m.1))
+      (λ m. inr (ap (λ g. g 4) r.gpr ∙ m.0, λ b e z. ap (λ g. g b) r.memory ∙ m.1 b e z, far_renamed base numbers rsp i count (renaming names) u t ins r.gpr m.2))
+      q) in
+      let y = line_named names p S Q carry list v x.0 c (seen_renames names c) x.1 in
       let e = x.0 in
       let d = y.0 in
       let r = y.2 in (
@@ -389,10 +453,10 @@ module _ (n : ℕ) (base size : ℕ → ℕ) (P : ℕ → Type 0) (numbers : Num
 
   -- a whole block
   pub named_line : (names : List ℕ) (i : ℕ) (actions : List Action) (c : Core) (first : Memory) (live : ℕ → ℕ) (sig : ℕ → Local) (totals : ℕ → ℕ) → IsPermutation names → ((g : ℕ) → IsResident numbers.last g → renaming names (resident_register g) ≡ resident_register g)
-      → AllKnown n base size P numbers live actions → AllTaken actions → Each (IsFit count size) actions → Each (λ a. Each IsIns (action_far_code count size far aligned a)) actions → i + count ≤ n → Points n base size P numbers rsp ground Q far aligned count some i c.gpr → c.gpr 4 ≡ rsp
-      → Lanes n base size P i count c.memory sig → Framed numbers rsp c totals → Standing n base size P numbers rsp ground Q far aligned count some live sig (seen_as names c) → Bounded c → Rest n base size P numbers rsp ground Q far aligned count some i first c.memory → Keeps n base size P numbers rsp ground Q far aligned count some i c.gpr first
+      → AllKnown n base size P numbers live actions → AllTaken actions → Each (IsFit count size) actions → Each (λ a. Each IsIns (action_far_code count size far aligned a)) actions → Each (λ a. Each G (near_action_code count size far aligned a)) actions → i + count ≤ n → Points n base size P numbers rsp ground Q far aligned count some i c.gpr → c.gpr 4 ≡ rsp
+      → Lanes n base size P i count c.memory sig → Framed numbers rsp c totals → Standing n base size P numbers rsp ground Q far aligned count some live sig (seen_as names c) → Bounded c → Rest n base size P numbers rsp ground Q far aligned count some i first c.memory → Fetches i c.gpr first sig → ((u : Core) (ins : Ins) → Steps i c.gpr first u ins → Q u ins)
       → (d : Core) × Line Q (named_code names count size far aligned actions) c d × Left i c d first (λ q. local n base size P numbers actions (sig q)) (Added actions sig totals)
-  named_line names i [] c first live sig totals p fixed known taken fit ins w at stack h framed stand bound o keeps = (
+  named_line names i [] c first live sig totals p fixed known taken fit ins goes w at stack h framed stand bound o fetch keeps = (
     c,
     refl,
     record {
@@ -403,18 +467,21 @@ module _ (n : ℕ) (base size : ℕ → ℕ) (P : ℕ → Type 0) (numbers : Num
       bounded = bound;
     },
   )
-  named_line names i (a ∷ rest) c first live sig totals p fixed known taken fit ins w at stack h framed stand bound o keeps =
+  named_line names i (a ∷ rest) c first live sig totals p fixed known taken fit ins goes w at stack h framed stand bound o fetch keeps =
       let k = known.0 in
       let mine = action_names a names in
       let less = forget_all a.takes_first a.takes_second a.sources live in
-      let s = opened n base size P numbers rsp ground (Near i c.gpr first) far aligned count some a.takes_first a.takes_second rest a.op a.prefix a.to a.sources live sig names c taken.0 k.to k.sources k.kept k.apart (clear_of numbers.last a.to k.to_within) k.from_within (room_of n base size P numbers rsp ground (Near i c.gpr first) far aligned count some a fit.0.lanes) p fixed stand in
-      let x = named_action mine i a c first live less sig totals s.permutes s.fixed k fit.0 ins.0 w at stack h framed s.at s.rest bound o keeps in
-      let y = named_line mine i rest x.0 first (live_act less a) (Acted a sig) (More a sig totals) s.permutes s.fixed (rest_known n base size P numbers live a rest taken.0 known.1) taken.1 fit.1 ins.1 w (λ j hj t. (ap (λ y. y + far j) (x.2.gpr (pointer j) (not_0 j)) ∙ (at j hj t).0, (at j hj t).1)) (x.2.gpr 4 (λ z. omega (arith, z)) ∙ stack)
-      x.2.lanes x.2.framed x.3 x.2.bounded x.2.others (λ u ins g. keeps u ins (λ r ne. g r ne ∙ x.2.gpr r ne)) in (
+      let kind = near_or_far a.takes_first a.takes_second rest a.sources taken.0 in
+      let s = opened n base size P numbers rsp ground (Nearby i c.gpr first) far aligned count some a.takes_first a.takes_second rest a.op a.prefix a.to a.sources live sig names c taken.0 k.to k.sources k.kept k.apart (clear_of numbers.last a.to k.to_within) k.from_within (room_of n base size P numbers rsp ground (Nearby i c.gpr first) far aligned count some a fit.0.lanes) p fixed stand in
+      let x = named_action mine i a c first live less sig totals kind s.permutes s.fixed k fit.0 ins.0 goes.0 w at stack h framed s.at s.rest bound o fetch keeps in
+      let gpr = x.2.gpr in
+      let y = named_line mine i rest x.0 first (live_act less a) (Acted a sig) (More a sig totals) s.permutes s.fixed (rest_known n base size P numbers live a rest taken.0 known.1) taken.1 fit.1 ins.1 goes.1 w (λ j hj t. (ap (λ y. y + far j) (gpr (pointer j) (not_0 j)) ∙ (at j hj t).0, (at j hj t).1)) (gpr 4 (λ z. omega (arith, z)) ∙ stack)
+      x.2.lanes x.2.framed x.3 x.2.bounded x.2.others (fetches_on i a c x.0 first sig gpr fetch)
+      (λ u ins t. keeps u ins (⊎_elim (λ m. inl ((λ r ne. m.0.0 r ne ∙ gpr r ne, m.0.1), m.1)) (λ m. inr (m.0 ∙ gpr 4 (λ z. omega (arith, z)), m.1, m.2)) t)) in (
         y.0,
         line_append Q (map (renamed (renaming mine)) (action_far_code count size far aligned a)) (named_code mine count size far aligned rest) c x.0 y.0 x.1 y.1,
         record {
-          gpr = λ r ne. y.2.gpr r ne ∙ x.2.gpr r ne;
+          gpr = λ r ne. y.2.gpr r ne ∙ gpr r ne;
           lanes = y.2.lanes;
           framed = framed_totals numbers rsp y.0 _ (Added (a ∷ rest) sig totals) (grown_on n base size P numbers rsp ground Q far aligned count some a rest sig totals) y.2.framed;
           others = y.2.others;

@@ -1,14 +1,20 @@
 -- Registers that are taken over: nothing that follows reads what stood there.
-use Rattle.std.proofs.Common.{◌≡◌, ℕ, ◌*◌, ◌==◌, Bool, true, false, true≢false, not, ◌&&◌, ◌||◌, if◌then◌else◌, List, [], ◌∷◌, refl, sym, ap, ap₂, ◌∙◌, subst, ◌⊎◌, inl, inr, ⊎_elim}
+use Rattle.std.proofs.Common.{◌≡◌, ℕ, ◌*◌, ◌==◌, Bool, true, false, true≢false, not, ◌&&◌, ◌||◌, if◌then◌else◌, List, [], ◌∷◌, slice_index, Option, Some, None, refl, sym, ap, ap₂, ◌∙◌, subst, ◌⊎◌, inl, inr, ⊎_elim}
 use Rattle.std.proofs.lemmas.Bool.{cases_eq, eqb-true}
 use Rattle.orc_bits.specs.Lanes.{change}
 use Rattle.orc_bits.proofs.LaneLaws.{change_other, change_same, eq_true}
+use Rattle.orc_ops.specs.declared.far.Far.{Far}
 use Rattle.orc_ops.specs.declared.opcode.Op.{Op}
+use Rattle.orc_ops.specs.Far.{far_of}
 use Rattle.orc_ops.specs.declared.target.Target.{Target as CodeTarget}
 use Rattle.orc_ops.specs.Table.{size_of_result, size_of_source}
 use Rattle.orc_program.proofs.Sizes.{both}
+use Rattle.orc_plan.specs.declared.steps.Item.{Item}
+use Rattle.orc_plan.specs.declared.steps.Item.TheVariants as item
 use Rattle.orc_plan.specs.declared.steps.Step.{Step}
-use Rattle.orc_region.specs.Code.{Action, Seats, Source, FromArray, FromPattern, FromResident, FromPlace, FromSlot, FromFar, Target, ToArray, ToSum, ToResident, ToPlace, ToSlot, slot_place, AreActions, is_from, is_to, some_from, some_to, is_free, is_last, is_beside, is_first_taken, is_second_taken}
+use Rattle.orc_region.proofs.Block.Places.{by_source}
+use Rattle.orc_region.proofs.Block.Sums.{by_pattern}
+use Rattle.orc_region.specs.Code.{Action, source_of, far_sources, sources_of, Seats, Source, FromArray, FromPattern, FromResident, FromPlace, FromSlot, FromFar, Target, ToArray, ToSum, ToResident, ToPlace, ToSlot, slot_place, AreActions, is_from, is_to, some_from, some_to, is_free, is_last, is_beside, is_first_taken, is_second_taken}
 use Rattle.orc_region.proofs.Block.Cells.{Numbers, live_target, live_targets, live_act, IsFrom, AreFrom, IsKnown, AllKnown}
 
 -- of these actions none reads what stands at the place: before one does, one makes a value there
@@ -30,10 +36,26 @@ MayTake true rest (FromSlot k) = ⊥
 abbrev pub IsApart : Bool → Source → Source → Type 0
 IsApart one s t = one ≡ true → is_beside s t ≡ false
 
+-- it is no far load's values
+abbrev pub IsNear : Source → Type 0
+IsNear (FromArray k) = Unit {0}
+IsNear (FromPattern j) = Unit {0}
+IsNear (FromResident j g) = Unit {0}
+IsNear (FromPlace p) = Unit {0}
+IsNear (FromFar load array js) = ⊥
+IsNear (FromSlot k) = Unit {0}
+
+-- and so are an action's one or two sources
+abbrev pub AreNear : List Source → Type 0
+AreNear [] = Unit {0}
+AreNear (s ∷ []) = IsNear s
+AreNear (s ∷ t ∷ more) = IsNear s × IsNear t
+
+-- far loads' values stand alone
 abbrev pub AreTaken : Bool → Bool → List Action → List Source → Type 0
 AreTaken one two rest [] = Unit {0}
 AreTaken one two rest (s ∷ []) = MayTake one rest s
-AreTaken one two rest (s ∷ t ∷ more) = MayTake one rest s × MayTake two rest t × IsApart one s t × IsApart two t s
+AreTaken one two rest (s ∷ t ∷ more) = MayTake one rest s × MayTake two rest t × IsApart one s t × IsApart two t s × AreNear (s ∷ t ∷ more)
 
 abbrev pub AllTaken : List Action → Type 0
 AllTaken [] = Unit {0}
@@ -52,6 +74,31 @@ not_yes : (b : Bool) → not b ≡ true → b ≡ false
 not_yes false h = refl
 not_yes true h = absurd (true≢false (sym h))
 
+-- two sources or more are no far loads' values
+abbrev AreAlone : List Source → Type 0
+AreAlone [] = Unit {0}
+AreAlone (s ∷ []) = Unit {0}
+AreAlone (s ∷ t ∷ more) = AreNear (s ∷ t ∷ more)
+
+source_near : (seats : Seats) (i : Item) → IsNear (source_of seats i)
+source_near seats (item.Value v) = by_source IsNear (slice_index seats.places v) (λ l. tt) (λ k e. tt)
+source_near seats (item.Array slot) = tt
+source_near seats (item.Acc slot size) = tt
+source_near seats (item.Pattern j) = by_pattern IsNear seats j (λ l. tt) (λ l. tt)
+
+far_alone : (load : Far) (is : List Item) → AreAlone (far_sources load is)
+far_alone load [] = tt
+far_alone load (item.Array slot ∷ scalars) = tt
+far_alone load (item.Value v ∷ is) = tt
+far_alone load (item.Acc slot size ∷ is) = tt
+far_alone load (item.Pattern j ∷ is) = tt
+
+sources_alone : (seats : Seats) (far : Option Far) (is : List Item) → AreAlone (sources_of seats far is)
+sources_alone seats (Some load) is = far_alone load is
+sources_alone seats None [] = tt
+sources_alone seats None (i ∷ []) = tt
+sources_alone seats None (i ∷ j ∷ is) = (source_near seats i, source_near seats j)
+
 module _ (seats : Seats) (later : List Step) (rest : List Action) (free : (p : ℕ) → is_free seats p later ≡ is_free_in p rest) where
   may_take : (b : Bool) (s : Source) → (b ≡ true → is_last seats later s ≡ true) → MayTake b rest s
   may_take false s h = tt
@@ -62,20 +109,20 @@ module _ (seats : Seats) (later : List Step) (rest : List Action) (free : (p : �
   may_take true (FromFar load array js) h = absurd (true≢false (sym (h refl)))
   may_take true (FromSlot k) h = absurd (true≢false (sym (h refl)))
 
-  of_sources : (one two : Bool) (ss : List Source) → one ≡ is_first_taken seats later ss → two ≡ is_second_taken seats later ss → AreTaken one two rest ss
-  of_sources one two [] e f = tt
-  of_sources one two (s ∷ []) e f = may_take one s (λ t. sym e ∙ t)
-  of_sources one two (s ∷ t ∷ more) e f =
+  of_sources : (one two : Bool) (ss : List Source) → one ≡ is_first_taken seats later ss → two ≡ is_second_taken seats later ss → AreAlone ss → AreTaken one two rest ss
+  of_sources one two [] e f alone = tt
+  of_sources one two (s ∷ []) e f alone = may_take one s (λ t. sym e ∙ t)
+  of_sources one two (s ∷ t ∷ more) e f alone =
       let x : one ≡ true → (is_last seats later s ≡ true) × (not (is_beside s t) ≡ true) = λ y. both (is_last seats later s) (not (is_beside s t)) (sym e ∙ y) in
       let z : two ≡ true → (is_last seats later t ≡ true) × (not (is_beside t s) ≡ true) = λ y. both (is_last seats later t) (not (is_beside t s)) (sym f ∙ y) in
-      (may_take one s (λ y. (x y).0), may_take two t (λ y. (z y).0), (λ y. not_yes (is_beside s t) (x y).1), (λ y. not_yes (is_beside t s) (z y).1))
+      (may_take one s (λ y. (x y).0), may_take two t (λ y. (z y).0), (λ y. not_yes (is_beside s t) (x y).1), (λ y. not_yes (is_beside t s) (z y).1), alone)
 
 pub all_taken : (target : CodeTarget) (seats : Seats) (count : ℕ) (steps : List Step) (actions : List Action) → AreActions target seats count steps actions → AllTaken actions
 all_taken target seats count [] [] is = tt
 all_taken target seats count [] (a ∷ rest) is = absurd is
 all_taken target seats count (s ∷ steps) [] is = absurd is
 all_taken target seats count (s ∷ steps) (a ∷ rest) is =
-    (of_sources seats steps rest (λ p. free_same target seats count steps rest p is.1) a.takes_first a.takes_second a.sources is.0.1.first is.0.1.second, all_taken target seats count steps rest is.1)
+    (of_sources seats steps rest (λ p. free_same target seats count steps rest p is.1) a.takes_first a.takes_second a.sources is.0.1.first is.0.1.second (subst AreAlone (sym is.0.0.sources) (sources_alone seats (far_of s.op) s.sources.items)), all_taken target seats count steps rest is.1)
 
 -- ---- what is known of places that nothing reads
 

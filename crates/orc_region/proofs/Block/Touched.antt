@@ -1,16 +1,17 @@
 -- What the instructions of a block touch: slots of the frame, and cells by the pointers of their arrays.
-use Rattle.std.proofs.Common.{◌≡◌, ℕ, ◌+◌, ◌*◌, ◌-◌, ◌^◌, ◌<◌, ◌≤◌, ◌&&◌, Bool, true, false, true≢false, List, [], ◌∷◌, ◌++◌, map, Some, None, refl, sym, ap, ◌∙◌, subst, arith, ◌⊎◌, inl, inr}
+use Rattle.std.proofs.Common.{◌≡◌, ℕ, ◌+◌, ◌*◌, ◌-◌, ◌%◌, ◌^◌, ◌<◌, ◌≤◌, ◌==◌, ◌&&◌, Bool, true, false, true≢false, if◌then◌else◌, negsuc, List, [], ◌∷◌, ◌++◌, Some, None, refl, sym, ap, ap₂, ◌∙◌, subst, arith, ◌⊎◌, inl, inr, ⊎_elim}
 use Rattle.x86_ins.specs.declared.ins.Ins.{Ins}
 use Rattle.x86_ins.specs.declared.ins.Ins.TheVariants.{Vec, VecImm, Shuffle, VecLoad, VecStore, FromGpr, ToGpr, Move, Load, Store, Store8, Store16, Load8, Load16, MovImm, Alu, AluImm, Test, Shift, Imul, Lea, Push, Pop, Jump, JumpIf, Ret}
 use Rattle.x86_ins.specs.declared.ins.MoveOp.TheVariants as move
-use Rattle.x86_ins.specs.Machine.{Core, Touches, address, span}
-use Rattle.x86_ins.specs.Renaming.{renamed, renaming}
+use Rattle.x86_ins.specs.declared.ins.VecOp.TheVariants.{Movdqa}
+use Rattle.x86_ins.specs.Machine.{Core, Touches, address, moved, move_size, span}
+use Rattle.x86_ins.specs.Renaming.{renamed}
 use Rattle.x86_ins.specs.Vectors.{simd, is_simd, all_simd}
 use Rattle.x86_ins.specs.Way.{Each}
 use Rattle.x86_ins.proofs.Renamed.{simd_renamed}
 use Rattle.x86_flow.specs.Does.{Line}
 use Rattle.x86_flow.specs.Moves.{IsWidth, away, load_far_code, store_far_code, store_either_code}
-use Rattle.x86_flow.specs.Touching.{base_of}
+use Rattle.x86_flow.specs.Touching.{base_of, weight_by, touch_weight}
 use Rattle.x86_flow.proofs.Moves.{each_width}
 use Rattle.x86_flow.proofs.Spelled.{each_both}
 use Rattle.x86_flow.proofs.Touching.{touches_none, touches_in}
@@ -19,9 +20,12 @@ use Rattle.orc_frame.specs.Layout.{pattern_slot, sum_slot, frame_size, spill_slo
 use Rattle.orc_ops.specs.declared.opcode.Op.{Op}
 use Rattle.orc_ops.specs.Table.{size_of_result, size_of_source}
 use Rattle.orc_region.specs.Stores.{IsMovdquStore}
-use Rattle.orc_region.specs.Code.{Action, spares_second, IsRule, Source, FromArray, FromPattern, FromResident, FromPlace, FromSlot, FromFar, Target, ToArray, ToSum, ToResident, ToPlace, ToSlot, pointer, first_register, second_register, rule_register, rule_code, source_far_code, brought, sources_far_code, sum_code, result_far_code, results_far_code, own_names, action_names, action_far_code, named_code, actions_far_code}
+use Rattle.orc_region.specs.Code.{Action, spares_second, IsRule, Source, FromArray, FromPattern, FromResident, FromPlace, FromSlot, FromFar, Target, ToArray, ToSum, ToResident, ToPlace, ToSlot, pointer, first_register, second_register, rule_register, rule_code, from_zero_code, source_far_code, brought, sources_far_code, sum_code, result_far_code, results_far_code, action_far_code}
 use Rattle.orc_region.proofs.Arithmetic.Digits.{byte_split, byte_further}
+use Rattle.orc_resample.specs.Bring.{is_vector_store}
 use Rattle.orc_region.proofs.Block.Cells.{Numbers, Low, IsFrom, AreFrom, IsMade, AreTo, IsKnown, AllKnown, live_act}
+use Rattle.orc_region.proofs.Block.Fars.{is_array, TouchesFar}
+use Rattle.orc_region.proofs.Block.Taken.{IsNear, AreNear}
 use Rattle.orc_region.proofs.Sizes.Bytes.{vectors_of, each_brought}
 use Rattle.orc_region.proofs.Block.Actions.{IsMovedFrom, IsMovedTo, IsFit}
 
@@ -127,6 +131,14 @@ all_nowhere (i ∷ is) h = (let x = both (is_simd (simd i)) (all_simd is) h in (
 pub rule_nowhere : (count : ℕ) (a : Action) → IsRule count a.op a.by a.rule → Each GoesNowhere (rule_code a)
 rule_nowhere count a is = all_nowhere (rule_code a) (simd_renamed (rule_register a.to) a.rule ∙ vectors_of count a.op a.by a.rule is)
 
+-- and so do values that go on from XMM0
+from_zero_nowhere : (x : ℕ) → Each GoesNowhere (from_zero_code x)
+from_zero_nowhere x = go (x == 0)
+  where
+    go : (t : Bool) → Each GoesNowhere (if t then [] else Vec Movdqa x 0 ∷ [])
+    go true = tt
+    go false = ((refl, λ u. refl), tt)
+
 -- an instruction of a move of cells; Unaligned is what is known where it's a movdqu store
 abbrev IsMove : ℕ → ℕ → ℕ → Type 0 → Ins → Type 0
 IsMove r d width Unaligned i = GoesNowhere i ⊎ (GoesBy r d width i × (IsMovdquStore i → Unaligned))
@@ -157,8 +169,47 @@ either_moves false width x r d whole is = each_map (IsMove r d width (width ≡ 
     weaker i (inl h) = inl h
     weaker i (inr h) = inr (h.0, λ m. (refl, h.1 m))
 
-width_few : (width : ℕ) → IsWidth width → width ≤ 16
+pub width_few : (width : ℕ) → IsWidth width → width ≤ 16
 width_few = each_width (λ w. w ≤ 16) (omega arith) (omega arith) (omega arith) (omega arith) (omega arith)
+
+-- ---- an action's code but for what goes to far loads' elements
+
+-- a source's code, without what brings a far load's values to XMM0
+abbrev pub near_source_code : ℕ → (ℕ → ℕ) → (ℕ → ℕ) → ℕ → Source → List Ins
+near_source_code count size far x (FromArray k) = source_far_code count size far x (FromArray k)
+near_source_code count size far x (FromPattern j) = source_far_code count size far x (FromPattern j)
+near_source_code count size far x (FromResident j g) = source_far_code count size far x (FromResident j g)
+near_source_code count size far x (FromPlace p) = source_far_code count size far x (FromPlace p)
+near_source_code count size far x (FromFar load array js) = from_zero_code x
+near_source_code count size far x (FromSlot k) = source_far_code count size far x (FromSlot k)
+
+abbrev pub near_sources_code : Bool → Bool → ℕ → (ℕ → ℕ) → (ℕ → ℕ) → ℕ → ℕ → List Source → List Ins
+near_sources_code one two count size far x y [] = []
+near_sources_code one two count size far x y (s ∷ []) = brought one (near_source_code count size far x s)
+near_sources_code one two count size far x y (s ∷ t ∷ more) = brought one (near_source_code count size far x s) ++ brought two (near_source_code count size far y t)
+
+abbrev pub near_action_code : ℕ → (ℕ → ℕ) → (ℕ → ℕ) → (ℕ → Bool) → Action → List Ins
+near_action_code count size far aligned a =
+    near_sources_code a.takes_first (spares_second a) count size far (first_register a.to) (second_register a.to) a.sources ++ (sum_code a.to ++ (rule_code a ++ results_far_code count size far aligned a.to))
+
+-- it is all of the code where no source is far loads' values
+near_source_same : (count : ℕ) (size far : ℕ → ℕ) (x : ℕ) (s : Source) → IsNear s → near_source_code count size far x s ≡ source_far_code count size far x s
+near_source_same count size far x (FromArray k) h = refl
+near_source_same count size far x (FromPattern j) h = refl
+near_source_same count size far x (FromResident j g) h = refl
+near_source_same count size far x (FromPlace p) h = refl
+near_source_same count size far x (FromFar load array js) h = absurd h
+near_source_same count size far x (FromSlot k) h = refl
+
+near_sources_same : (one two : Bool) (count : ℕ) (size far : ℕ → ℕ) (x y : ℕ) (ss : List Source) → AreNear ss → near_sources_code one two count size far x y ss ≡ sources_far_code one two count size far x y ss
+near_sources_same one two count size far x y [] h = refl
+near_sources_same one two count size far x y (s ∷ []) h = ap (brought one) (near_source_same count size far x s h)
+near_sources_same one two count size far x y (s ∷ t ∷ more) h = ap₂ (λ a b. brought one a ++ brought two b) (near_source_same count size far x s h.0) (near_source_same count size far y t h.1)
+
+pub near_same : (count : ℕ) (size far : ℕ → ℕ) (aligned : ℕ → Bool) (a : Action) → AreNear a.sources → near_action_code count size far aligned a ≡ action_far_code count size far aligned a
+near_same count size far aligned a h =
+    ap (λ list. list ++ (sum_code a.to ++ (rule_code a ++ results_far_code count size far aligned a.to)))
+    (near_sources_same a.takes_first (spares_second a) count size far (first_register a.to) (second_register a.to) a.sources h)
 
 -- ---- what an instruction of a turn touches
 
@@ -171,6 +222,48 @@ abbrev pub TouchesPart : ℕ → (ℕ → ℕ) → (ℕ → ℕ) → (ℕ → Ty
 TouchesPart n base size P rsp Free u ins =
     ((a : ℕ) → Touches ins u a → (rsp ≤ a) × (a < rsp + frame_size))
     ⊎ ((k : ℕ) × P k × (base_of ins ≡ Some (pointer k)) × ((a : ℕ) → Touches ins u a → InSlot n base size k a) × (IsMovdquStore ins → (k < 4) × (k ≡ 0 → Free)))
+
+-- or what far loads' code does, for so many elements from one on
+abbrev pub TouchesTurn : ℕ → (ℕ → ℕ) → (ℕ → ℕ) → (ℕ → Type 0) → ℕ → Type 0 → (ℕ → ℕ) → Numbers → ℕ → ℕ → Core → Ins → Type 0
+TouchesTurn n base size P rsp Free origin numbers first count u ins = TouchesPart n base size P rsp Free u ins ⊎ TouchesFar origin numbers rsp first count u ins
+
+-- what is touched depends on the general registers alone
+span_same : (i : Ins) (u t : Core) → t.gpr ≡ u.gpr → span i t ≡ span i u
+span_same (VecLoad op d a) u t e = ap (λ g. (moved (g a.base) a.disp, move_size op)) e
+span_same (VecStore op s a) u t e = ap (λ g. (moved (g a.base) a.disp, move_size op)) e
+span_same (Load d a) u t e = ap (λ g. (moved (g a.base) a.disp, 8)) e
+span_same (Store s a) u t e = ap (λ g. (moved (g a.base) a.disp, 8)) e
+span_same (Store8 s a) u t e = ap (λ g. (moved (g a.base) a.disp, 1)) e
+span_same (Store16 s a) u t e = ap (λ g. (moved (g a.base) a.disp, 2)) e
+span_same (Load8 d a) u t e = ap (λ g. (moved (g a.base) a.disp, 1)) e
+span_same (Load16 d a) u t e = ap (λ g. (moved (g a.base) a.disp, 2)) e
+span_same (Push s) u t e = ap (λ g. (moved (g 4) (negsuc 7), 8)) e
+span_same (Pop d) u t e = ap (λ g. (g 4, 8)) e
+span_same Ret u t e = ap (λ g. (g 4, 8)) e
+span_same _ u t e = refl
+
+vector_store_renamed : (f : ℕ → ℕ) (i : Ins) → is_vector_store (renamed f i) ≡ is_vector_store i
+vector_store_renamed f (Vec op d s) = refl
+vector_store_renamed f (VecImm op d n) = refl
+vector_store_renamed f (Shuffle op d s n) = refl
+vector_store_renamed f (VecLoad op d a) = refl
+vector_store_renamed f (VecStore op s a) = refl
+vector_store_renamed f (FromGpr wide d s) = refl
+vector_store_renamed f (ToGpr wide d s) = refl
+vector_store_renamed f _ = refl
+
+-- under other names of the vector registers far loads' code touches the same
+pub far_renamed : (origin : ℕ → ℕ) (numbers : Numbers) (rsp first count : ℕ) (f : ℕ → ℕ) (u t : Core) (i : Ins) → t.gpr ≡ u.gpr → TouchesFar origin numbers rsp first count u i → TouchesFar origin numbers rsp first count t (renamed f i)
+far_renamed origin numbers rsp first count f u t i e h = (
+  λ x w. ⊎_elim (λ a. inl (weight ∙ a.0, a.1, a.2)) (λ a. inr (weight ∙ a.0, a.1)) (h.0 x (w.0, subst (λ (s : ℕ × ℕ). w.0 < s.1) same w.1, w.2 ∙ ap (λ (s : ℕ × ℕ). (s.0 + w.0) % 2 ^ 64) same)),
+  vector_store_renamed f i ∙ h.1,
+)
+  where
+    same : span (renamed f i) t ≡ span i u
+    same = span_renamed f i t ∙ span_same i u t e
+
+    weight : touch_weight is_array (renamed f i) ≡ touch_weight is_array i
+    weight = ap (weight_by is_array) (base_renamed f i)
 
 -- ---- a block
 
@@ -191,7 +284,7 @@ module _ (n : ℕ) (base size : ℕ → ℕ) (P : ℕ → Type 0) (numbers : Num
   nowhere_goes : (list : List Ins) → Each GoesNowhere list → Each Goes list
   nowhere_goes list h = each_map GoesNowhere Goes (λ i x. inl x) list h
 
-  source_goes : (live : ℕ → ℕ) (w prefix x : ℕ) (s : Source) → IsFrom n base size P numbers live w prefix s → IsMovedFrom count size s → Each Goes (source_far_code count size far x s)
+  source_goes : (live : ℕ → ℕ) (w prefix x : ℕ) (s : Source) → IsFrom n base size P numbers live w prefix s → IsMovedFrom count size s → Each Goes (near_source_code count size far x s)
   source_goes live w prefix x (FromArray k) o wide = each_map (IsMove (pointer k) (far k) (count * size k) ⊥) Goes to_cells (load_far_code (count * size k) x (pointer k) (far k)) (load_moves (count * size k) x (pointer k) (far k) wide)
     where
       to_cells : (i : Ins) → IsMove (pointer k) (far k) (count * size k) ⊥ i → Goes i
@@ -200,15 +293,15 @@ module _ (n : ℕ) (base size : ℕ → ℕ) (P : ℕ → Type 0) (numbers : Num
   source_goes live w prefix x (FromPattern j) o wide = (inr (inl (pattern_slot j, omega (arith, o.0, few_patterns), (refl, λ u. refl))), tt)
   source_goes live w prefix x (FromResident j g) o wide = (inl ((refl, λ u. refl)), tt)
   source_goes live w prefix x (FromPlace p) o wide = (inl ((refl, λ u. refl)), tt)
-  source_goes live w prefix x (FromFar load array js) o wide = absurd o
+  source_goes live w prefix x (FromFar load array js) o wide = nowhere_goes (from_zero_code x) (from_zero_nowhere x)
   source_goes live w prefix x (FromSlot k) o wide = (inr (inl (spill_slot k, (let l = o.0 in omega (arith, l)), (refl, λ u. refl))), tt)
 
-  sources_go : (one two : Bool) (live : ℕ → ℕ) (op : Op) (prefix x y : ℕ) (ss : List Source) → AreFrom n base size P numbers live op prefix ss → Each (IsMovedFrom count size) ss → Each Goes (sources_far_code one two count size far x y ss)
+  sources_go : (one two : Bool) (live : ℕ → ℕ) (op : Op) (prefix x y : ℕ) (ss : List Source) → AreFrom n base size P numbers live op prefix ss → Each (IsMovedFrom count size) ss → Each Goes (near_sources_code one two count size far x y ss)
   sources_go one two live op prefix x y [] o wide = tt
-  sources_go one two live op prefix x y (s ∷ []) o wide = each_brought Goes one (source_far_code count size far x s) (source_goes live (size_of_source op 0) prefix x s o.0 wide.0)
+  sources_go one two live op prefix x y (s ∷ []) o wide = each_brought Goes one (near_source_code count size far x s) (source_goes live (size_of_source op 0) prefix x s o.0 wide.0)
   sources_go one two live op prefix x y (s ∷ t ∷ more) o wide =
-      let front = source_far_code count size far x s in
-      let back = source_far_code count size far y t in
+      let front = near_source_code count size far x s in
+      let back = near_source_code count size far y t in
       each_both Goes (brought one front) (brought two back) (each_brought Goes one front (source_goes live (size_of_source op 0) prefix x s o.0 wide.0)) (each_brought Goes two back (source_goes live (size_of_source op 1) prefix y t o.1 wide.1.0))
 
   result_goes : (bytes x : ℕ) (t : Target) → IsMade n base size P numbers bytes t → IsMovedTo count size t → Each Goes (result_far_code count size far aligned x t)
@@ -247,33 +340,23 @@ module _ (n : ℕ) (base size : ℕ → ℕ) (P : ℕ → Type 0) (numbers : Num
   finish_goes op prefix rule (ToPlace p ∷ u ∷ more) o wide h = two_finish op prefix rule (ToPlace p) u o.0 o.2 wide.0 wide.1.0 h
   finish_goes op prefix rule (ToSlot k ∷ u ∷ more) o wide h = two_finish op prefix rule (ToSlot k) u o.0 o.2 wide.0 wide.1.0 h
 
-  action_goes : (live : ℕ → ℕ) (a : Action) → IsKnown n base size P numbers live a → IsFit count size a → Each Goes (action_far_code count size far aligned a)
+  action_goes : (live : ℕ → ℕ) (a : Action) → IsKnown n base size P numbers live a → IsFit count size a → Each Goes (near_action_code count size far aligned a)
   action_goes live a known fit =
-      each_both Goes (sources_far_code a.takes_first (spares_second a) count size far (first_register a.to) (second_register a.to) a.sources) (sum_code a.to ++ (rule_code a ++ results_far_code count size far aligned a.to))
+      each_both Goes (near_sources_code a.takes_first (spares_second a) count size far (first_register a.to) (second_register a.to) a.sources) (sum_code a.to ++ (rule_code a ++ results_far_code count size far aligned a.to))
       (sources_go a.takes_first (spares_second a) live a.op a.prefix (first_register a.to) (second_register a.to) a.sources known.sources fit.sources)
       (finish_goes a.op a.prefix (rule_code a) a.to known.to fit.to (nowhere_goes (rule_code a) (rule_nowhere count a fit.rule)))
 
-  goes_renamed : (f : ℕ → ℕ) (is : List Ins) → Each Goes is → Each Goes (map (renamed f) is)
-  goes_renamed f [] h = tt
-  goes_renamed f (i ∷ is) h = (one h.0, goes_renamed f is h.1)
-    where
-      one : Goes i → Goes (renamed f i)
-      one (inl g) = inl (nowhere_renamed f i g)
-      one (inr (inl g)) = inr (inl (g.0, g.1, by_renamed f 4 g.0 16 i g.2))
-      one (inr (inr g)) =
-          let k = g.0 in
-          inr (inr (k, record { array = g.1.array; some = g.1.some; few = g.1.few; by = by_renamed f (pointer k) (far k) (count * size k) i g.1.by; stores = λ m. g.1.stores (store_renamed f i m) }))
+  pub goes_renamed : (f : ℕ → ℕ) (i : Ins) → Goes i → Goes (renamed f i)
+  goes_renamed f i (inl g) = inl (nowhere_renamed f i g)
+  goes_renamed f i (inr (inl g)) = inr (inl (g.0, g.1, by_renamed f 4 g.0 16 i g.2))
+  goes_renamed f i (inr (inr g)) =
+      let k = g.0 in
+      inr (inr (k, record { array = g.1.array; some = g.1.some; few = g.1.few; by = by_renamed f (pointer k) (far k) (count * size k) i g.1.by; stores = λ m. g.1.stores (store_renamed f i m) }))
 
-  -- a whole block
-  named_go : (names : List ℕ) (live : ℕ → ℕ) (actions : List Action) → AllKnown n base size P numbers live actions → Each (IsFit count size) actions → Each Goes (named_code names count size far aligned actions)
-  named_go names live [] known fit = tt
-  named_go names live (a ∷ rest) known fit =
-      let mine = action_names a names in
-      let own = action_far_code count size far aligned a in
-      each_both Goes (map (renamed (renaming mine)) own) (named_code mine count size far aligned rest) (goes_renamed (renaming mine) own (action_goes live a known.0 fit.0)) (named_go mine (live_act live a) rest known.1 fit.1)
-
-  pub actions_go : (live : ℕ → ℕ) (actions : List Action) → AllKnown n base size P numbers live actions → Each (IsFit count size) actions → Each Goes (actions_far_code count size far aligned actions)
-  actions_go = named_go own_names
+  -- each action of a block
+  pub actions_go : (live : ℕ → ℕ) (actions : List Action) → AllKnown n base size P numbers live actions → Each (IsFit count size) actions → Each (λ a. Each Goes (near_action_code count size far aligned a)) actions
+  actions_go live [] known fit = tt
+  actions_go live (a ∷ rest) known fit = (action_goes live a known.0 fit.0, actions_go (live_act live a) rest known.1 fit.1)
 
   -- ---- what that touches in a core
 

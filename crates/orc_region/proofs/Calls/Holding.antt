@@ -95,7 +95,7 @@ module _ (f : FunctionValue) (is : is_function f ≡ true) (known : Arrays f) (c
       bytes = h.bytes;
       sums = λ g l b lb. h.sums g (omega (arith, l, sums_count f)) b lb;
       totals_are = λ g l. ap (λ w. cut (8 * width_of f g) (sum_of w (h.running g))) (sym (size_is f g l));
-      spilled = λ x i. h.mapped x (good.frame x (omega (arith, i.0), i.1));
+      worked = λ x i. h.mapped x (good.frame x (omega (arith, i.0), i.1));
     }
 
     pub agrees_in : Agrees f e.sums totals_in

@@ -5,6 +5,7 @@ use Rattle.std.proofs.lemmas.Bool.{cases_eq}
 use Rattle.orc_bits.specs.Memory.{Memory, IsMapped}
 use Rattle.orc_bits.proofs.LaneLaws.{change_other, change_same}
 use Rattle.orc_bits.proofs.Memories.{mapped_value, or_else}
+use Rattle.orc_ops.specs.declared.far.Far.{Far}
 use Rattle.x86_ins.specs.declared.ins.AluOp.TheVariants.{Add, Sub}
 use Rattle.x86_ins.specs.declared.ins.Ins.{Ins}
 use Rattle.x86_ins.specs.declared.ins.Ins.TheVariants.{AluImm}
@@ -16,7 +17,9 @@ use Rattle.x86_flow.specs.Does.{Line}
 use Rattle.x86_flow.proofs.Moves.{line_append}
 use Rattle.x86_flow.proofs.Touching.{touches_none}
 use Rattle.x86_flow.proofs.Plans.{line_map}
+use Rattle.orc_frame.specs.Layout.{row_slot, block_slot, frame_size}
 use Rattle.orc_frame.specs.Parts.{InChanged}
+use Rattle.orc_resample.specs.Ready.{AmongCells, value_at}
 use Rattle.orc_region.specs.Code.{Plan, Action, AreBlocks, IsBlocksTurn, pointer, resident_register, far_by, own_names, action_far_code, actions_far_code, advance_code}
 use Rattle.orc_region.proofs.Block.Registers.{not_0, not_1, not_4, not_7, pointer_one}
 use Rattle.sse_acc.specs.Sums.{sum_below}
@@ -25,11 +28,14 @@ use Rattle.orc_region.proofs.Block.Frames.{Framed, framed_same}
 use Rattle.orc_region.proofs.Arithmetic.Digits.{number_of, digit_of}
 use Rattle.orc_region.proofs.Block.Keeping.{line_bounded}
 use Rattle.orc_region.proofs.Row.Counters.{Tested}
-use Rattle.orc_region.proofs.Block.Actions.{IsFit, Ground, Rest}
+use Rattle.orc_region.proofs.Block.Actions.{IsFit, Ground}
+use Rattle.orc_region.proofs.Block.FarActions.{Step, Fetching, fars_wide, fars_one, row_kept}
+use Rattle.orc_region.proofs.Block.Fars.{far_at, InFars, FarGround, FarRow, FarValues}
+use Rattle.orc_region.proofs.Block.FarWords.{value_kept}
 use Rattle.orc_region.proofs.Block.Named.{named_line}
 use Rattle.orc_region.proofs.Block.Names.{own_permutes, own_name}
 use Rattle.orc_region.proofs.Block.Taken.{AllTaken}
-use Rattle.orc_region.proofs.Block.Touched.{TouchesPart, Goes, line_with, actions_go, goes_touch}
+use Rattle.orc_region.proofs.Block.Touched.{TouchesTurn, Goes, goes_renamed, actions_go, goes_touch}
 
 -- pointers of so many slots from a first one go on, and nothing else
 pub record Advanced (size : ℕ → ℕ) (count first m : ℕ) (c d : Core) : Type 0 where
@@ -88,6 +94,7 @@ pub record Setting (n : ℕ) (base : ℕ → ℕ) (P : ℕ → Type 0) (numbers 
   -- what far loads read; F has none of it
   pub fars : FarGround n base p.size P numbers rsp
   pub fars_apart : (a : ℕ) → InFars base numbers 0 n a → F a → ⊥
+  pub far_slots : (load : Far) (k : ℕ) (js : List ℕ) → numbers.far load k js → IsSlot p.dests p.sources k
 
 module _ (n : ℕ) (base : ℕ → ℕ) (P : ℕ → Type 0) (numbers : Numbers) (rsp : ℕ) (p : Plan) (Emul : ℕ → Memory → (ℕ → ℕ) → Type 0) (F : ℕ → Type 0) (set : Setting n base P numbers rsp p Emul F) where
   -- the address of a byte of an element of the slots with D
@@ -109,6 +116,14 @@ module _ (n : ℕ) (base : ℕ → ℕ) (P : ℕ → Type 0) (numbers : Numbers)
     pub record Calm (c : Core) : Type 0 where
       pub stack : c.gpr 4 ≡ rsp
       pub quiet : (a : ℕ) → (IsDestCell a → ⊥) → (InChanged rsp numbers.sums a → ⊥) → c.memory a ≡ mem a
+
+    -- what the frame has for far loads' code stands
+    pub row_now : (c : Core) → Calm c → FarRow n base numbers rsp rdi mem → FarRow n base numbers rsp rdi c.memory
+    row_now c h = row_kept n base p.size P numbers rsp set.fars set.ground.frame.low rdi mem c.memory
+        (λ x l u. h.quiet x
+        (λ t. set.ground.apart t.0 t.1.0 t.2 t.3 t.4 t.5 (subst (λ a. rsp ≤ a) t.6 (let z : rsp ≤ x = omega (arith, l) in z)) (subst (λ a. a < rsp + frame_size) t.6 (let z : x < rsp + frame_size = omega (arith, u) in z)))
+        (λ s. ⊎_elim (λ i. let few = set.ground.frame.few_sums in omega (arith, l, i.1, few)) (λ i. omega (arith, u, i.0)) s))
+        (λ x f. h.quiet x (λ t. set.fars.dests x f t.0 t.1 t.2 t.3 t.4 t.5 t.6) (λ s. set.fars_apart x f (set.changed x s)))
 
     -- before element i, where emulation has the memory e and the running sums have these totals
     pub record Inside (i : ℕ) (e : Memory) (totals : ℕ → ℕ) (c : Core) : Type 0 where
@@ -143,22 +158,23 @@ module _ (n : ℕ) (base : ℕ → ℕ) (P : ℕ → Type 0) (numbers : Numbers)
 
       -- Free is what holds where the first dest is stored a whole register at once by stores that aren't aligned
       module _ (Free : Type 0) where
-        -- what holds at each step of a block for the elements from j on that began in core c: RSP stands, outside these elements' cells of dests, the running sums and the spill slots so does memory, and the instruction touches the frame or these elements' cells of one array
+        -- what holds at each step of a block for the elements from j on that began in core c: RSP stands, outside these elements' cells of dests, the running sums and the spill slots so does memory, and the instruction touches the frame, these elements' cells of one array, or elements that far loads read for them
         pub record InBlock (j : ℕ) (c u : Core) (ins : Ins) : Type 0 where
           pub calm : Calm u
           pub only : (a : ℕ) → (AtElements n base p.size (OfDests P) j count a → ⊥) → (InChanged rsp numbers.sums a → ⊥) → u.memory a ≡ c.memory a
-          pub touches : TouchesPart count (base_from j) p.size P rsp Free u ins
+          pub touches : TouchesTurn count (base_from j) p.size P rsp Free base numbers j count u ins
 
-        -- such an instruction touches the frame or cells of one array
-        pub touches_wide : (j : ℕ) (u : Core) (ins : Ins) → j + count ≤ n → TouchesPart count (base_from j) p.size P rsp Free u ins → TouchesPart n base p.size P rsp Free u ins
-        touches_wide j u ins w (inl h) = inl h
-        touches_wide j u ins w (inr h) = inr (
+        -- such an instruction touches the frame, cells of one array, or elements that far loads read
+        pub touches_wide : (j : ℕ) (u : Core) (ins : Ins) → j + count ≤ n → TouchesTurn count (base_from j) p.size P rsp Free base numbers j count u ins → TouchesTurn n base p.size P rsp Free base numbers 0 n u ins
+        touches_wide j u ins w (inl (inl h)) = inl (inl h)
+        touches_wide j u ins w (inl (inr h)) = inl (inr (
           h.0,
           h.1,
           h.2,
           λ a t. let x = h.3 a t in (j + x.0, omega (arith, x.1, w), x.2, x.3, omega (arith, x.4, add-mul j x.0 (p.size h.0))),
           h.4,
-        )
+        ))
+        touches_wide j u ins w (inr h) = inr (λ a t. ⊎_elim (λ x. inl x) (λ x. inr (x.0, fars_wide base numbers j count n w a x.1)) (h.0 a t), h.1)
 
         module _ (some : 0 < count) (fit : Each (IsFit count p.size) p.actions) where
           -- the number in a cell
@@ -167,7 +183,7 @@ module _ (n : ℕ) (base : ℕ → ℕ) (P : ℕ → Type 0) (numbers : Numbers)
 
           -- the numbers of elements from one on; nothing is known of places
           abbrev numbers_in : Memory → ℕ → ℕ → Local
-          numbers_in m i q = record { cells = number_in m (i + q); values = no_values }
+          numbers_in m i q = record { cells = number_in m (i + q); values = no_values; fars = λ load k js. value_at load (far_at numbers base k js (i + q)) m (i + q) }
 
           holds : (z i : ℕ) (e : Memory) (totals : ℕ → ℕ) (c : Core) → Inside z e totals c → i + count ≤ n → Lanes n base p.size P i count c.memory (numbers_in c.memory i)
           holds z i e totals c h w k hk q l r lr =
@@ -195,25 +211,41 @@ module _ (n : ℕ) (base : ℕ → ℕ) (P : ℕ → Type 0) (numbers : Numbers)
               let at : (k : ℕ) → P k → 0 < p.size k → (c.gpr (pointer k) + far k ≡ base k + j * p.size k) × (aligned k ≡ true → (count * p.size k ≡ 16) × ((base k + j * p.size k) % 16 ≡ 0)) = λ k hk s.
               ((let l = set.ground.low k hk j (omega (arith, w, some)) 0 s in let x = h.pointers k (set.slots k hk) in omega (arith, l, x, far_is k, add-mul lag i (p.size k), ap (λ t. t * p.size k) same)), aligns k hk) in
               let Only : Core → Type 0 = λ u. (a : ℕ) → (AtElements n base p.size (OfDests P) j count a → ⊥) → (InChanged rsp numbers.sums a → ⊥) → u.memory a ≡ c.memory a in
-              let Near : Core → Ins → Type 0 = λ u ins. Calm u × ((r : ℕ) → r ≢ 0 → u.gpr r ≡ c.gpr r) × Only u in
-              let calm : (u : Core) → ((r : ℕ) → r ≢ 0 → u.gpr r ≡ c.gpr r) → Rest n base p.size P numbers rsp set.ground Near far aligned count some j c.memory u.memory → Calm u = λ u g o. record {
-                stack = g 4 (λ x. omega (arith, x)) ∙ h.calm.stack;
+              let calm : (u : Core) → u.gpr 4 ≡ c.gpr 4 → Only u → Calm u = λ u g o. record {
+                stack = g ∙ h.calm.stack;
                 quiet = λ a m s. o a (λ x. m (dest a x)) s ∙ h.calm.quiet a m s;
               } in
-              let b = named_line n base p.size P numbers rsp set.ground Near far aligned count some own_names j p.actions c c.memory no_values sig totals own_permutes (λ g l. own_name (resident_register g) (omega arith)) set.known set.taken fit ins_all w at h.calm.stack hc h.framed (λ p l q lq r lr lb. absurd (omega (arith, lr))) h.bounded (λ a m s. refl) (λ u ins g o. (calm u g o, g, o)) in
               let frame = set.ground.frame in
               let whole : (k : ℕ) → P k → aligned k ≡ true → count * p.size k ≡ 16 = λ k hk t. (aligns k hk t).0 in
+              let G : Ins → Type 0 = Goes n base p.size P numbers frame.few_patterns frame.few_sums far aligned count whole in
               let goes = actions_go n base p.size P numbers frame.few_patterns frame.few_sums far aligned count whole no_values p.actions set.known fit in
-              let here : (ins : Ins) → Goes n base p.size P numbers frame.few_patterns frame.few_sums far aligned count whole ins → Goes count (base_from j) p.size P numbers frame.few_patterns frame.few_sums far aligned count whole ins = λ ins g.
+              let here : (ins : Ins) → G ins → Goes count (base_from j) p.size P numbers frame.few_patterns frame.few_sums far aligned count whole ins = λ ins g.
               ⊎_elim (λ x. inl x) (λ y. ⊎_elim (λ x. inr (inl x)) (λ x. inr (inr (x.0, record { array = x.1.array; some = x.1.some; few = x.1.few; by = x.1.by; stores = x.1.stores }))) y) g in
-              let touch : (u : Core) (ins : Ins) → Near u ins → Goes n base p.size P numbers frame.few_patterns frame.few_sums far aligned count whole ins → InBlock j c u ins = λ u ins q g. record {
-                calm = q.0;
-                only = q.2;
-                touches = goes_touch count (base_from j) p.size P numbers frame.few_patterns frame.few_sums far aligned count whole rsp frame.low (low_from j w) some Free free 0 (omega arith) u q.0.stack
-                    (λ k hk s. ap (λ y. y + far k) (q.1 (pointer k) (not_0 k)) ∙ (at k hk s).0 ∙ (let z : base k + j * p.size k ≡ base k + j * p.size k + 0 * p.size k = omega arith in z)) ins (here ins g);
+              let row = row_now c h.calm h.row in
+              let read : (load : Far) (k : ℕ) (js : List ℕ) → numbers.far load k js → (q : ℕ) → q < count → (x : ℕ) → AmongCells load 1 (far_at numbers base k js (j + q)) x → InFars base numbers 0 n x = λ load k js f q l x m. fars_wide base numbers j count n w x (fars_one base numbers load k js f j count q l x m) in
+              let agreed : (x : ℕ) → InFars base numbers 0 n x → c.memory x ≡ e x = λ x f. h.agree x (set.fars_apart x f) in
+              let fetch : Fetching n base p.size P numbers rsp set.ground far aligned count some j c.gpr c.memory sig = record {
+                row = record { bases = row.bases; block = λ load k js f. row.block load k js f ∙ ap Some (sym h.block); mapped = row.mapped };
+                values = λ load k js f q l. (λ x m. row.mapped x (read load k js f q l x m), refl);
+                pointers = λ load k js f. (let x = h.pointers k (set.far_slots load k js f) in omega (arith, x, far_is k, add-mul lag i (p.size k), ap (λ t. t * p.size k) same));
               } in
-              let line : Line (InBlock j c) (actions_far_code count p.size far aligned p.actions) c b.0 = line_with Near (InBlock j c) (Goes n base p.size P numbers frame.few_patterns frame.few_sums far aligned count whole) touch (actions_far_code count p.size far aligned p.actions) goes c b.0 b.1 in
-              let m = set.emulates j e totals sig em count w he in
+              let touch : (u : Core) (ins : Ins) → Step n base p.size P numbers rsp set.ground far aligned count some G j c.gpr c.memory u ins → InBlock j c u ins = λ u ins q. ⊎_elim
+              (λ y. record {
+                calm = calm u (y.0.0 4 (λ x. omega (arith, x))) y.0.1;
+                only = y.0.1;
+                touches = inl (goes_touch count (base_from j) p.size P numbers frame.few_patterns frame.few_sums far aligned count whole rsp frame.low (low_from j w) some Free free 0 (omega arith) u (y.0.0 4 (λ x. omega (arith, x)) ∙ h.calm.stack)
+                    (λ k hk s. ap (λ y. y + far k) (y.0.0 (pointer k) (not_0 k)) ∙ (at k hk s).0 ∙ (let z : base k + j * p.size k ≡ base k + j * p.size k + 0 * p.size k = omega arith in z)) ins (here ins y.1));
+              })
+              (λ y. record { calm = calm u y.0 y.1; only = y.1; touches = inr y.2 })
+              q in
+              let b = named_line n base p.size P numbers rsp set.ground set.fars set.few G (goes_renamed n base p.size P numbers frame.few_patterns frame.few_sums far aligned count whole) (InBlock j c) far aligned count some own_names j p.actions c c.memory no_values sig totals own_permutes (λ g l. own_name (resident_register g) (omega arith)) set.known set.taken fit ins_all goes w at h.calm.stack hc h.framed
+              (λ p l q lq r lr lb. absurd (omega (arith, lr))) h.bounded (λ a m s. refl) fetch touch in
+              let line : Line (InBlock j c) (actions_far_code count p.size far aligned p.actions) c b.0 = b.1 in
+              let values : FarValues base numbers j count e sig = λ load k js f q l. (
+                λ x m. (let y = read load k js f q l x m in subst (λ o. is_some o ≡ true) (agreed x y) (row.mapped x y)),
+                value_kept load (far_at numbers base k js (j + q)) c.memory e (j + q) (λ z r v lv. agreed _ (fars_wide base numbers j count n w _ (load, k, js, f, (q, l, (z, r, (v, lv, refl)))))),
+              ) in
+              let m = set.emulates j e totals sig em count w he values in
               let d = b.0 in
               let x = b.2 in (
                 m.0,
@@ -224,11 +256,12 @@ module _ (n : ℕ) (base : ℕ → ℕ) (P : ℕ → Type 0) (numbers : Numbers)
                 record {
                   pointers = λ k hk. x.gpr (pointer k) (λ z. not_0 k z) ∙ h.pointers k hk;
                   block = x.gpr 7 (λ z. omega (arith, z)) ∙ h.block;
-                  calm = calm d x.gpr x.others;
+                  calm = calm d (x.gpr 4 (λ z. omega (arith, z))) x.others;
                   agree = λ a nf. same_end n base p.size P set.ground.separate set.ground.low set.decided slot_small j count c.memory e d.memory m.0 (λ q. local n base p.size P numbers p.actions (sig q)) x.lanes m.2 m.3 a (λ k. x.others a (λ t. k (t.0, t.1.0, t.2, t.3, t.4, t.5, t.6)) (λ s. nf (set.changed a s))) (h.agree a nf);
                   mapped = λ a t. ⊎_elim (λ at. ap is_some (ap m.0 at.6 ∙ m.2 at.0 at.1 at.2 at.3 at.4 at.5)) (λ k. ap is_some (m.3 a k) ∙ h.mapped a t) (elements_or_not n base p.size P set.ground.separate set.ground.low set.decided slot_small j count a);
                   framed = x.framed;
                   bounded = x.bounded;
+                  row = h.row;
                 },
                 x.gpr,
                 x.others,
@@ -236,10 +269,10 @@ module _ (n : ℕ) (base : ℕ → ℕ) (P : ℕ → Type 0) (numbers : Numbers)
 
     -- ---- with what holds at each step of a row
 
-    module _ (Q : Core → Ins → Type 0) (Free : Type 0) (calmly : (u : Core) (i : Ins) → Calm u → TouchesPart n base p.size P rsp Free u i → Q u i) where
+    module _ (Q : Core → Ins → Type 0) (Free : Type 0) (calmly : (u : Core) (i : Ins) → Calm u → TouchesTurn n base p.size P rsp Free base numbers 0 n u i → Q u i) where
       -- an instruction that touches nothing
       calm_none : (u : Core) (i : Ins) → Calm u → (span i u).1 ≡ 0 → Q u i
-      calm_none u i h e = calmly u i h (inl (λ a t. absurd (touches_none i u e a t)))
+      calm_none u i h e = calmly u i h (inl (inl (λ a t. absurd (touches_none i u e a t))))
 
       -- a block for the elements so far behind the pointers, which it leaves
       pub block_far_line : (count : ℕ) (some : 0 < count) (fit : Each (IsFit count p.size) p.actions) (far : ℕ → ℕ) (aligned : ℕ → Bool) → (aligned 0 ≡ false → count * p.size 0 ≡ 16 → Free) → (lag : ℕ) → ((k : ℕ) → far k ≡ lag * p.size k) → Each (λ a. Each IsIns (action_far_code count p.size far aligned a)) p.actions → (i : ℕ) → Aligns count aligned (lag + i) → (e : Memory) (totals : ℕ → ℕ) (c : Core) → lag + i + count ≤ n → Inside i e totals c → Emul (lag + i) e totals
@@ -290,6 +323,7 @@ module _ (n : ℕ) (base : ℕ → ℕ) (P : ℕ → Type 0) (numbers : Numbers)
               mapped = g.mapped;
               framed = framed_same numbers rsp set.ground.frame b d new (λ t l u. ap (λ f. f t) memory) (λ k l. ap (λ f. f (resident_register k)) (y.2.xmm ∙ x.2.xmm)) g.framed;
               bounded = line_bounded Q (code ++ (advance_code p.size by 0 p.dests ++ (advance_code p.size by 4 p.sources ++ AluImm Sub 1 (pos by) ∷ []))) c d known line bounded;
+              row = g.row;
             },
             fewer_is,
             record { zero = refl; sign = refl },
@@ -304,7 +338,7 @@ pub record Able (n : ℕ) (base : ℕ → ℕ) (P : ℕ → Type 0) (numbers : N
   pub known : (first : ℕ) → first ≤ 64 → Each (λ a. Each IsIns (action_far_code count p.size (far_by first p.size) aligned a)) actions
 
 module _ (n : ℕ) (base : ℕ → ℕ) (P : ℕ → Type 0) (numbers : Numbers) (rsp : ℕ) (p : Plan) (Emul : ℕ → Memory → (ℕ → ℕ) → Type 0) (F : ℕ → Type 0) (set : Setting n base P numbers rsp p Emul F) (rdi : ℕ) (mem : Memory)
-    (Q : Core → Ins → Type 0) (Free : Type 0) (calmly : (u : Core) (i : Ins) → Calm n base P numbers rsp p Emul F set rdi mem u → TouchesPart n base p.size P rsp Free u i → Q u i) where
+    (Q : Core → Ins → Type 0) (Free : Type 0) (calmly : (u : Core) (i : Ins) → Calm n base P numbers rsp p Emul F set rdi mem u → TouchesTurn n base p.size P rsp Free base numbers 0 n u i → Q u i) where
   abbrev Here : ℕ → Memory → (ℕ → ℕ) → Core → Type 0
   Here = Inside n base P numbers rsp p Emul F set rdi mem
 
@@ -313,12 +347,12 @@ module _ (n : ℕ) (base : ℕ → ℕ) (P : ℕ → Type 0) (numbers : Numbers)
     There = Inside n base P numbers rsp (record p { actions = actions }) Emul F other rdi mem
 
     to_there : (i : ℕ) (e : Memory) (totals : ℕ → ℕ) (c : Core) → Here i e totals c → There i e totals c
-    to_there i e totals c h = record { pointers = h.pointers; block = h.block; calm = record { stack = h.calm.stack; quiet = h.calm.quiet }; agree = h.agree; mapped = h.mapped; framed = h.framed; bounded = h.bounded }
+    to_there i e totals c h = record { pointers = h.pointers; block = h.block; calm = record { stack = h.calm.stack; quiet = h.calm.quiet }; agree = h.agree; mapped = h.mapped; framed = h.framed; bounded = h.bounded; row = h.row }
 
     to_here : (i : ℕ) (e : Memory) (totals : ℕ → ℕ) (c : Core) → There i e totals c → Here i e totals c
-    to_here i e totals c h = record { pointers = h.pointers; block = h.block; calm = record { stack = h.calm.stack; quiet = h.calm.quiet }; agree = h.agree; mapped = h.mapped; framed = h.framed; bounded = h.bounded }
+    to_here i e totals c h = record { pointers = h.pointers; block = h.block; calm = record { stack = h.calm.stack; quiet = h.calm.quiet }; agree = h.agree; mapped = h.mapped; framed = h.framed; bounded = h.bounded; row = h.row }
 
-    there_calmly : (u : Core) (i : Ins) → Calm n base P numbers rsp (record p { actions = actions }) Emul F other rdi mem u → TouchesPart n base p.size P rsp Free u i → Q u i
+    there_calmly : (u : Core) (i : Ins) → Calm n base P numbers rsp (record p { actions = actions }) Emul F other rdi mem u → TouchesTurn n base p.size P rsp Free base numbers 0 n u i → Q u i
     there_calmly u i w = calmly u i (record { stack = w.stack; quiet = w.quiet })
 
   module _ (count : ℕ) (some : 0 < count) (aligned : ℕ → Bool) (free : aligned 0 ≡ false → count * p.size 0 ≡ 16 → Free) where

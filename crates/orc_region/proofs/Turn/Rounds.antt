@@ -17,9 +17,10 @@ use Rattle.orc_region.proofs.Block.Registers.{not_0, not_1}
 use Rattle.orc_region.proofs.Block.Cells.{Numbers}
 use Rattle.orc_frame.specs.Layout.{frame_size}
 use Rattle.orc_frame.specs.Parts.{InChanged}
+use Rattle.orc_region.proofs.Block.FarActions.{row_kept}
 use Rattle.orc_region.proofs.Block.Frames.{framed_below}
-use Rattle.orc_region.proofs.Block.Touched.{TouchesPart}
-use Rattle.orc_region.proofs.Turn.Advancing.{Setting, Able, IsDestCell, Calm, Inside, turn_line}
+use Rattle.orc_region.proofs.Block.Touched.{TouchesTurn}
+use Rattle.orc_region.proofs.Turn.Advancing.{Setting, Able, IsDestCell, Calm, Inside, row_now, turn_line}
 use Rattle.orc_region.proofs.Row.Regions.{InWord, Beside, Ground, IsTurn, IsRegion, IsPiece, wide_region, wide_regions, plain_line, turns_line, tested_line, aligned_line}
 use Rattle.orc_region.proofs.Row.Parts.{parts_map}
 use Rattle.orc_region.proofs.Row.Gaps.{AtSixteen, each_size, sixteen_on}
@@ -72,7 +73,7 @@ module _ (n : ℕ) (base : ℕ → ℕ) (P : ℕ → Type 0) (numbers : Numbers)
   Aligned count aligned i = (k : ℕ) → P k → aligned k ≡ true → (count * p.size k ≡ 16) × ((base k + i * p.size k) % 16 ≡ 0)
 
   -- Free is what holds where the first dest is stored a whole register at once by stores that aren't aligned
-  module _ (Free : Type 0) (calmly : (u : Core) (i : Ins) → Outside u → TouchesPart n base p.size P rsp Free u i → Q u i) where
+  module _ (Free : Type 0) (calmly : (u : Core) (i : Ins) → Outside u → TouchesTurn n base p.size P rsp Free base numbers 0 n u i → Q u i) where
     outside : (i : ℕ) (c u : Core) → At i c → Beside Q rsp stack_low c u → Outside u
     outside i c u h b = record {
       stack = b.gpr 4 (λ e. omega (arith, e)) (λ e. omega (arith, e)) ∙ h.inside.calm.stack;
@@ -96,6 +97,8 @@ module _ (n : ℕ) (base : ℕ → ℕ) (P : ℕ → Type 0) (numbers : Numbers)
             mapped = x.mapped;
             framed = framed_below numbers rsp frame c d h.totals (λ a l u. b.memory a (λ w. omega (arith, w.0, u))) (λ a i. b.mapped a) (λ k l. ap (λ f. f (resident_register k)) b.xmm) x.framed;
             bounded = bounded;
+            row = row_kept n base p.size P numbers rsp set.fars frame.low rdi c.memory d.memory (λ a l u. b.memory a (λ w. omega (arith, w.0, u))) (λ a f. b.memory a (λ w. set.fars_apart a f (free_frame a w)))
+                (row_now n base P numbers rsp p Emul F set rdi h.mem c x.calm x.row);
           };
           emulated = h.emulated;
           there = λ a w. b.mapped a (h.there a w);
@@ -109,7 +112,7 @@ module _ (n : ℕ) (base : ℕ → ℕ) (P : ℕ → Type 0) (numbers : Numbers)
       bounded = λ i c h. h.inside.bounded;
       stack = λ i c h. h.inside.calm.stack;
       word = λ i c h. h.there;
-      calm = λ i c h u ins b t. calmly u ins (outside i c u h b) (inl (λ a w. (let x = t a w in (omega (arith, x.0), omega (arith, x.1)))));
+      calm = λ i c h u ins b t. calmly u ins (outside i c u h b) (inl (inl (λ a w. (let x = t a w in (omega (arith, x.0), omega (arith, x.1))))));
     }
 
     module _ (by : ℕ → Bool) (by_stack : by 4 ≡ false) (each some : ℕ) where
@@ -127,7 +130,7 @@ module _ (n : ℕ) (base : ℕ → ℕ) (P : ℕ → Type 0) (numbers : Numbers)
         where
           turn : IsTurn Q rsp stack_low n At ground by by_stack each some (Plain list) (b * count) Pre steps (b * some)
           turn i c within h pre =
-              let calm : (u : Core) (i : Ins) → Calm n base P numbers rsp p Emul F set rdi h.mem u → TouchesPart n base p.size P rsp Free u i → Q u i = λ u i w. calmly u i (record { stack = w.stack; quiet = λ a k s f. w.quiet a k s ∙ h.near a k s f }) in
+              let calm : (u : Core) (i : Ins) → Calm n base P numbers rsp p Emul F set rdi h.mem u → TouchesTurn n base p.size P rsp Free base numbers 0 n u i → Q u i = λ u i w. calmly u i (record { stack = w.stack; quiet = λ a k s f. w.quiet a k s ∙ h.near a k s f }) in
               let t = turn_line n base P numbers rsp p Emul F set rdi h.mem Q Free calm count positive aligned (free i pre) b list x.turn (omega (arith, most, all_is)) x.known i (aligns i pre) h.e h.totals c within h.inside h.emulated in
               let same : (a : ℕ) → InFree a → t.2.memory a ≡ c.memory a = λ a w. t.5.calm.quiet a (free_dest a w) (free_changed a w) ∙ sym (h.inside.calm.quiet a (free_dest a w) (free_changed a w)) in (
                 list,
@@ -178,7 +181,7 @@ module _ (n : ℕ) (base : ℕ → ℕ) (P : ℕ → Type 0) (numbers : Numbers)
 -- the loops of a row
 module _ (n : ℕ) (base : ℕ → ℕ) (P : ℕ → Type 0) (numbers : Numbers) (rsp : ℕ) (p : Plan) (Emul : ℕ → Memory → (ℕ → ℕ) → Type 0) (F : ℕ → Type 0) (set : Setting n base P numbers rsp p Emul F) (rdi : ℕ) (first : Memory)
     (Q : Core → Ins → Type 0) (stack_low : rsp + (frame_size + 8) ≤ 2 ^ 47) (framed : (a : ℕ) → rsp ≤ a → a < rsp + frame_size → F a)
-    (Free : Type 0) (calmly : (u : Core) (i : Ins) → Outside n base P numbers rsp p Emul F set rdi first Q stack_low framed u → TouchesPart n base p.size P rsp Free u i → Q u i)
+    (Free : Type 0) (calmly : (u : Core) (i : Ins) → Outside n base P numbers rsp p Emul F set rdi first Q stack_low framed u → TouchesTurn n base p.size P rsp Free base numbers 0 n u i → Q u i)
     (by : ℕ → Bool) (by_stack : by 4 ≡ false) (each some : ℕ) (lanes : ℕ) (positive : 0 < lanes) (most : lanes ≤ 16) (b : ℕ) (few : b ≤ 4) where
   abbrev Place : ℕ → Core → Type 0
   Place = At n base P numbers rsp p Emul F set rdi first Q stack_low framed
