@@ -1,5 +1,5 @@
 -- What a far load's code needs of a state inside a turn of a function's loop, and what it leaves.
-use Rattle.std.specs.Prelude.{◌≡◌, ◌≢◌, ℕ, ◌+◌, ◌%◌, ◌^◌, ◌<◌, ◌≤◌, ◌⊎◌, ◌==◌, ◌||◌, ℤ, pos, negsuc, Bool, true, false, not, List, [], ◌∷◌, length, get_or, Some}
+use Rattle.std.specs.Prelude.{◌≡◌, ◌≢◌, ℕ, ◌+◌, ◌%◌, ◌^◌, ◌<◌, ◌≤◌, ◌⊎◌, ◌*◌, ℤ, pos, negsuc, Bool, true, false, List, length, get_or, Some}
 use Rattle.orc_bits.specs.Lanes.{lane}
 use Rattle.orc_bits.specs.Memory.{word, IsMapped}
 use Rattle.x86_ins.specs.declared.ins.Ins.{Ins}
@@ -9,7 +9,7 @@ use Rattle.x86_flow.specs.Does.{Line}
 use Rattle.x86_flow.specs.Touching.{touch_weight}
 use Rattle.orc_ops.specs.Far.{far_size, far_scalars}
 use Rattle.orc_resample.specs.declared.turn.FarSource.{FarSource}
-use Rattle.orc_resample.specs.Ready.{Source, AmongCells, InWord, value_at}
+use Rattle.orc_resample.specs.Ready.{Source, AmongCells, InWord, is_pointer, value_at}
 
 -- ---- the words of the frame
 
@@ -49,11 +49,11 @@ pub record IsFarSource (source : FarSource) : Type 0 where
 abbrev pub InWords : (ℤ → Type 0) → ℕ → ℕ → Type 0
 InWords Is stack x = (z : ℤ) × Is z × InWord (moved stack z) x
 
--- the frame's words hold the source, RDI points to the number of a row's elements, which is the first element's number and those that are left, and no word that is written holds a byte that is read
+-- the frame's words hold the source and RDI, the first element stands `ahead` bytes behind the address in `pointer`, and no word that is written holds a byte of an element that is read
 pub record AtHand (count : ℕ) (source : FarSource) (s : Source) (c : Core) : Type 0 where
   pub bounded : Bounded c
   pub frame : c.gpr 4 + 2048 ≤ 2 ^ 47
-  pub number : word c.memory (c.gpr 7) ≡ Some ((s.first + (c.gpr 1 + source.lowered)) % 2 ^ 64)
+  pub pointer : moved (c.gpr source.pointer) source.ahead ≡ (s.base + s.first * far_size source.far) % 2 ^ 64
   pub last : s.first + count ≤ 2 ^ 31
   pub block : word c.memory (moved (c.gpr 4) source.block) ≡ Some (c.gpr 7)
   pub array : word c.memory (moved (c.gpr 4) source.array) ≡ Some s.base
@@ -61,7 +61,7 @@ pub record AtHand (count : ℕ) (source : FarSource) (s : Source) (c : Core) : T
   pub second_scalar : 1 < far_scalars source.far → word c.memory (moved (c.gpr 4) (pattern_at source 1)) ≡ Some s.q
   pub mapped : (x : ℕ) → AmongCells source.far count s x → IsMapped c.memory x
   pub spare : (x : ℕ) → InWords (IsSpare source) (c.gpr 4) x → IsMapped c.memory x
-  pub apart : (x : ℕ) → InWords (IsSpare source) (c.gpr 4) x → AmongCells source.far count s x ⊎ InWord (c.gpr 7) x → ⊥
+  pub apart : (x : ℕ) → InWords (IsSpare source) (c.gpr 4) x → AmongCells source.far count s x → ⊥
 
 -- what stays as it was: RSP, the registers from XMM6 on, and the memory but for the words that are written
 pub record Stays (source : FarSource) (c u : Core) : Type 0 where
@@ -79,22 +79,13 @@ pub record Brought (count : ℕ) (source : FarSource) (s : Source) (c d : Core) 
 
 -- ---- what is touched
 
--- a register that holds the address of elements: any but RSP and RDI
-abbrev pub is_array : ℕ → Bool
-is_array r = not (r == 4 || r == 7)
-
--- how many instructions of a list read or write memory by such a register
-abbrev pub array_count : List Ins → ℕ
-array_count [] = 0
-array_count (i ∷ is) = touch_weight is_array i + array_count is
-
--- an address is a byte of the source's words, or of the one that RDI points to
+-- an address is a byte of the source's words
 abbrev pub InOwn : FarSource → Core → ℕ → Type 0
-InOwn source c x = InWords (IsSpare source) (c.gpr 4) x ⊎ (InWords (IsKept source) (c.gpr 4) x ⊎ InWord (c.gpr 7) x)
+InOwn source c x = InWords (IsSpare source) (c.gpr 4) x ⊎ InWords (IsKept source) (c.gpr 4) x
 
--- by RSP and RDI an instruction touches those words alone, and by another register the elements that are read
+-- by RSP an instruction touches those words alone, and by another register the elements that are read
 abbrev pub Reaches : ℕ → FarSource → Source → Core → Core → Ins → Type 0
-Reaches count source s c u i = (x : ℕ) → Touches i u x → ((touch_weight is_array i ≡ 0) × InOwn source c x) ⊎ ((touch_weight is_array i ≡ 1) × AmongCells source.far count s x)
+Reaches count source s c u i = (x : ℕ) → Touches i u x → ((touch_weight is_pointer i ≡ 0) × InOwn source c x) ⊎ ((touch_weight is_pointer i ≡ 1) × AmongCells source.far count s x)
 
 -- an instruction that stores a vector register
 abbrev pub is_vector_store : Ins → Bool

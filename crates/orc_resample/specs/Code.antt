@@ -44,6 +44,10 @@ bits_of size = if size == 1 then 0 else if size == 2 then 1 else 2
 abbrev pub scale_code : ℕ → ℕ → List Ins
 scale_code bits a = if bits == 0 then [] else Shift Shl a bits ∷ []
 
+-- a * 2 ^ bits becomes a
+abbrev pub narrow_code : ℕ → ℕ → List Ins
+narrow_code bits a = if bits == 0 then [] else Shift Shr a bits ∷ []
+
 -- the number of an element of 2 ^ bits bytes in a becomes its address
 abbrev pub element_code : FarPlan → ℕ → ℕ → ℕ → List Ins
 element_code plan bits a b = scale_code bits a ++ (Load b (slot plan.array) ∷ Alu Add a b ∷ [])
@@ -168,13 +172,16 @@ plan_of source = record {
   odd = None;
 }
 
--- RCX waits in the frame, and the first element's number is n less RCX and what it is lowered by
+-- RCX waits in the frame, and the first element's number is its address less that of element 0, by the size
 abbrev pub enter_code : FarSource → List Ins
-enter_code source = Store 1 (slot source.work) ∷ Load 0 (away 7 0) ∷ Alu Sub 0 1 ∷ AluImm Sub 0 (pos source.lowered) ∷ Store 0 (slot source.index) ∷ []
+enter_code source = Store 1 (slot source.work) ∷ Lea 0 (record { base = source.pointer; disp = source.ahead }) ∷ Load 1 (slot source.array) ∷ Alu Sub 0 1 ∷ (narrow_code (bits_of (far_size source.far)) 0 ++ Store 0 (slot source.index) ∷ [])
 
--- RDI and RCX are as before
+-- RDI, which elements side by side don't use, and RCX are as before
+abbrev pub block_code : FarSource → List Ins
+block_code source = if is_one_by_one source.far then Load 7 (slot source.block) ∷ [] else []
+
 abbrev pub leave_code : FarSource → List Ins
-leave_code source = Load 7 (slot source.block) ∷ Load 1 (slot source.work) ∷ []
+leave_code source = block_code source ++ Load 1 (slot source.work) ∷ []
 
 abbrev pub bring_code : FarSource → ℕ → List Ins
 bring_code source count = enter_code source ++ (gather_with source.far (plan_of source) count 0 1 7 ++ leave_code source)

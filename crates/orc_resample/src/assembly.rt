@@ -177,7 +177,7 @@ fn push_elements(
 }
 
 /// Whether a far load goes element by element.
-fn is_single(far: Far) -> bool
+pub fn is_single(far: Far) -> bool
     ensures { result ≡ is_one_by_one far }
 {
     !matches!(far, Far::Loadoffb | Far::Loadoffw | Far::Loadoffl)

@@ -9,7 +9,7 @@ ghost use Rattle.x86_ins.specs.declared.ins.AluOp.TheVariants.{And};
 ghost use Rattle.x86_ins.specs.Spelling.{IsIns};
 ghost use Rattle.x86_ins.specs.Way.{Each};
 ghost use Rattle.x86_flow.specs.Moves.{away, IsWidth};
-ghost use Rattle.orc_resample.specs.Code.{slot, scalar_at, bits_of, scale_code, element_code, sum_code, start_code, floor_code, row_code, push_gpr_code, half_code, average_code, place_code, near_byte_code, near_long_code, address_code, mixed_byte_code, spread_code, mixed_long_code};
+ghost use Rattle.orc_resample.specs.Code.{slot, scalar_at, bits_of, scale_code, narrow_code, element_code, sum_code, start_code, floor_code, row_code, push_gpr_code, half_code, average_code, place_code, near_byte_code, near_long_code, address_code, mixed_byte_code, spread_code, mixed_long_code};
 
 use crate::plan::FarPlan;
 use std::alloc::AllocError;
@@ -123,6 +123,18 @@ fn push_scale(list: &mut InsList, bits: u8, a: Gpr) -> Result<(), AllocError>
         Ok(())
     } else {
         list.push(shift(ShiftOp::Shl, a, bits))
+    }
+}
+
+/// Adds what divides a register by 2^bits.
+#[tactic(auto, using(crate::proofs::Appends::unscaled))]
+pub fn push_narrow(list: &mut InsList, bits: u8, a: Gpr) -> Result<(), AllocError>
+    ensures { OnOk result (list.new ≡ list.old ++ narrow_code bits a) }
+{
+    if bits == 0 {
+        Ok(())
+    } else {
+        list.push(shift(ShiftOp::Shr, a, bits))
     }
 }
 

@@ -1,27 +1,26 @@
 //! The code that gathers values inside a turn of a function's loop, where all general registers are in use.
 
-ghost use Rattle.std.specs.Prelude.{◌≡◌, ◌+◌, ◌*◌, ◌≤◌, ◌++◌, OnOk, IfOk, length, pos};
-ghost use Rattle.x86_ins.specs.declared.ins.AluOp.TheVariants.{Sub};
+ghost use Rattle.std.specs.Prelude.{◌≡◌, ◌+◌, ◌*◌, ◌≤◌, ◌++◌, OnOk, IfOk, length};
 ghost use Rattle.x86_ins.specs.declared.ins.Ins.TheVariants as ins;
 ghost use Rattle.x86_ins.specs.Spelling.{IsIns, IsAllowed};
 ghost use Rattle.x86_ins.specs.Way.{Each};
-ghost use Rattle.x86_flow.specs.Moves.{away, IsWidth};
+ghost use Rattle.x86_flow.specs.Moves.{IsWidth};
 ghost use Rattle.orc_ops.specs.Far.{far_size, far_scalars, far_weight};
-ghost use Rattle.orc_resample.specs.Code.{slot, plan_of, enter_code, leave_code, bring_code};
-ghost use Rattle.orc_resample.specs.Bring.{IsFarSource, Brings, array_count};
+ghost use Rattle.orc_resample.specs.Code.{slot, plan_of, enter_code, block_code, leave_code, bring_code};
+ghost use Rattle.orc_resample.specs.Ready.{far_count};
+ghost use Rattle.orc_resample.specs.Bring.{IsFarSource, Brings};
 
-use crate::assembly::push_values;
-use crate::pieces::{alu, load, look_through, push_each, slot};
+use crate::assembly::{is_single, push_values};
+use crate::pieces::{alu, bits_of, load, look_through, push_each, push_narrow, slot};
 use crate::plan::FarPlan;
 use arrayvec::ArrayVec;
-use orc_ops::Far;
+use orc_ops::{Far, far_size};
 use std::alloc::{AllocError, Global};
-use x86_flow::away;
-use x86_ins::{AluOp, Gpr, Ins, InsList};
+use x86_ins::{Addr, AluOp, Gpr, Ins, InsList};
 
 /// RAX, which nothing is kept in.
 const RESULT: Gpr = Gpr { number: 0 };
-/// RCX, which counts the elements that are left.
+/// RCX, the loop's counter.
 const COUNTER: Gpr = Gpr { number: 1 };
 /// RDI, which holds the block's address.
 const BLOCK: Gpr = Gpr { number: 7 };
@@ -40,10 +39,12 @@ pub struct FarSource {
     pub index: i32,
     /// Of another word that may be overwritten: RCX waits there.
     pub work: i32,
-    /// Of the word with the address of the argument block, whose first word is the number of a row's elements.
+    /// Of the word with the argument block's address: RDI holds it, and is brought back from there.
     pub block: i32,
-    /// By how much RCX is lower than the number of elements that are left.
-    pub lowered: u8,
+    /// The register that holds the address of an element of the array in this row, modulo 2^64.
+    pub pointer: Gpr,
+    /// How many bytes behind it the first element is.
+    pub ahead: i32,
 }
 
 /// `mov [rsp + disp], src`.
@@ -56,24 +57,13 @@ fn store(src: Gpr, disp: i32) -> Ins
     }
 }
 
-/// `mov dst, [base]`.
-fn load_at(dst: Gpr, base: Gpr) -> Ins
-    ensures { result ≡ ins.Load dst (away base 0) }
+/// `lea dst, [base + disp]`.
+fn lea(dst: Gpr, base: Gpr, disp: i32) -> Ins
+    ensures { result ≡ ins.Lea dst (record { base = base; disp = disp }) }
 {
-    Ins::Load {
+    Ins::Lea {
         dst,
-        at: away(base, 0),
-    }
-}
-
-/// `sub dst, by`.
-fn less(dst: Gpr, by: u8) -> Ins
-    ensures { result ≡ ins.AluImm Sub dst (pos by) }
-{
-    Ins::AluImm {
-        op: AluOp::Sub,
-        dst,
-        value: i32::from(by),
+        at: Addr { base, disp },
     }
 }
 
@@ -103,6 +93,7 @@ fn plan_of(source: &FarSource) -> FarPlan
 }
 
 /// Adds what puts the first element's number in its word.
+#[tactic(auto, using(crate::proofs::Appends::extended_3))]
 fn push_enter(list: &mut InsList, source: &FarSource) -> Result<(), AllocError>
     ensures { OnOk result (list.new ≡ list.old ++ enter_code source.now) }
 {
@@ -110,22 +101,34 @@ fn push_enter(list: &mut InsList, source: &FarSource) -> Result<(), AllocError>
         list,
         &[
             store(COUNTER, source.work),
-            load_at(RESULT, BLOCK),
+            lea(RESULT, source.pointer, source.ahead),
+            load(COUNTER, source.array),
             alu(AluOp::Sub, RESULT, COUNTER),
-            less(RESULT, source.lowered),
-            store(RESULT, source.index),
         ],
-    )
+    )?;
+    push_narrow(list, bits_of(usize::from(far_size(source.far))), RESULT)?;
+    push_each(list, &[store(RESULT, source.index)])
+}
+
+/// Adds what loads RDI again, where the values' part used it.
+#[tactic(auto, using(crate::proofs::Appends::unscaled))]
+fn push_block(list: &mut InsList, source: &FarSource) -> Result<(), AllocError>
+    ensures { OnOk result (list.new ≡ list.old ++ block_code source.now) }
+{
+    if is_single(source.far) {
+        list.push(load(BLOCK, source.block))
+    } else {
+        Ok(())
+    }
 }
 
 /// Adds what loads RDI and RCX again.
+#[tactic(auto, using(crate::proofs::Appends::extended))]
 fn push_leave(list: &mut InsList, source: &FarSource) -> Result<(), AllocError>
     ensures { OnOk result (list.new ≡ list.old ++ leave_code source.now) }
 {
-    push_each(
-        list,
-        &[load(BLOCK, source.block), load(COUNTER, source.work)],
-    )
+    push_block(list, source)?;
+    push_each(list, &[load(COUNTER, source.work)])
 }
 
 /// Adds the whole code.
@@ -173,7 +176,7 @@ fn bring_list(alloc: Global, source: &FarSource, count: u8) -> Result<InsList, A
 }
 
 /// The code that leaves the next `count` values of a far load side by side in XMM0, the first one lowest, inside a turn of a function's
-/// loop: RDI holds the address of the argument block, and RCX plus `lowered` counts the elements that are left. `count` is 1, 2, 4, 8 or
+/// loop: the first element stands `ahead` bytes behind the address in `pointer`, and its number is below 2^31. `count` is 1, 2, 4, 8 or
 /// 16, and so many results have 1, 2, 4, 8 or 16 bytes. The code has no jumps, writes no memory but two words of the frame, and no
 /// registers but RAX, XMM0 to XMM5 and the flags; RCX and RDI are as before at its end.
 pub fn bring(alloc: Global, source: &FarSource, count: u8) -> Result<InsList, AllocError>
@@ -182,8 +185,8 @@ pub fn bring(alloc: Global, source: &FarSource, count: u8) -> Result<InsList, Al
     ensures values { IfOk result (λ list. Brings count source.now list) }
     ensures short { IfOk result (λ list. length list ≤ far_weight source.now.far count + 1) }
 
-    // By a register that is neither RSP nor RDI.
-    ensures touches { IfOk result (λ list. array_count list ≤ 2 * count) }
+    // By another register than RSP.
+    ensures touches { IfOk result (λ list. far_count list ≤ 2 * count) }
     ensures allowed { IfOk result (λ list. Each IsAllowed list) }
 {
     bring_list(alloc, source, count)
