@@ -6,7 +6,7 @@ ghost use Rattle.x86_ins.specs.Spelling.{IsIns, IsAllowed};
 ghost use Rattle.x86_ins.specs.Way.{Each};
 ghost use Rattle.x86_flow.specs.Moves.{IsWidth};
 ghost use Rattle.orc_ops.specs.Far.{far_size, far_scalars, far_weight};
-ghost use Rattle.orc_resample.specs.Code.{slot, plan_of, enter_code, block_code, leave_code, bring_code};
+ghost use Rattle.orc_resample.specs.Code.{slot, plan_of, distance_code, number_code, enter_code, block_code, leave_code, bring_code};
 ghost use Rattle.orc_resample.specs.Ready.{far_count};
 ghost use Rattle.orc_resample.specs.Bring.{IsFarSource, Brings};
 
@@ -92,10 +92,9 @@ fn plan_of(source: &FarSource) -> FarPlan
     }
 }
 
-/// Adds what puts the first element's number in its word.
-#[tactic(auto, using(crate::proofs::Appends::extended_3))]
-fn push_enter(list: &mut InsList, source: &FarSource) -> Result<(), AllocError>
-    ensures { OnOk result (list.new ≡ list.old ++ enter_code source.now) }
+/// Adds what makes the distance from the array's element 0 to the first element, in bytes.
+fn push_distance(list: &mut InsList, source: &FarSource) -> Result<(), AllocError>
+    ensures { OnOk result (list.new ≡ list.old ++ distance_code source.now) }
 {
     push_each(
         list,
@@ -105,9 +104,25 @@ fn push_enter(list: &mut InsList, source: &FarSource) -> Result<(), AllocError>
             load(COUNTER, source.array),
             alu(AluOp::Sub, RESULT, COUNTER),
         ],
-    )?;
+    )
+}
+
+/// Adds what puts the first element's number in its word.
+#[tactic(auto, using(crate::proofs::Appends::extended))]
+fn push_number(list: &mut InsList, source: &FarSource) -> Result<(), AllocError>
+    ensures { OnOk result (list.new ≡ list.old ++ number_code source.now) }
+{
     push_narrow(list, bits_of(usize::from(far_size(source.far))), RESULT)?;
     push_each(list, &[store(RESULT, source.index)])
+}
+
+/// Adds both.
+#[tactic(auto, using(crate::proofs::Appends::extended))]
+fn push_enter(list: &mut InsList, source: &FarSource) -> Result<(), AllocError>
+    ensures { OnOk result (list.new ≡ list.old ++ enter_code source.now) }
+{
+    push_distance(list, source)?;
+    push_number(list, source)
 }
 
 /// Adds what loads RDI again, where the values' part used it.
