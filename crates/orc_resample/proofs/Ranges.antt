@@ -3,17 +3,20 @@ use Rattle.std.proofs.Common.{ℕ, zero, suc, ◌+◌, ◌-◌, ◌*◌, ◌^◌
 use Rattle.std.specs.Int.{w32}
 use Rattle.std.specs.Int.RustNames.{FitsSigned}
 use Rattle.x86_ins.specs.declared.ins.AluOp.TheVariants.{Add}
+use Rattle.x86_ins.specs.declared.ins.MoveOp.TheVariants.{Movd}
+use Rattle.x86_ins.specs.declared.ins.ShiftOp.TheVariants.{Shr}
 use Rattle.x86_ins.specs.declared.ins.Ins.{Ins}
-use Rattle.x86_ins.specs.declared.ins.Ins.TheVariants.{Load, Store, Alu, Imul}
+use Rattle.x86_ins.specs.declared.ins.Ins.TheVariants.{VecLoad, Move, Load, Store, Load8, Alu, Shift, Imul}
 use Rattle.x86_ins.specs.Spelling.{IsIns}
 use Rattle.x86_ins.specs.Way.{Each}
+use Rattle.x86_flow.specs.Moves.{away}
 use Rattle.orc_ops.specs.declared.far.Far.{Far}
 use Rattle.orc_ops.specs.declared.far.Far.TheVariants.{Loadoffb, Loadoffw, Loadoffl, Loadupdb, Loadupib, Ldresnearb, Ldresnearl, Ldreslinb, Ldreslinl}
 use Rattle.orc_ops.specs.Far.{far_size, far_scalars}
 use Rattle.orc_resample.specs.declared.plan.FarPlan.{FarPlan}
 use Rattle.orc_resample.specs.declared.turn.FarSource.{FarSource}
 use Rattle.orc_resample.specs.Code.{slot, scalar_at, scalar_code, bits_of, scale_code, narrow_code, element_code, place_code, half_code, mix_code, address_code, push_code, push_gpr_code, spread_code, join_code, average_code, near_byte_code, near_long_code, mixed_byte_code, mixed_long_code, element_of, elements_code, row_code, sum_code, start_code, offset_code, is_one_by_one, gather_with, plan_of, enter_code, block_code, leave_code, bring_code}
-use Rattle.orc_resample.specs.Bring.{IsKept, IsSpare, LiesIn, IsFarSource}
+use Rattle.orc_resample.specs.Bring.{LiesIn, IsFarSource}
 
 -- ---- lists in parts
 
@@ -81,7 +84,7 @@ mix_ins : Each IsIns (mix_code 0 1 7)
 mix_ins = ((is_7, omega arith), ((is_7, fits 255 (omega arith)), ((is_1, is_0), ((is_1, is_7), ((is_0, omega arith), ((is_0, is_1), tt))))))
 
 mixed_byte_ins : Each IsIns (mixed_byte_code 0 1 7)
-mixed_byte_ins = ((is_1, (is_0, fits 1 (omega arith))), ((is_0, (is_0, fits_0)), both_parts IsIns (mix_code 0 1 7) _ mix_ins ((is_0, omega arith), push_gpr_ins)))
+mixed_byte_ins = ((is_1, (is_0, fits 1 (omega arith))), ((is_0, (is_0, fits_0)), both_parts IsIns (mix_code 0 1 7) (Shift Shr 0 8 ∷ push_gpr_code 1 0) mix_ins ((is_0, omega arith), push_gpr_ins)))
 
 spread_ins : Each IsIns (spread_code 0 1)
 spread_ins = ((is_1, (is_0, fits_0)), ((is_2, (is_0, fits 4 (omega arith))), ((is_3, is_3), ((is_1, is_3), ((is_2, is_3), ((is_0, is_1), ((is_1, is_2), tt)))))))
@@ -103,17 +106,23 @@ module _ (plan : FarPlan) (index : FitsSigned w32 plan.index) (array : FitsSigne
   half_ins k l = ((is_0, (is_4, index)), ((is_0, (is_0, fits k l)), ((is_0, omega arith), ((is_1, (is_4, array)), ((is_0, is_1), ((is_0, (is_0, fits_0)), tt))))))
 
   place_ins : FitsSigned w32 (scalar_at plan 0) → FitsSigned w32 (scalar_at plan 1) → (k : ℕ) → k < 2 ^ 31 → Each IsIns (place_code plan k 0 1)
-  place_ins p q k l = ((is_0, (is_4, index)), ((is_0, (is_0, fits k l)), both_parts IsIns (scalar_code 1 (scalar_at plan 1)) (Imul 0 1 ∷ (scalar_code 1 (scalar_at plan 0) ++ Alu Add 0 1 ∷ [])) (scalar_ins (scalar_at plan 1) q)
-    ((is_0, is_1), both_parts IsIns (scalar_code 1 (scalar_at plan 0)) (Alu Add 0 1 ∷ []) (scalar_ins (scalar_at plan 0) p) ((is_0, is_1), tt))))
+  place_ins p q k l = (
+    (is_0, (is_4, index)),
+    (
+      (is_0, (is_0, fits k l)),
+      both_parts IsIns (scalar_code 1 (scalar_at plan 1)) (Imul 0 1 ∷ (scalar_code 1 (scalar_at plan 0) ++ Alu Add 0 1 ∷ [])) (scalar_ins (scalar_at plan 1) q)
+          ((is_0, is_1), both_parts IsIns (scalar_code 1 (scalar_at plan 0)) (Alu Add 0 1 ∷ []) (scalar_ins (scalar_at plan 0) p) ((is_0, is_1), tt)),
+    ),
+  )
 
   address_ins : (bits : ℕ) → bits < 2 ^ 8 → Each IsIns (address_code plan bits 0 1 7)
   address_ins bits l = ((is_7, is_0), ((is_0, omega arith), element_ins bits l))
 
   near_byte_ins : Each IsIns (near_byte_code plan 0 1)
-  near_byte_ins = ((is_0, omega arith), both_parts IsIns (element_code plan 0 0 1) _ (element_ins 0 (omega arith)) ((is_0, (is_0, fits_0)), push_gpr_ins))
+  near_byte_ins = ((is_0, omega arith), both_parts IsIns (element_code plan 0 0 1) (Load8 0 (away 0 0) ∷ push_gpr_code 1 0) (element_ins 0 (omega arith)) ((is_0, (is_0, fits_0)), push_gpr_ins))
 
   near_long_ins : Each IsIns (near_long_code plan 0 1)
-  near_long_ins = ((is_0, omega arith), both_parts IsIns (element_code plan 2 0 1) _ (element_ins 2 (omega arith)) ((is_1, (is_0, fits_0)), push_ins 4 (omega arith)))
+  near_long_ins = ((is_0, omega arith), both_parts IsIns (element_code plan 2 0 1) (VecLoad Movd 1 (away 0 0) ∷ push_code 4) (element_ins 2 (omega arith)) ((is_1, (is_0, fits_0)), push_ins 4 (omega arith)))
 
   -- ---- element after element
 
@@ -122,7 +131,7 @@ module _ (plan : FarPlan) (index : FitsSigned w32 plan.index) (array : FitsSigne
 
   middle_ins : (k : ℕ) → k < 16 → Each IsIns (element_of Loadupib plan k 0 1 7)
   middle_ins k l =
-      both_parts IsIns (half_code plan (k + 1) 0 1) _ (half_ins (k + 1) (omega (arith, l))) ((is_7, is_0), both_parts IsIns (half_code plan k 0 1) (average_code 0 7) (half_ins k (omega (arith, l))) average_ins)
+      both_parts IsIns (half_code plan (k + 1) 0 1) ((Move 7 0 ∷ half_code plan k 0 1) ++ average_code 0 7) (half_ins (k + 1) (omega (arith, l))) ((is_7, is_0), both_parts IsIns (half_code plan k 0 1) (average_code 0 7) (half_ins k (omega (arith, l))) average_ins)
 
   elements_ins : (far : Far) (count : ℕ) → count ≤ 16 → ((k : ℕ) → k < 16 → Each IsIns (element_of far plan k 0 1 7)) → (n : ℕ) → Each IsIns (elements_code far plan count 0 1 7 n)
   elements_ins far count few each zero = tt
@@ -179,9 +188,9 @@ bring_ins source count is pointer ahead few =
     let block : FitsSigned w32 source.block = lies_fits source.block (is.kept source.block (inl refl)) in
     let array : FitsSigned w32 source.array = lies_fits source.array (is.kept source.array (inr (inl refl))) in
     let number : Each IsIns (narrow_code bits 0 ++ Store 0 (slot source.index) ∷ []) =
-        both_parts IsIns (narrow_code bits 0) (Store 0 (slot source.index) ∷ []) (either_part IsIns (bits == 0) _ _ tt ((is_0, bits_small (far_size source.far)), tt)) ((is_0, (is_4, index)), tt) in
+    both_parts IsIns (narrow_code bits 0) (Store 0 (slot source.index) ∷ []) (either_part IsIns (bits == 0) _ _ tt ((is_0, bits_small (far_size source.far)), tt)) ((is_0, (is_4, index)), tt) in
     let enter : Each IsIns (enter_code source) = ((is_1, (is_4, work)), ((is_0, (pointer, ahead)), ((is_1, (is_4, array)), ((is_0, is_1), number)))) in
     let back : Each IsIns (block_code source) = either_part IsIns (is_one_by_one source.far) _ _ ((is_7, (is_4, block)), tt) tt in
     let leave : Each IsIns (leave_code source) = both_parts IsIns (block_code source) (Load 1 (slot source.work) ∷ []) back ((is_1, (is_4, work)), tt) in
-    let middle : Each IsIns list = gather_ins (plan_of source) index array source.far (λ j l. lies_fits (scalar_at (plan_of source) j) (is.kept (scalar_at (plan_of source) j) (inr (inr (j, (l, refl)))))) count few in
+    let middle : Each IsIns list = gather_ins (plan_of source) index array source.far (λ j l. lies_fits (scalar_at (plan_of source) j) (is.kept (scalar_at (plan_of source) j) (inr (inr (j, l, refl))))) count few in
     both_parts IsIns (enter_code source) (list ++ leave_code source) enter (both_parts IsIns list (leave_code source) middle leave)

@@ -12,7 +12,7 @@ use Rattle.orc_ops.specs.declared.far.Far.TheVariants.{Loadoffb, Loadoffw, Loado
 use Rattle.orc_ops.specs.Far.{far_size, far_weight}
 use Rattle.orc_resample.specs.declared.plan.FarPlan.{FarPlan}
 use Rattle.orc_resample.specs.declared.turn.FarSource.{FarSource}
-use Rattle.orc_resample.specs.Code.{slot, element_of, elements_code, row_code, bits_of, narrow_code, is_one_by_one, gather_with, plan_of, enter_code, block_code, leave_code, bring_code}
+use Rattle.orc_resample.specs.Code.{slot, element_of, elements_code, row_code, bits_of, narrow_code, is_one_by_one, gather_with, plan_of, enter_code, leave_code, bring_code}
 use Rattle.orc_resample.specs.Ready.{far_count}
 use Rattle.orc_resample.specs.Bring.{is_vector_store}
 use Rattle.orc_resample.proofs.Counted.{both, all_spelled, spelled_append, allowed, far_append, gather_length, gather_far, gather_spelled}
