@@ -176,7 +176,7 @@ plan_of source = record {
 abbrev pub distance_code : FarSource → List Ins
 distance_code source = Store 1 (slot source.work) ∷ Lea 0 (record { base = source.pointer; disp = source.ahead }) ∷ Load 1 (slot source.array) ∷ Alu Sub 0 1 ∷ []
 
--- which is the first element's number times the size
+-- RAX, which is the first element's number times the size, becomes that number, which is put in its word
 abbrev pub number_code : FarSource → List Ins
 number_code source = narrow_code (bits_of (far_size source.far)) 0 ++ Store 0 (slot source.index) ∷ []
 
