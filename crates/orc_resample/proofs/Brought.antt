@@ -28,7 +28,7 @@ use Rattle.orc_resample.specs.Code.{slot, scratch, bits_of, narrow_code, is_one_
 use Rattle.orc_resample.specs.Ready.{IsPlan, Source, Ready, IsScratch, Keeps, Gathered, OnTheWay, cell, element, some_or_zero, IsRead, value_at, InWord, InPlan}
 use Rattle.orc_resample.specs.Bring.{pattern_at, IsKept, IsSpare, LiesIn, AreApart, IsFarSource, InWords, AtHand, Stays, Brought, InOwn, OnTurn, Brings}
 use Rattle.orc_resample.proofs.Gathered.{line_bounded, gathers}
-use Rattle.orc_resample.proofs.Touched.{StoresNone, gather_stores_none, stores_none}
+use Rattle.orc_resample.proofs.Touched.{Agrees, gather_agrees, agree_each}
 
 -- ---- memories that agree on some bytes
 
@@ -40,14 +40,14 @@ read_alike (suc n) m e a h =
     ap (λ o. bind o (λ b. bind (read n m (a + 1)) (λ bs. Some (b ∷ bs)))) here
     ∙ ap (λ o. bind (e (a % 2 ^ 64)) (λ b. bind o (λ bs. Some (b ∷ bs)))) rest
 
-value_alike : (n : ℕ) (m e : Memory) (a : ℕ) → ((j : ℕ) → j < n → m ((a + j) % 2 ^ 64) ≡ e ((a + j) % 2 ^ 64)) → value n m a ≡ value n e a
+pub value_alike : (n : ℕ) (m e : Memory) (a : ℕ) → ((j : ℕ) → j < n → m ((a + j) % 2 ^ 64) ≡ e ((a + j) % 2 ^ 64)) → value n m a ≡ value n e a
 value_alike n m e a h = ap (λ o. bind o (λ bs. Some (number bs))) (read_alike n m e a h)
 
-word_alike : (m e : Memory) (a : ℕ) → ((x : ℕ) → InWord a x → m x ≡ e x) → word m a ≡ word e a
+pub word_alike : (m e : Memory) (a : ℕ) → ((x : ℕ) → InWord a x → m x ≡ e x) → word m a ≡ word e a
 word_alike m e a h = value_alike 8 m e a (λ j l. h ((a + j) % 2 ^ 64) (j, l, refl))
 
 -- elements that are the same have the same value
-value_same : (far : Far) (s : Source) (m e : Memory) (i : ℕ) → ((k : ℤ) → IsRead far s i k → element far m s.base k ≡ element far e s.base k) → value_at far s m i ≡ value_at far s e i
+pub value_same : (far : Far) (s : Source) (m e : Memory) (i : ℕ) → ((k : ℤ) → IsRead far s i k → element far m s.base k ≡ element far e s.base k) → value_at far s m i ≡ value_at far s e i
 value_same far s m e i h =
     let first = far_first far i s.p s.q in
     let second = other first (far_second far i s.p s.q) in
@@ -404,8 +404,8 @@ module _ (count : ℕ) (source : FarSource) (is : IsFarSource source) (s : Sourc
   in_own x (inr (inl w)) = inr (source.array, inr (inl refl), w)
   in_own x (inr (inr (j, l, w))) = inr (pattern_at source j, inr (inr (j, l, refl)), w)
 
-  on_turn : (u : Core) (i : Ins) → StoresNone i → OnTheWay source.far count (plan_of source) s c6 u i → Q u i
-  on_turn u i none h = (stays_on u h.0, λ x t. ⊎_elim (λ n. inl (n.0, in_own x (subst (λ g. InPlan source.far (plan_of source) g x) stays_6.stack n.1))) (λ f. inr f) (h.1 x t), none)
+  on_turn : (u : Core) (i : Ins) → Agrees i → OnTheWay source.far count (plan_of source) s c6 u i → Q u i
+  on_turn u i agrees h = (stays_on u h.0, λ x t. ⊎_elim (λ n. inl (agrees.0 ∙ n.0, in_own x (subst (λ g. InPlan source.far (plan_of source) g x) stays_6.stack n.1))) (λ f. inr (agrees.0 ∙ f.0, f.1)) (h.1 x t), agrees.1)
 
   -- ---- behind it
 
@@ -483,7 +483,7 @@ module _ (count : ℕ) (source : FarSource) (is : IsFarSource source) (s : Sourc
       let d = r.0 in
       let side : is_one_by_one source.far ≡ false → d.gpr 7 ≡ c.gpr 7 = λ f. seven d f width start middles r.1 in
       let e = d2 d r.2 side in
-      let middle : Line Q list c6 d = line_each StoresNone (OnTheWay source.far count (plan_of source) s c6) Q on_turn list c6 d (stores_none list (gather_stores_none source.far (plan_of source) count width)) r.1 in
+      let middle : Line Q list c6 d = line_each Agrees (OnTheWay source.far count (plan_of source) s c6) Q on_turn list c6 d (agree_each list (gather_agrees source.far (plan_of source) count width)) r.1 in
       let line : Line Q (bring_code source count) c e = line_append Q (enter_code source) (list ++ leave_code source) c c6 e entered (line_append Q list (leave_code source) c6 d e middle (left d r.2 side)) in (
         e,
         line,

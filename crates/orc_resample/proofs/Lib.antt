@@ -13,3 +13,4 @@ pub mod Gathered
 pub mod Touched
 pub mod Brought
 pub mod Ranges
+pub mod Values

@@ -1,4 +1,4 @@
--- How many instructions of the code inside a turn touch memory by another register than RSP, that none stores a vector register, how long it is, and that its instructions are allowed.
+-- By which registers the code inside a turn touches memory, that none of its instructions stores a vector register, how long it is, and that its instructions are allowed.
 use Rattle.std.proofs.Common.{◌≡◌, ℕ, zero, suc, ◌+◌, ◌-◌, ◌*◌, ◌≤◌, ◌==◌, ◌&&◌, Bool, true, false, not, true≢false, if◌then◌else◌, length, List, [], ◌∷◌, ◌++◌, refl, sym, ap, ◌∙◌, arith, length-append}
 use Rattle.x86_ins.specs.declared.ins.ShiftOp.TheVariants.{Shr}
 use Rattle.x86_ins.specs.declared.ins.Ins.{Ins}
@@ -6,6 +6,7 @@ use Rattle.x86_ins.specs.declared.ins.Ins.TheVariants.{Load, Store, Shift}
 use Rattle.x86_ins.specs.Spelling.{IsIns, IsAllowed}
 use Rattle.x86_ins.specs.Way.{Each}
 use Rattle.x86_flow.specs.Moves.{IsWidth}
+use Rattle.x86_flow.specs.Touching.{touch_weight}
 use Rattle.x86_flow.proofs.Moves.{each_width}
 use Rattle.orc_ops.specs.declared.far.Far.{Far}
 use Rattle.orc_ops.specs.declared.far.Far.TheVariants.{Loadoffb, Loadoffw, Loadoffl, Loadupdb, Loadupib, Ldresnearb, Ldresnearl, Ldreslinb, Ldreslinl}
@@ -13,59 +14,77 @@ use Rattle.orc_ops.specs.Far.{far_size, far_weight}
 use Rattle.orc_resample.specs.declared.plan.FarPlan.{FarPlan}
 use Rattle.orc_resample.specs.declared.turn.FarSource.{FarSource}
 use Rattle.orc_resample.specs.Code.{slot, element_of, elements_code, row_code, bits_of, narrow_code, is_one_by_one, gather_with, plan_of, enter_code, leave_code, bring_code}
-use Rattle.orc_resample.specs.Ready.{far_count}
-use Rattle.orc_resample.specs.Bring.{is_vector_store}
-use Rattle.orc_resample.proofs.Counted.{both, all_spelled, spelled_append, allowed, far_append, gather_length, gather_far, gather_spelled}
+use Rattle.orc_resample.specs.Ready.{is_pointer, far_count}
+use Rattle.orc_resample.specs.Bring.{is_array, array_count, is_vector_store}
+use Rattle.orc_resample.proofs.Counted.{both, all_spelled, spelled_append, allowed, gather_length, gather_far, gather_spelled}
 
--- ---- the values' part stores no vector register
+-- ---- the values' part reads by RSP and RAX alone
 
-abbrev pub StoresNone : Ins → Type 0
-StoresNone i = is_vector_store i ≡ false
+-- an instruction that counts with RDI as without, and stores no vector register
+abbrev agrees : Ins → Bool
+agrees i = (touch_weight is_array i == touch_weight is_pointer i) && not (is_vector_store i)
 
-abbrev pub all_free : List Ins → Bool
-all_free [] = true
-all_free (i ∷ is) = not (is_vector_store i) && all_free is
+abbrev pub Agrees : Ins → Type 0
+Agrees i = (touch_weight is_array i ≡ touch_weight is_pointer i) × (is_vector_store i ≡ false)
 
-free_append : (x y : List Ins) → all_free x ≡ true → all_free y ≡ true → all_free (x ++ y) ≡ true
-free_append [] y p q = q
-free_append (i ∷ x) y p q = let h = both (not (is_vector_store i)) (all_free x) p in ap (λ b. b && all_free (x ++ y)) h.0 ∙ free_append x y h.1 q
+abbrev pub all_agree : List Ins → Bool
+all_agree [] = true
+all_agree (i ∷ is) = agrees i && all_agree is
 
-element_free : (far : Far) (plan : FarPlan) (k : ℕ) → all_free (element_of far plan k 0 1 7) ≡ true
-element_free Loadoffb plan k = refl
-element_free Loadoffw plan k = refl
-element_free Loadoffl plan k = refl
-element_free Loadupdb plan k = refl
-element_free Loadupib plan k = refl
-element_free Ldresnearb plan k = refl
-element_free Ldresnearl plan k = refl
-element_free Ldreslinb plan k = refl
-element_free Ldreslinl plan k = refl
+agree_append : (x y : List Ins) → all_agree x ≡ true → all_agree y ≡ true → all_agree (x ++ y) ≡ true
+agree_append [] y p q = q
+agree_append (i ∷ x) y p q = let h = both (agrees i) (all_agree x) p in ap (λ b. b && all_agree (x ++ y)) h.0 ∙ agree_append x y h.1 q
 
-elements_free : (far : Far) (plan : FarPlan) (count n : ℕ) → all_free (elements_code far plan count 0 1 7 n) ≡ true
-elements_free far plan count zero = refl
-elements_free far plan count (suc n) = free_append (elements_code far plan count 0 1 7 n) (element_of far plan (count - 1 - n) 0 1 7) (elements_free far plan count n) (element_free far plan (count - 1 - n))
+element_agrees : (far : Far) (plan : FarPlan) (k : ℕ) → all_agree (element_of far plan k 0 1 7) ≡ true
+element_agrees Loadoffb plan k = refl
+element_agrees Loadoffw plan k = refl
+element_agrees Loadoffl plan k = refl
+element_agrees Loadupdb plan k = refl
+element_agrees Loadupib plan k = refl
+element_agrees Ldresnearb plan k = refl
+element_agrees Ldresnearl plan k = refl
+element_agrees Ldreslinb plan k = refl
+element_agrees Ldreslinl plan k = refl
 
-row_free : (width : ℕ) → IsWidth width → all_free (row_code width 0) ≡ true
-row_free width is = each_width (λ w. all_free (row_code w 0) ≡ true) refl refl refl refl refl width is
+elements_agree : (far : Far) (plan : FarPlan) (count n : ℕ) → all_agree (elements_code far plan count 0 1 7 n) ≡ true
+elements_agree far plan count zero = refl
+elements_agree far plan count (suc n) = agree_append (elements_code far plan count 0 1 7 n) (element_of far plan (count - 1 - n) 0 1 7) (elements_agree far plan count n) (element_agrees far plan (count - 1 - n))
 
-pub gather_stores_none : (far : Far) (plan : FarPlan) (count : ℕ) → IsWidth (count * far_size far) → all_free (gather_with far plan count 0 1 7) ≡ true
-gather_stores_none Loadoffb plan count is = row_free (count * 1) is
-gather_stores_none Loadoffw plan count is = row_free (count * 2) is
-gather_stores_none Loadoffl plan count is = row_free (count * 4) is
-gather_stores_none Loadupdb plan count is = elements_free Loadupdb plan count count
-gather_stores_none Loadupib plan count is = elements_free Loadupib plan count count
-gather_stores_none Ldresnearb plan count is = elements_free Ldresnearb plan count count
-gather_stores_none Ldresnearl plan count is = elements_free Ldresnearl plan count count
-gather_stores_none Ldreslinb plan count is = elements_free Ldreslinb plan count count
-gather_stores_none Ldreslinl plan count is = elements_free Ldreslinl plan count count
+row_agrees : (width : ℕ) → IsWidth width → all_agree (row_code width 0) ≡ true
+row_agrees width is = each_width (λ w. all_agree (row_code w 0) ≡ true) refl refl refl refl refl width is
+
+pub gather_agrees : (far : Far) (plan : FarPlan) (count : ℕ) → IsWidth (count * far_size far) → all_agree (gather_with far plan count 0 1 7) ≡ true
+gather_agrees Loadoffb plan count is = row_agrees (count * 1) is
+gather_agrees Loadoffw plan count is = row_agrees (count * 2) is
+gather_agrees Loadoffl plan count is = row_agrees (count * 4) is
+gather_agrees Loadupdb plan count is = elements_agree Loadupdb plan count count
+gather_agrees Loadupib plan count is = elements_agree Loadupib plan count count
+gather_agrees Ldresnearb plan count is = elements_agree Ldresnearb plan count count
+gather_agrees Ldresnearl plan count is = elements_agree Ldresnearl plan count count
+gather_agrees Ldreslinb plan count is = elements_agree Ldreslinb plan count count
+gather_agrees Ldreslinl plan count is = elements_agree Ldreslinl plan count count
+
+equal_of : (x y : ℕ) → (x == y) ≡ true → x ≡ y
+equal_of x y h = grind (arith)
 
 not_true : (b : Bool) → not b ≡ true → b ≡ false
 not_true true h = absurd (true≢false (sym h))
 not_true false h = refl
 
-pub stores_none : (list : List Ins) → all_free list ≡ true → Each StoresNone list
-stores_none [] h = tt
-stores_none (i ∷ list) h = let s = both (not (is_vector_store i)) (all_free list) h in (not_true (is_vector_store i) s.0, stores_none list s.1)
+agreed : (i : Ins) → agrees i ≡ true → Agrees i
+agreed i h = let s = both (touch_weight is_array i == touch_weight is_pointer i) (not (is_vector_store i)) h in (equal_of (touch_weight is_array i) (touch_weight is_pointer i) s.0, not_true (is_vector_store i) s.1)
+
+pub agree_each : (list : List Ins) → all_agree list ≡ true → Each Agrees list
+agree_each [] h = tt
+agree_each (i ∷ list) h = let s = both (agrees i) (all_agree list) h in (agreed i s.0, agree_each list s.1)
+
+agree_count : (list : List Ins) → Each Agrees list → array_count list ≡ far_count list
+agree_count [] h = refl
+agree_count (i ∷ list) h = omega (arith, h.0.0, agree_count list h.1)
+
+array_append : (x y : List Ins) → array_count (x ++ y) ≡ array_count x + array_count y
+array_append [] y = let q : array_count y ≡ 0 + array_count y = omega arith in q
+array_append (i ∷ x) y = let h = array_append x y in let q : touch_weight is_array i + array_count (x ++ y) ≡ touch_weight is_array i + array_count x + array_count y = omega (arith, h) in q
 
 -- ---- what stands around it
 
@@ -76,10 +95,10 @@ narrow_length bits = go (bits == 0)
     go true = omega arith
     go false = omega arith
 
-narrow_far : (bits : ℕ) → far_count (narrow_code bits 0) ≡ 0
-narrow_far bits = go (bits == 0)
+narrow_array : (bits : ℕ) → array_count (narrow_code bits 0) ≡ 0
+narrow_array bits = go (bits == 0)
   where
-    go : (t : Bool) → far_count (if t then [] else Shift Shr 0 bits ∷ []) ≡ 0
+    go : (t : Bool) → array_count (if t then [] else Shift Shr 0 bits ∷ []) ≡ 0
     go true = refl
     go false = refl
 
@@ -101,12 +120,12 @@ enter_length source =
     let behind : length (narrow ++ Store 0 (slot source.index) ∷ []) ≡ length narrow + 1 = length-append narrow (Store 0 (slot source.index) ∷ []) in
     omega (arith, front, behind, narrow_length (bits_of (far_size source.far)))
 
-enter_far : (source : FarSource) → far_count (enter_code source) ≡ 0
-enter_far source =
+enter_array : (source : FarSource) → array_count (enter_code source) ≡ 0
+enter_array source =
     let narrow = narrow_code (bits_of (far_size source.far)) 0 in
-    let front : far_count (enter_code source) ≡ far_count (narrow ++ Store 0 (slot source.index) ∷ []) = omega arith in
-    let behind : far_count (narrow ++ Store 0 (slot source.index) ∷ []) ≡ far_count narrow + 0 = far_append narrow (Store 0 (slot source.index) ∷ []) in
-    omega (arith, front, behind, narrow_far (bits_of (far_size source.far)))
+    let front : array_count (enter_code source) ≡ array_count (narrow ++ Store 0 (slot source.index) ∷ []) = omega arith in
+    let behind : array_count (narrow ++ Store 0 (slot source.index) ∷ []) ≡ array_count narrow + 0 = array_append narrow (Store 0 (slot source.index) ∷ []) in
+    omega (arith, front, behind, narrow_array (bits_of (far_size source.far)))
 
 enter_spelled : (source : FarSource) → all_spelled (enter_code source) ≡ true
 enter_spelled source = spelled_append (narrow_code (bits_of (far_size source.far)) 0) (Store 0 (slot source.index) ∷ []) (narrow_spelled source.far) refl
@@ -118,10 +137,10 @@ leave_length source = go (is_one_by_one source.far)
     go true = refl
     go false = refl
 
-leave_far : (source : FarSource) → far_count (leave_code source) ≡ 0
-leave_far source = go (is_one_by_one source.far)
+leave_array : (source : FarSource) → array_count (leave_code source) ≡ 0
+leave_array source = go (is_one_by_one source.far)
   where
-    go : (t : Bool) → far_count ((if t then Load 7 (slot source.block) ∷ [] else []) ++ Load 1 (slot source.work) ∷ []) ≡ 0
+    go : (t : Bool) → array_count ((if t then Load 7 (slot source.block) ∷ [] else []) ++ Load 1 (slot source.work) ∷ []) ≡ 0
     go true = refl
     go false = refl
 
@@ -134,11 +153,12 @@ leave_spelled source = go (is_one_by_one source.far)
 
 -- ---- the whole list
 
-pub bring_touches : (source : FarSource) (count : ℕ) → IsWidth (count * far_size source.far) → far_count (bring_code source count) ≤ 2 * count
+pub bring_touches : (source : FarSource) (count : ℕ) → IsWidth (count * far_size source.far) → array_count (bring_code source count) ≤ 2 * count
 bring_touches source count is =
     let list = gather_with source.far (plan_of source) count 0 1 7 in
     let some : far_count list ≤ 2 * count = gather_far source.far count (plan_of source) is in
-    omega (arith, some, far_append (enter_code source) (list ++ leave_code source), enter_far source, far_append list (leave_code source), leave_far source)
+    let same : array_count list ≡ far_count list = agree_count list (agree_each list (gather_agrees source.far (plan_of source) count is)) in
+    omega (arith, some, same, array_append (enter_code source) (list ++ leave_code source), enter_array source, array_append list (leave_code source), leave_array source)
 
 pub bring_short : (source : FarSource) (count : ℕ) → IsWidth (count * far_size source.far) → length (bring_code source count) ≤ far_weight source.far count + 1
 bring_short source count is =

@@ -7,8 +7,7 @@ ghost use Rattle.x86_ins.specs.Way.{Each};
 ghost use Rattle.x86_flow.specs.Moves.{IsWidth};
 ghost use Rattle.orc_ops.specs.Far.{far_size, far_scalars, far_weight};
 ghost use Rattle.orc_resample.specs.Code.{slot, plan_of, distance_code, number_code, enter_code, block_code, leave_code, bring_code};
-ghost use Rattle.orc_resample.specs.Ready.{far_count};
-ghost use Rattle.orc_resample.specs.Bring.{IsFarSource, Brings};
+ghost use Rattle.orc_resample.specs.Bring.{IsFarSource, Brings, array_count};
 
 use crate::assembly::{is_single, push_values};
 use crate::pieces::{alu, bits_of, load, look_through, push_each, push_narrow, slot};
@@ -200,9 +199,12 @@ pub fn bring(alloc: Global, source: &FarSource, count: u8) -> Result<InsList, Al
     ensures values { IfOk result (λ list. Brings count source.now list) }
     ensures short { IfOk result (λ list. length list ≤ far_weight source.now.far count + 1) }
 
-    // By another register than RSP.
-    ensures touches { IfOk result (λ list. far_count list ≤ 2 * count) }
+    // By a register that is neither RSP nor RDI.
+    ensures touches { IfOk result (λ list. array_count list ≤ 2 * count) }
     ensures allowed { IfOk result (λ list. Each IsAllowed list) }
+
+    // It is the list that the specification states.
+    ensures is { IfOk result (λ list. list ≡ bring_code source.now count) }
 {
     bring_list(alloc, source, count)
 }
