@@ -5,7 +5,6 @@ pub mod Elements
 pub mod Emulated
 pub mod Far
 pub mod FarActions
-pub mod FarPointers
 pub mod FarWords
 pub mod Fars
 pub mod Frames

@@ -24,6 +24,7 @@ use Rattle.x86_flow.specs.Does.{Line}
 use Rattle.x86_flow.specs.Moves.{IsWidth}
 use Rattle.x86_flow.proofs.Frame.{word_same}
 use Rattle.x86_flow.proofs.Moves.{line_append}
+use Rattle.x86_flow.proofs.Plans.{line_map}
 use Rattle.orc_frame.specs.Layout.{pattern_slot, row_slot, block_slot, index_slot, work_slot, spill_slot, frame_size}
 use Rattle.orc_frame.specs.Parts.{Between, InChanged, InWorked}
 use Rattle.orc_resample.specs.declared.turn.FarSource.{FarSource}
@@ -31,14 +32,14 @@ use Rattle.orc_resample.specs.Bring.{IsSpare, InWords, InOwn, AtHand, Brought, O
 use Rattle.orc_resample.specs.Code.{bring_code}
 use Rattle.orc_resample.specs.Ready.{AmongCells, InWord, IsRead, value_at}
 use Rattle.orc_resample.specs.Ready.{Source as Reading}
+use Rattle.orc_resample.proofs.Values.{value_kept, value_scalars, reads_scalars}
 use Rattle.orc_region.specs.Code.{Action, spares_second, Source, FromFar, pointer, place_register, resident_register, first_register, second_register, rule_code, far_source, from_zero_code, sources_far_code, sum_code, results_far_code, action_far_code}
 use Rattle.orc_region.proofs.Arithmetic.Digits.{digit, byte_within}
 use Rattle.orc_region.proofs.Block.Actions.{Ground, IsFit, IsMovedFrom, After, Points, Remains, InRegister, Values, Fits, GrownBy, lane_fits, second_is, no_lane, copied_byte, first_value, still_there, finish_line}
 use Rattle.orc_region.proofs.Block.Cells.{Numbers, OfDests, Local, Lanes, AtElements, AreFrom, IsCounted, IsKnown, live_act, local_act}
 use Rattle.orc_region.proofs.Block.Far.{kept_low, far_brings}
-use Rattle.orc_region.proofs.Block.FarPointers.{Agrees, bring_agrees}
 use Rattle.orc_region.proofs.Block.Fars.{scalar_in, far_at, IsFarFrom, InFars, FarGround, FarRow, FarValues, TouchesFar}
-use Rattle.orc_region.proofs.Block.FarWords.{value_kept, value_scalars, reads_scalars, pattern_word}
+use Rattle.orc_region.proofs.Block.FarWords.{pattern_word}
 use Rattle.orc_region.proofs.Block.Frames.{Framed, framed_below}
 use Rattle.orc_region.proofs.Block.Keeping.{line_bounded, each_front, each_back}
 use Rattle.orc_region.proofs.Block.Registers.{not_0}
@@ -206,7 +207,7 @@ module _ (n : ℕ) (base size : ℕ → ℕ) (P : ℕ → Type 0) (numbers : Num
       s = record { first = i; p = p.0; q = q.0; base = base k }
 
       among : (x : ℕ) → AmongCells load count s x → InFars base numbers i count x
-      among x m = (load, k, js, h, (m.0, m.1, (m.2.0, reads_scalars load s (far_at numbers base k js i) (i + m.0) p.1 q.1 m.2.0 m.2.1, m.2.2)))
+      among x m = (load, k, js, h, (m.0, m.1, (m.2.0, reads_scalars load s (far_at numbers base k js i) (λ l. p.1) (λ l. q.1) (i + m.0) m.2.0 m.2.1, m.2.2)))
 
       -- ---- the frame's words
 
@@ -256,15 +257,15 @@ module _ (n : ℕ) (base size : ℕ → ℕ) (P : ℕ → Type 0) (numbers : Num
       value_is : (j : ℕ) → j < count → value_at load s c.memory (i + j) ≡ (sig j).fars load k js
       value_is j l =
           let t = far_at numbers base k js (i + j) in
-          value_scalars load s t c.memory (i + j) refl p.1 q.1
-          ∙ value_kept load t c.memory first (i + j) (λ z r b lb. fars_stand i w first c.memory o _ (load, k, js, h, (j, l, (z, r, (b, lb, refl)))))
+          value_scalars load s t refl (λ l. p.1) (λ l. q.1) c.memory (i + j)
+          ∙ value_kept load t c.memory first (i + j) (λ x m. fars_stand i w first c.memory o x (fars_one base numbers load k js h i count j l x m))
           ∙ sym (fetch.values load k js h j l).1
 
-      far_step : (G : Ins → Type 0) (u : Core) (ins : Ins) → OnTurn count source s c u ins → Agrees ins → Step G i c.gpr first u ins
-      far_step G u ins t agrees = inr (
+      far_step : (G : Ins → Type 0) (u : Core) (ins : Ins) → OnTurn count source s c u ins → Step G i c.gpr first u ins
+      far_step G u ins t = inr (
         t.0.stack,
         λ a m e. t.0.memory a (λ z. e (inr (spare_worked a z))) ∙ o a m e,
-        (λ x y. ⊎_elim (λ a. inl (agrees ∙ a.0, own_frame x a.1)) (λ a. inr (agrees ∙ a.0, among x a.1)) (t.1 x y), t.2),
+        (λ x y. ⊎_elim (λ a. let f = own_frame x a.1 in inl (a.0, f.0, f.1)) (λ a. inr (a.0, among x a.1)) (t.1 x y), t.2),
       )
 
       -- its values stand in register x
@@ -281,7 +282,7 @@ module _ (n : ℕ) (base size : ℕ → ℕ) (P : ℕ → Type 0) (numbers : Num
           let b = far_brings (far k) load k js known.slot.1 patterns known.count count width ins s c at_hand in
           let u = b.0 in
           let g = b.2 in
-          let first_line : Line (Step G i c.gpr first) code c u = line_with (OnTurn count source s c) (Step G i c.gpr first) Agrees (far_step G) code (bring_agrees source count width) c u b.1 in
+          let first_line : Line (Step G i c.gpr first) code c u = line_map (OnTurn count source s c) (Step G i c.gpr first) (far_step G) code c u b.1 in
           let kept : (a : ℕ) → (Waits a → ⊥) → u.memory a ≡ c.memory a = λ a m. g.stays.memory a (λ z. m (spare_waits a z)) in
           let near : Near i c.gpr first u (Vec Movdqa x 0) = (g.gpr, λ a m e. kept a (λ z. e (inr (waits_worked a z))) ∙ o a m e) in
           let z = from_zero_line (Near i c.gpr first) x u (g.bounded.xmm 0) near in

@@ -22,9 +22,9 @@ use Rattle.orc_ops.specs.Table.{size_of_result, size_of_source}
 use Rattle.orc_region.specs.Stores.{IsMovdquStore}
 use Rattle.orc_region.specs.Code.{Action, spares_second, IsRule, Source, FromArray, FromPattern, FromResident, FromPlace, FromSlot, FromFar, Target, ToArray, ToSum, ToResident, ToPlace, ToSlot, pointer, first_register, second_register, rule_register, rule_code, from_zero_code, source_far_code, brought, sources_far_code, sum_code, result_far_code, results_far_code, action_far_code}
 use Rattle.orc_region.proofs.Arithmetic.Digits.{byte_split, byte_further}
-use Rattle.orc_resample.specs.Bring.{is_vector_store}
+use Rattle.orc_resample.specs.Bring.{is_array, is_vector_store}
 use Rattle.orc_region.proofs.Block.Cells.{Numbers, Low, IsFrom, AreFrom, IsMade, AreTo, IsKnown, AllKnown, live_act}
-use Rattle.orc_region.proofs.Block.Fars.{is_array, TouchesFar}
+use Rattle.orc_region.proofs.Block.Fars.{TouchesFar}
 use Rattle.orc_region.proofs.Block.Taken.{IsNear, AreNear}
 use Rattle.orc_region.proofs.Sizes.Bytes.{vectors_of, each_brought}
 use Rattle.orc_region.proofs.Block.Actions.{IsMovedFrom, IsMovedTo, IsFit}

@@ -20,6 +20,7 @@ use Rattle.x86_flow.proofs.Plans.{line_map}
 use Rattle.orc_frame.specs.Layout.{row_slot, block_slot, frame_size}
 use Rattle.orc_frame.specs.Parts.{InChanged}
 use Rattle.orc_resample.specs.Ready.{AmongCells, value_at}
+use Rattle.orc_resample.proofs.Values.{value_kept}
 use Rattle.orc_region.specs.Code.{Plan, Action, AreBlocks, IsBlocksTurn, pointer, resident_register, far_by, own_names, action_far_code, actions_far_code, advance_code}
 use Rattle.orc_region.proofs.Block.Registers.{not_0, not_1, not_4, not_7, pointer_one}
 use Rattle.sse_acc.specs.Sums.{sum_below}
@@ -31,7 +32,6 @@ use Rattle.orc_region.proofs.Row.Counters.{Tested}
 use Rattle.orc_region.proofs.Block.Actions.{IsFit, Ground}
 use Rattle.orc_region.proofs.Block.FarActions.{Step, Fetching, fars_wide, fars_one, row_kept}
 use Rattle.orc_region.proofs.Block.Fars.{far_at, InFars, FarGround, FarRow, FarValues}
-use Rattle.orc_region.proofs.Block.FarWords.{value_kept}
 use Rattle.orc_region.proofs.Block.Named.{named_line}
 use Rattle.orc_region.proofs.Block.Names.{own_permutes, own_name}
 use Rattle.orc_region.proofs.Block.Taken.{AllTaken}
@@ -243,7 +243,7 @@ module _ (n : ℕ) (base : ℕ → ℕ) (P : ℕ → Type 0) (numbers : Numbers)
               let line : Line (InBlock j c) (actions_far_code count p.size far aligned p.actions) c b.0 = b.1 in
               let values : FarValues base numbers j count e sig = λ load k js f q l. (
                 λ x m. (let y = read load k js f q l x m in subst (λ o. is_some o ≡ true) (agreed x y) (row.mapped x y)),
-                value_kept load (far_at numbers base k js (j + q)) c.memory e (j + q) (λ z r v lv. agreed _ (fars_wide base numbers j count n w _ (load, k, js, f, (q, l, (z, r, (v, lv, refl)))))),
+                value_kept load (far_at numbers base k js (j + q)) c.memory e (j + q) (λ x m. agreed x (read load k js f q l x m)),
               ) in
               let m = set.emulates j e totals sig em count w he values in
               let d = b.0 in
