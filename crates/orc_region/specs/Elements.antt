@@ -1,13 +1,14 @@
 -- What the code of a function's elements does in a good call: so many elements of a row, as emulation does them.
-use Rattle.std.specs.Prelude.{◌≡◌, ◌≢◌, ℕ, ◌+◌, ◌*◌, ◌%◌, ◌<◌, ◌≤◌, ◌⊎◌, Bool, true, false, List, ◌++◌, length, get_or, slice_index, if◌then◌else◌, Option, Some, Ok}
+use Rattle.std.specs.Prelude.{◌≡◌, ◌≢◌, ℕ, ◌+◌, ◌*◌, ◌%◌, ◌^◌, ◌<◌, ◌≤◌, ◌⊎◌, Bool, true, false, List, ◌++◌, length, get_or, slice_index, if◌then◌else◌, Option, Some, Ok}
 use Rattle.orc_bits.specs.Numbers.{cut}
 use Rattle.orc_bits.specs.Lanes.{AreBytes}
-use Rattle.orc_bits.specs.Memory.{Memory, IsMapped}
+use Rattle.orc_bits.specs.Memory.{Memory, IsMapped, word}
 use Rattle.orc_ops.specs.declared.target.Target.{Target}
 use Rattle.orc_program.specs.declared.program.VarKind.TheVariants as kind
 use Rattle.orc_program.specs.declared.call.Call.{Call as Meant}
-use Rattle.orc_program.specs.Program.{FunctionValue, count_of, places_of, has_far}
+use Rattle.orc_program.specs.Program.{FunctionValue, var_at, count_of, places_of, has_far}
 use Rattle.orc_program.specs.Kept.{is_function}
+use Rattle.orc_program.specs.Good.{IsReached, byte_at}
 use Rattle.orc_program.specs.Meaning.{State, row_of, rows_of, start}
 use Rattle.orc_program.specs.Need.{lanes, cost_for, has_whole_turns, turns}
 use Rattle.orc_program.specs.Slots.{call_of, size_of_slot}
@@ -19,7 +20,7 @@ use Rattle.x86_ins.specs.Way.{Placed, Moment, Way, Each, AtMost}
 use Rattle.x86_flow.specs.Flow.{spell_all, size}
 use Rattle.sse_acc.specs.Sums.{sum_of}
 use Rattle.orc_frame.specs.declared.frame.Layout.{Layout}
-use Rattle.orc_frame.specs.Layout.{layout_of, pattern_slot, sum_slot, saved_slot, left_slot}
+use Rattle.orc_frame.specs.Layout.{layout_of, pattern_slot, sum_slot, saved_slot, row_slot, block_slot, left_slot}
 use Rattle.orc_frame.specs.Frame.{acc_size, number_of, pattern_at, pattern_byte}
 use Rattle.orc_frame.specs.Function.{subject_of}
 use Rattle.orc_frame.specs.GoodCall.{GoodCall, lowered}
@@ -52,6 +53,11 @@ HasCome f args mem r i e = (before : State) × (rows_of f (meant_call f args) r 
 -- the pointers of arrays are at element i of row r
 abbrev pub PointsAt : FunctionValue → Call → ℕ → ℕ → Core → Type 0
 PointsAt f args r i c = (k : ℕ) → IsArray (subject_of f) k → c.gpr (pointer k) ≡ cell (subject_of f) args k r i 0
+
+-- the frame has the bases of row r and the block's address
+pub record RowStands (f : FunctionValue) (args : Call) (r : ℕ) (s c : Core) : Type 0 where
+  pub bases : (k : ℕ) → IsArray (subject_of f) k → word c.memory (lowered s + row_slot k) ≡ Some ((args.base k + r * args.stride k) % 2 ^ 64)
+  pub block : word c.memory (lowered s + block_slot) ≡ Some (s.gpr 7)
 
 -- byte b of running sum g, where values have places up to the last one and RSP is `rsp`: of its register, or of its slot of the frame
 abbrev pub sum_byte : ℕ → ℕ → Core → ℕ → ℕ → Option ℕ
@@ -94,6 +100,18 @@ abbrev pub InElements : (ℕ → Type 0) → FunctionValue → Call → ℕ → 
 InElements D f args r i count a =
     (k : ℕ) × D k × (j : ℕ) × (i ≤ j) × (j < i + count) × (b : ℕ) × (b < size_of_slot f.vars k) × (a ≡ cell (subject_of f) args k r j b)
 
+-- the address is a byte of an element of row r that a far load reads for one of these elements
+pub record InFarElements (f : FunctionValue) (args : Call) (r i count a : ℕ) : Type 0 where
+  -- the array's place among the variables, and the element that is read, modulo 2 ^ 64
+  pub place : ℕ
+  pub element : ℕ
+  pub reached : IsReached f (meant_call f args) place element
+  pub from : i ≤ reached.element
+  pub before : reached.element < i + count
+  pub byte : ℕ
+  pub inside : byte < (var_at f.vars place).size
+  pub here : a ≡ byte_at f (meant_call f args) place r element byte
+
 abbrev pub IsDest : FunctionValue → ℕ → Type 0
 IsDest f k = k < count_of kind.Dest f.vars
 
@@ -101,9 +119,9 @@ IsDest f k = k < count_of kind.Dest f.vars
 abbrev pub IsQuiet : FunctionValue → Core → Call → ℕ → ℕ → ℕ → Core → Core → Type 0
 IsQuiet f s args r i count c u = (a : ℕ) → (InElements (IsDest f) f args r i count a → ⊥) → (InFrame (lowered s) a → ⊥) → u.memory a ≡ c.memory a
 
--- the step reads and writes bytes of these elements' cells and of the frame alone
+-- the step reads and writes bytes of these elements' cells, of elements that far loads read for them, and of the frame alone
 abbrev pub TouchesThese : FunctionValue → Core → Call → ℕ → ℕ → ℕ → Moment → Type 0
-TouchesThese f s args r i count m = (a : ℕ) → Touches m.ins m.point.core a → InElements (IsArray (subject_of f)) f args r i count a ⊎ InFrame (lowered s) a
+TouchesThese f s args r i count m = (a : ℕ) → Touches m.ins m.point.core a → InElements (IsArray (subject_of f)) f args r i count a ⊎ (InFarElements f args r i count a ⊎ InFrame (lowered s) a)
 
 -- no other dest is the very same array as the first one
 abbrev pub IsAlone : FunctionValue → Call → Type 0
@@ -138,7 +156,7 @@ DoesElements f target at count aligned list =
     (code : Placed) (s : Point) (args : Call) (back : ℕ) → GoodCall (subject_of f) code s args back → (from : ℕ) → Stands code from list
     → (r : ℕ) → r < rows (subject_of f) args → (i : ℕ) → i + count ≤ args.n
     → (aligned ≡ true → IsDest f 0 → cell (subject_of f) args 0 r i 0 % 16 ≡ 0)
-    → (e : State) → HasCome f args s.core.memory r i e → (c : Core) → Holds f at s.core args e c → PointsAt f args r i c
+    → (e : State) → HasCome f args s.core.memory r i e → (c : Core) → Holds f at s.core args e c → PointsAt f args r i c → (has_far f ≡ true → RowStands f args r s.core c)
     → (done : Done f at code s.core args r i count (cost_for f target) (subject_of f).operands from list c)
     × ((x : ℕ) → x ≢ 0 → done.d.gpr x ≡ c.gpr x)
     × (aligned ≡ true → count * size_of_slot f.vars 0 ≡ 16 → IsAlone f args → Each (λ m. StoresFirst (subject_of f) args m → ⊥) done.way)
@@ -152,6 +170,6 @@ abbrev pub DoesRow : FunctionValue → Target → List ℕ → List Ins → Type
 DoesRow f target at list =
     (code : Placed) (s : Point) (args : Call) (back : ℕ) → GoodCall (subject_of f) code s args back → (from : ℕ) → Stands code from list
     → (r : ℕ) → r < rows (subject_of f) args
-    → (e : State) → HasCome f args s.core.memory r 0 e → (c : Core) → Holds f at s.core args e c → PointsAt f args r 0 c → c.gpr 1 ≡ args.n
+    → (e : State) → HasCome f args s.core.memory r 0 e → (c : Core) → Holds f at s.core args e c → PointsAt f args r 0 c → (has_far f ≡ true → RowStands f args r s.core c) → c.gpr 1 ≡ args.n
     → (done : Done f at code s.core args r 0 args.n (17 + 3 * arrays_of f + turns f args.n * (cost_for f target + arrays_of f + 6)) (turns f args.n * (subject_of f).operands) from list c)
     × (lanes f * size_of_slot f.vars 0 ≡ 16 → ((h : ℕ) × (h + lanes f ≤ args.n) × (cell (subject_of f) args 0 r h 0 % 16 ≡ 0) × (has_whole_turns f ≡ true → h ≡ 0)) → IsAlone f args → Each (λ m. StoresFirst (subject_of f) args m → ⊥) done.way)

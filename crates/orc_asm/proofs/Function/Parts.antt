@@ -21,7 +21,7 @@ use Rattle.orc_bits.specs.Lanes.{lane}
 use Rattle.orc_bits.proofs.LaneLaws.{lane_of_digits}
 use Rattle.sse_acc.specs.Sums.{sum_of}
 use Rattle.sse_acc.proofs.Totals.{sum_below-same}
-use Rattle.orc_frame.specs.Layout.{layout_of, pattern_slot, sum_slot, saved_slot, frame_size, row_slot}
+use Rattle.orc_frame.specs.Layout.{layout_of, pattern_slot, sum_slot, saved_slot, frame_size, row_slot, block_slot}
 use Rattle.orc_frame.specs.Frame.{Prepares, Finishes, Enters, Prepared, Ends, AfterEntry, AfterRows, acc_size, pattern_byte, saved}
 use Rattle.orc_program.proofs.Places.{length-places_of}
 use Rattle.orc_frame.specs.Subject.{Call as Arguments, InDests, rows}
@@ -31,7 +31,7 @@ use Rattle.orc_frame.specs.Function.{IsCellByte, subject_of}
 use Rattle.orc_program.specs.Need.{turns}
 use Rattle.orc_region.specs.Regions.{TurnParts}
 use Rattle.orc_region.specs.Code.{Turns, pointer, elements_of, last_place, resident_register, resident_loads_code, sum_stores_code}
-use Rattle.orc_region.specs.Elements.{HasCome, Holds, PointsAt, InElements, InWords, IsDest, IsQuiet}
+use Rattle.orc_region.specs.Elements.{HasCome, Holds, PointsAt, RowStands, InElements, InWords, IsDest, IsQuiet}
 use Rattle.orc_region.proofs.Block.Cells.{Numbers}
 use Rattle.orc_region.proofs.Block.Frames.{Framed, framed_below, no_sum, IsFrame}
 use Rattle.orc_region.proofs.Block.Elements.{Agrees}
@@ -98,6 +98,7 @@ module _ {target : Target} (f : FunctionValue) (is : is_function f ≡ true) (at
   -- what else holds between rows
   pub record Kept (e : State) (c : Core) : Type 0 where
     pub saved_words : (j : ℕ) → j < 6 → word c.memory (lowered + saved_slot j) ≡ Some (s.core.gpr (saved j))
+    pub block_word : word c.memory (lowered + block_slot) ≡ Some (s.core.gpr 7)
     pub totals : ℕ → ℕ
     pub framed : Framed numbers lowered c totals
     pub agrees : Agrees f e.sums totals
@@ -121,6 +122,7 @@ module _ {target : Target} (f : FunctionValue) (is : is_function f ≡ true) (at
       let below : (x : ℕ) → lowered ≤ x → x < lowered + row_slot 0 → d.memory x ≡ c.memory x = λ x l u. same x (λ i. omega (arith, i.0, u)) in
       record {
         saved_words = words_stay c d (λ x l u n. below x l u) h.saved_words;
+        block_word = word_same d.memory c.memory (lowered + block_slot) (omega (arith, stack_room)) (λ x l u. same x (λ i. i.2 (l, u))) ∙ h.block_word;
         totals = h.totals;
         framed = framed_below numbers lowered is_framed c d h.totals (λ x l u. below x l (omega (arith, u))) (λ x i m. subst (λ o. is_some o ≡ true) (sym (same x (λ t. omega (arith, t.1, i.0)))) m) (λ g l. ap (λ v. v (resident_register g)) xmm) h.framed;
         agrees = h.agrees;
@@ -243,6 +245,7 @@ module _ {target : Target} (f : FunctionValue) (is : is_function f ≡ true) (at
             bounded = line_bounded Q loads c d (ins_of loads (fine_loads at count patterns few_sums few_patterns)) y.1 h.bounded;
             kept = record {
               saved_words = λ j l. ap (λ m. word m (lowered + saved_slot j)) w.memory ∙ ap (λ a. word c.memory (a + saved_slot j)) (sym stack) ∙ h.saved j l;
+              block_word = ap (λ m. word m (lowered + block_slot)) w.memory ∙ ap (λ a. word c.memory (a + block_slot)) (sym stack) ∙ h.block;
               totals = λ g. 0;
               framed = record {
                 patterns = λ j l b lb. memory (lowered + pattern_slot j + b) ∙ there j l b lb;
@@ -286,6 +289,9 @@ module _ {target : Target} (f : FunctionValue) (is : is_function f ≡ true) (at
     points : PointsAt f args r 0 c
     points k hk = first_cell (args.base k + r * args.stride k) (c.gpr (pointer k)) (size_of_slot f.vars k) (h.pointers k hk)
 
+    stands : RowStands f args r s.core c
+    stands = record { bases = h.bases; block = h.steady.kept.block_word }
+
     -- a cell of the row's dests is one of the call's
     row_dest : (a : ℕ) → InElements (IsDest f) f args r 0 args.n a → Dests a
     row_dest a w = (w.0, w.1, (r, row, w.2, omega (arith, w.4), w.5, w.6, w.7))
@@ -314,6 +320,7 @@ module _ {target : Target} (f : FunctionValue) (is : is_function f ≡ true) (at
             bounded = there.bounded;
             kept = record {
               saved_words = λ j l. word_same d.memory c.memory (lowered + saved_slot j) (omega (arith, stack_room, l)) (λ x a b. words x (omega (arith, a), omega (arith, b, l))) ∙ h.steady.kept.saved_words j l;
+              block_word = word_same d.memory c.memory (lowered + block_slot) (omega (arith, stack_room)) (λ x a b. words x (omega (arith, a), omega (arith, b))) ∙ h.steady.kept.block_word;
               totals = totals_in f is known code s args back good at t d there;
               framed = framed_in f is known code s args back good at t d there;
               agrees = agrees_in f is known code s args back good at t d there;
@@ -324,7 +331,7 @@ module _ {target : Target} (f : FunctionValue) (is : is_function f ≡ true) (at
 
     does : (t : State) × (list : List Ins) × (d : Core) × Does Q (elements_of f fewer wide aligned large) c list d × Ended f known code s args back good Kept r e t c d × (length list ≤ regions_of (most_besides f) (turns f args.n) (most_turn f target)) × (weigh cell_weight list ≤ turns f args.n * (subject_of f).operands)
     does =
-        let x = row_does f is at fewer wide aligned large turns_are code s args back good r row e (e, h.emulated, refl) c holds points h.counter in
+        let x = row_does f is at fewer wide aligned large turns_are code s args back good r row e (e, h.emulated, refl) c holds points (λ far. stands) h.counter in
         let y = x.3 in
         (y.e, x.0, x.1, does_map _ Q on_way (elements_of f fewer wide aligned large) c x.0 x.1 x.2, row_ended x.1 y.e y.come y.quiet y.holds y.words, y.short, y.light)
 

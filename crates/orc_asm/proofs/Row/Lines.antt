@@ -19,7 +19,7 @@ use Rattle.x86_flow.proofs.Words.{load_word, store_word}
 use Rattle.x86_flow.proofs.Frame.{word_same, word_stored}
 use Rattle.orc_frame.specs.Parts.{InBlock, elements_word, rows_word, base_word, stride_word, block_size}
 use Rattle.orc_region.specs.Code.{pointer}
-use Rattle.orc_frame.specs.Layout.{row_slot, rows_slot, frame_size, left_slot}
+use Rattle.orc_frame.specs.Layout.{row_slot, block_slot, rows_slot, frame_size, left_slot}
 use Rattle.orc_asm.specs.Rows.{slots_code, arrays_code, base_code, count_code, rows_code, pointer_code, counter_code, row_entry_code, start_code, one_row_code, stride_code, one_less_code, row_step_code}
 use Rattle.orc_region.proofs.Block.Registers.{not_1, not_4, not_7, pointer_one}
 use Rattle.orc_region.proofs.Turn.Advancing.{IsSlot}
@@ -29,15 +29,28 @@ both_is x = grind (arith, common_steps)
 
 -- rsp is the lowered RSP, and rdi the block's address
 module _ (rsp rdi : ℕ) (stack_low : rsp + (frame_size + 8) ≤ 2 ^ 47) (block_low : rdi + block_size ≤ 2 ^ 47) where
-  -- the addresses of the words that change: those of the arrays' slots and, as the one of slot 13, that of the rows left
-  abbrev pub InRows : ℕ → Type 0
-  InRows x = (rsp + row_slot 0 ≤ x) × (x < rsp + left_slot)
-
   abbrev InSlot : ℕ → ℕ → Type 0
   InSlot k x = (rsp + row_slot k ≤ x) × (x < rsp + row_slot k + 8)
 
-  in_rows : (k x : ℕ) → k < 14 → InSlot k x → InRows x
-  in_rows k x l h = (omega (arith, h.0), omega (arith, h.1, l))
+  -- the addresses of the words that change: those of the arrays' slots and, as the one of slot 13, that of the rows left; between them the word of the block's address stands
+  abbrev pub InRows : ℕ → Type 0
+  InRows x = (rsp + row_slot 0 ≤ x) × (x < rsp + left_slot) × ((rsp + block_slot ≤ x) × (x < rsp + block_slot + 8) → ⊥)
+
+  -- the slots of those words
+  abbrev pub Changes : ℕ → Type 0
+  Changes k = (k < 14) × (k ≢ 12)
+
+  pub array_changes : (k : ℕ) → k < 12 → Changes k
+  array_changes k l = (omega (arith, l), λ e. omega (arith, l, e))
+
+  pub rows_change : Changes 13
+  rows_change = (omega arith, λ e. omega (arith, e))
+
+  sides : (k j : ℕ) → k ≢ j → (suc j ≤ k) ⊎ (suc k ≤ j)
+  sides k j ne = grind (arith)
+
+  pub in_rows : (k x : ℕ) → Changes k → InSlot k x → InRows x
+  in_rows k x l h = (omega (arith, h.0), omega (arith, h.1, l.0), λ b. ⊎_elim (λ w. omega (arith, w, h.0, b.1)) (λ w. omega (arith, w, h.1, b.0)) (sides k 12 l.1))
 
   slot_low : (k : ℕ) → k < 14 → rsp + row_slot k + 8 < 2 ^ 62
   slot_low k l = omega (arith, l, stack_low)
@@ -69,9 +82,9 @@ module _ (rsp rdi : ℕ) (stack_low : rsp + (frame_size + 8) ≤ 2 ^ 47) (block_
   byte_in : (a p j : ℕ) → p + 8 < 2 ^ 62 → a ≡ p → j < 8 → (p ≤ (a + j) % 2 ^ 64) × ((a + j) % 2 ^ 64 < p + 8)
   byte_in a p j w e l = (omega (arith, w, e, l), omega (arith, w, e, l))
 
-  touch_slot : (k : ℕ) → k < 14 → (i : Ins) (u : Core) → u.gpr 4 ≡ rsp → span i u ≡ (address u (away 4 (row_slot k)), 8) → TouchesFew i u
+  touch_slot : (k : ℕ) → Changes k → (i : Ins) (u : Core) → u.gpr 4 ≡ rsp → span i u ≡ (address u (away 4 (row_slot k)), 8) → TouchesFew i u
   touch_slot k l i u s e x t =
-      let w = slot_low k l in
+      let w = slot_low k l.0 in
       let size : (span i u).1 ≡ 8 = ap (λ p. p.1) e in
       let at : (span i u).0 ≡ rsp + row_slot k = ap (λ p. p.0) e ∙ at_away u 4 rsp (row_slot k) s (omega (arith, w)) in
       let here = byte_in (span i u).0 (rsp + row_slot k) t.0 w at (subst (λ n. t.0 < n) size t.1) in
@@ -104,10 +117,10 @@ module _ (rsp rdi : ℕ) (stack_low : rsp + (frame_size + 8) ≤ 2 ^ 47) (block_
     outside : (x : ℕ) → (InSlot k x → ⊥) → (stored r k c).memory x ≡ c.memory x
     mapped : (x : ℕ) → IsMapped c.memory x → IsMapped (stored r k c).memory x
 
-  store_slot : (r k : ℕ) → k < 14 → (c : Core) → c.gpr 4 ≡ rsp → c.gpr r < 2 ^ 64 → ((x : ℕ) → InRows x → IsMapped c.memory x) → SlotStored r k c
+  store_slot : (r k : ℕ) → Changes k → (c : Core) → c.gpr 4 ≡ rsp → c.gpr r < 2 ^ 64 → ((x : ℕ) → InRows x → IsMapped c.memory x) → SlotStored r k c
   store_slot r k l c e small there =
       let a = rsp + row_slot k in
-      let w = slot_low k l in record {
+      let w = slot_low k l.0 in record {
         works = store_word c r 4 rsp (row_slot k) e w (λ x m u. there x (in_rows k x l (m, u)));
         holds = word_stored c.memory a (c.gpr r) (omega (arith, w)) small;
         outside = λ x out. fill_out 8 c.memory a (byte_of 8 (c.gpr r)) x (omega (arith, w)) (λ j s q. out (omega (arith, q), omega (arith, q, s)));
@@ -117,9 +130,6 @@ module _ (rsp rdi : ℕ) (stack_low : rsp + (frame_size + 8) ≤ 2 ^ 47) (block_
   -- the word of another slot stands
   slot_apart : (k j : ℕ) → k < 14 → j < 14 → k ≢ j → (m e : Memory) → ((x : ℕ) → (InSlot k x → ⊥) → m x ≡ e x) → word m (rsp + row_slot j) ≡ word e (rsp + row_slot j)
   slot_apart k j lk lj ne m e out = word_same m e (rsp + row_slot j) (omega (arith, slot_low j lj)) (λ x l u. out x (λ h. ⊎_elim (λ s. omega (arith, s, h.0, u)) (λ s. omega (arith, s, h.1, l)) (sides k j ne)))
-    where
-      sides : (k j : ℕ) → k ≢ j → (suc j ≤ k) ⊎ (suc k ≤ j)
-      sides k j ne = grind (arith)
 
   -- ---- so many slots
 
@@ -131,7 +141,7 @@ module _ (rsp rdi : ℕ) (stack_low : rsp + (frame_size + 8) ≤ 2 ^ 47) (block_
     mapped : (x : ℕ) → IsMapped c.memory x → IsMapped d.memory x
     xmm : d.xmm ≡ c.xmm
 
-  slot_way : (k v : ℕ) (c d : Core) → k < 14 → c.gpr 4 ≡ rsp → c.gpr 7 ≡ rdi → Slotted k v c d → OnWay c d
+  slot_way : (k v : ℕ) (c d : Core) → Changes k → c.gpr 4 ≡ rsp → c.gpr 7 ≡ rdi → Slotted k v c d → OnWay c d
   slot_way k v c d l s b h = record {
     stack = h.gpr 4 (λ e. omega (arith, e)) (λ e. omega (arith, e)) ∙ s;
     block = h.gpr 7 (λ e. omega (arith, e)) (λ e. omega (arith, e)) ∙ b;
@@ -157,7 +167,8 @@ module _ (rsp rdi : ℕ) (stack_low : rsp + (frame_size + 8) ≤ 2 ^ 47) (block_
     slots_line first (suc n) few c s b one =
         let a = slots_line first n (omega (arith, few)) c s b (λ k l u. one k l (omega (arith, u))) in
         let k = first + n in
-        let low : k < 14 = omega (arith, few) in
+        let own = array_changes k (omega (arith, few)) in
+        let low = own.0 in
         let x = one k (omega arith) (omega arith) a.0 a.2.way (a.2.others k low (inr (omega arith))) in
         let h = x.2 in (
           x.0,
@@ -169,7 +180,7 @@ module _ (rsp rdi : ℕ) (stack_low : rsp + (frame_size + 8) ≤ 2 ^ 47) (block_
                 (λ ne. slot_apart k j low (omega (arith, u, few)) (λ e. ne (sym e)) x.0.memory a.0.memory h.outside ∙ a.2.holds j l (omega (arith, u, ne)))
                 (cases_eq j k);
             others = λ j l o. slot_apart k j low l (λ e. ⊎_elim (λ p. omega (arith, p, e)) (λ p. omega (arith, p, e)) o) x.0.memory a.0.memory h.outside ∙ a.2.others j l (⊎_elim (λ p. inl p) (λ p. inr (omega (arith, p))) o);
-            way = way_on c a.0 x.0 a.2.way (slot_way k (new k) a.0 x.0 low a.2.way.stack a.2.way.block h);
+            way = way_on c a.0 x.0 a.2.way (slot_way k (new k) a.0 x.0 own a.2.way.stack a.2.way.block h);
           },
         )
 
@@ -241,7 +252,7 @@ module _ (rsp rdi : ℕ) (stack_low : rsp + (frame_size + 8) ≤ 2 ^ 47) (block_
     calmly_on c d calmly h u i w t = calmly u i (way_on c d u h w) t
 
     -- at an instruction that touches a word of a slot, one of the block, or none
-    at_slot : (c : Core) → Calmly c → (k : ℕ) → k < 14 → (i : Ins) (u : Core) → OnWay c u → span i u ≡ (address u (away 4 (row_slot k)), 8) → Q u i
+    at_slot : (c : Core) → Calmly c → (k : ℕ) → Changes k → (i : Ins) (u : Core) → OnWay c u → span i u ≡ (address u (away 4 (row_slot k)), 8) → Q u i
     at_slot c calmly k l i u w e = calmly u i w (touch_slot k l i u w.stack e)
 
     at_block : (c : Core) → Calmly c → (d : ℕ) → d + 8 ≤ block_size → (i : Ins) (u : Core) → OnWay c u → span i u ≡ (address u (away 7 d), 8) → Q u i
@@ -260,9 +271,9 @@ module _ (rsp rdi : ℕ) (stack_low : rsp + (frame_size + 8) ≤ 2 ^ 47) (block_
         let v = base k in
         let u1 : Core = with_gpr u 0 v in
         let loads : work (Load 0 (away 7 (base_word k))) u ≡ Ok u1 = load_word u 0 7 rdi (base_word k) v h.block (omega (arith, block_low, l)) (block_word c u h (base_word k) v (omega (arith, l)) e) in
-        let s = store_slot 0 k (omega (arith, l)) u1 h.stack small (λ x r. h.mapped x (there x r)) in (
+        let s = store_slot 0 k (array_changes k l) u1 h.stack small (λ x r. h.mapped x (there x r)) in (
           stored 0 k u1,
-          (at_block c calmly (base_word k) (omega (arith, l)) _ u h refl, (u1, loads, (at_slot c calmly k (omega (arith, l)) _ u1 (way_with c u u1 h refl refl refl refl) refl, (stored 0 k u1, s.works, refl)))),
+          (at_block c calmly (base_word k) (omega (arith, l)) _ u h refl, (u1, loads, (at_slot c calmly k (array_changes k l) _ u1 (way_with c u u1 h refl refl refl refl) refl, (stored 0 k u1, s.works, refl)))),
           record { gpr = λ r p q. change_other u.gpr 0 v r p; holds = s.holds; outside = s.outside; mapped = s.mapped; xmm = refl },
         )
 
@@ -283,13 +294,13 @@ module _ (rsp rdi : ℕ) (stack_low : rsp + (frame_size + 8) ≤ 2 ^ 47) (block_
         let h : OnWay c c = record { stack = stack; block = block; outside = λ x out. refl; mapped = λ x t. t; xmm = refl } in
         let u1 : Core = with_gpr c 0 m in
         let loads : work (Load 0 (away 7 rows_word)) c ≡ Ok u1 = load_word c 0 7 rdi rows_word m block (omega (arith, block_low)) word_m in
-        let s = store_slot 0 13 (omega arith) u1 stack small there in
+        let s = store_slot 0 13 rows_change u1 stack small there in
         let u2 = stored 0 13 u1 in
         let d : Core = with_flags u2 (Some (flags_of false false (bit_and m m))) in
         let w1 = way_with c c u1 h refl refl refl refl in
-        let w2 : OnWay c u2 = record { stack = stack; block = block; outside = λ x out. s.outside x (λ r. out (in_rows 13 x (omega arith) r)); mapped = s.mapped; xmm = refl } in (
+        let w2 : OnWay c u2 = record { stack = stack; block = block; outside = λ x out. s.outside x (λ r. out (in_rows 13 x rows_change r)); mapped = s.mapped; xmm = refl } in (
           d,
-          (at_block c calmly rows_word (omega arith) _ c h refl, (u1, loads, (at_slot c calmly 13 (omega arith) _ u1 w1 refl, (u2, s.works, (at_none c calmly _ u2 w2 refl, (d, refl, refl)))))),
+          (at_block c calmly rows_word (omega arith) _ c h refl, (u1, loads, (at_slot c calmly 13 rows_change _ u1 w1 refl, (u2, s.works, (at_none c calmly _ u2 w2 refl, (d, refl, refl)))))),
           record {
             gpr = λ r p q. change_other c.gpr 0 m r p;
             has = record {
@@ -327,12 +338,12 @@ module _ (rsp rdi : ℕ) (stack_low : rsp + (frame_size + 8) ≤ 2 ^ 47) (block_
         let a = pointers_line base first n (omega (arith, few)) c s b calmly (λ k l u. words k l (omega (arith, u))) in
         let u = a.0 in
         let k = first + n in
-        let low : k < 14 = omega (arith, few) in
+        let own = array_changes k (omega (arith, few)) in
         let stack : u.gpr 4 ≡ c.gpr 4 = a.2.others 4 (λ j l m e. not_4 j (sym e)) in
         let block : u.gpr 7 ≡ c.gpr 7 = a.2.others 7 (λ j l m e. not_7 j (sym e)) in
         let d : Core = with_gpr u (pointer k) (base k) in
-        let loads : work (Load (pointer k) (away 4 (row_slot k))) u ≡ Ok d = load_word u (pointer k) 4 rsp (row_slot k) (base k) (stack ∙ s) (omega (arith, slot_low k low)) (ap (λ m. word m (rsp + row_slot k)) a.2.memory ∙ words k (omega arith) (omega arith)) in
-        let calm : Q u (Load (pointer k) (away 4 (row_slot k))) = at_slot c calmly k low _ u (still c u s b a.2.memory a.2.xmm stack block) refl in (
+        let loads : work (Load (pointer k) (away 4 (row_slot k))) u ≡ Ok d = load_word u (pointer k) 4 rsp (row_slot k) (base k) (stack ∙ s) (omega (arith, slot_low k own.0)) (ap (λ m. word m (rsp + row_slot k)) a.2.memory ∙ words k (omega arith) (omega arith)) in
+        let calm : Q u (Load (pointer k) (away 4 (row_slot k))) = at_slot c calmly k own _ u (still c u s b a.2.memory a.2.xmm stack block) refl in (
           d,
           line_append Q (slots_code pointer_code first n) (pointer_code k) c u d a.1 (calm, (d, loads, refl)),
           record {
@@ -387,38 +398,43 @@ module _ (rsp rdi : ℕ) (stack_low : rsp + (frame_size + 8) ≤ 2 ^ 47) (block_
     -- ---- the start of the only row
 
     start_line : (base : ℕ → ℕ) (c : Core) → Calmly c → ((x : ℕ) → InRows x → IsMapped c.memory x) → (k : ℕ) → k < 12 → word c.memory (rdi + base_word k) ≡ Some (base k) → base k < 2 ^ 64
-        → (u : Core) → OnWay c u → (d : Core) × Line Q (start_code k) u d × OnWay c d × (d.gpr (pointer k) ≡ base k) × ((r : ℕ) → r ≢ pointer k → d.gpr r ≡ u.gpr r)
+        → (u : Core) → OnWay c u → (d : Core) × Line Q (start_code k) u d × OnWay c d × (d.gpr (pointer k) ≡ base k) × ((r : ℕ) → r ≢ pointer k → d.gpr r ≡ u.gpr r) × (word d.memory (rsp + row_slot k) ≡ Some (base k)) × ((x : ℕ) → (InSlot k x → ⊥) → d.memory x ≡ u.memory x)
     start_line base c calmly there k l e small u h =
         let v = base k in
         let q = pointer k in
-        let low : k < 14 = omega (arith, l) in
+        let own = array_changes k l in
         let u1 : Core = with_gpr u q v in
         let loads : work (Load q (away 7 (base_word k))) u ≡ Ok u1 = load_word u q 7 rdi (base_word k) v h.block (omega (arith, block_low, l)) (block_word c u h (base_word k) v (omega (arith, l)) e) in
         let stack : u1.gpr 4 ≡ u.gpr 4 = change_other u.gpr q v 4 (λ z. not_4 k (sym z)) in
         let block : u1.gpr 7 ≡ u.gpr 7 = change_other u.gpr q v 7 (λ z. not_7 k (sym z)) in
         let here : u1.gpr q ≡ v = change_same u.gpr q v in
         let w1 = way_with c u u1 h stack block refl refl in
-        let s = store_slot q k low u1 w1.stack (subst (λ n. n < 2 ^ 64) (sym here) small) (λ x r. h.mapped x (there x r)) in
+        let s = store_slot q k own u1 w1.stack (subst (λ n. n < 2 ^ 64) (sym here) small) (λ x r. h.mapped x (there x r)) in
         let d = stored q k u1 in (
           d,
-          (at_block c calmly (base_word k) (omega (arith, l)) _ u h refl, (u1, loads, (at_slot c calmly k low _ u1 w1 refl, (d, s.works, refl)))),
-          way_on c u1 d w1 (record { stack = w1.stack; block = w1.block; outside = λ x out. s.outside x (λ r. out (in_rows k x low r)); mapped = s.mapped; xmm = refl }),
+          (at_block c calmly (base_word k) (omega (arith, l)) _ u h refl, (u1, loads, (at_slot c calmly k own _ u1 w1 refl, (d, s.works, refl)))),
+          way_on c u1 d w1 (record { stack = w1.stack; block = w1.block; outside = λ x out. s.outside x (λ r. out (in_rows k x own r)); mapped = s.mapped; xmm = refl }),
           here,
           λ r ne. change_other u.gpr q v r ne,
+          s.holds ∙ ap Some here,
+          s.outside,
         )
 
-    -- so many slots have begun
+    -- so many slots have begun: their pointers and their words are the bases
     record Begun (base : ℕ → ℕ) (first n : ℕ) (c u d : Core) : Type 0 where
       pointers : (k : ℕ) → first ≤ k → k < first + n → d.gpr (pointer k) ≡ base k
       others : (r : ℕ) → ((k : ℕ) → first ≤ k → k < first + n → r ≢ pointer k) → d.gpr r ≡ u.gpr r
+      bases : (k : ℕ) → first ≤ k → k < first + n → word d.memory (rsp + row_slot k) ≡ Some (base k)
+      slots : (k : ℕ) → k < 14 → (k < first) ⊎ (first + n ≤ k) → word d.memory (rsp + row_slot k) ≡ word u.memory (rsp + row_slot k)
       way : OnWay c d
 
     begun_line : (base : ℕ → ℕ) (c : Core) → Calmly c → ((x : ℕ) → InRows x → IsMapped c.memory x) → (first n : ℕ) → first + n ≤ 12 → ((k : ℕ) → first ≤ k → k < first + n → word c.memory (rdi + base_word k) ≡ Some (base k)) → ((k : ℕ) → first ≤ k → k < first + n → base k < 2 ^ 64)
         → (u : Core) → OnWay c u → (d : Core) × Line Q (slots_code start_code first n) u d × Begun base first n c u d
-    begun_line base c calmly there first zero few words small u h = (u, refl, record { pointers = λ k l m. absurd (omega (arith, l, m)); others = λ r h. refl; way = h })
+    begun_line base c calmly there first zero few words small u h = (u, refl, record { pointers = λ k l m. absurd (omega (arith, l, m)); others = λ r h. refl; bases = λ k l m. absurd (omega (arith, l, m)); slots = λ k l o. refl; way = h })
     begun_line base c calmly there first (suc n) few words small u h =
         let a = begun_line base c calmly there first n (omega (arith, few)) (λ k l m. words k l (omega (arith, m))) (λ k l m. small k l (omega (arith, m))) u h in
         let k = first + n in
+        let low : k < 14 = omega (arith, few) in
         let x = start_line base c calmly there k (omega (arith, few)) (words k (omega arith) (omega arith)) (small k (omega arith) (omega arith)) a.0 a.2.way in (
           x.0,
           line_append Q (slots_code start_code first n) (start_code k) u a.0 x.0 a.1 x.1,
@@ -428,6 +444,11 @@ module _ (rsp rdi : ℕ) (stack_low : rsp + (frame_size + 8) ≤ 2 ^ 47) (block_
                 (λ ne. x.4 (pointer j) (λ e. ne (pointer_one j k e)) ∙ a.2.pointers j l (omega (arith, m, ne)))
                 (cases_eq j k);
             others = λ r h. x.4 r (h k (omega arith) (omega arith)) ∙ a.2.others r (λ j l m. h j l (omega (arith, m)));
+            bases = λ j l m. ⊎_elim
+                (λ e. subst (λ i. word x.0.memory (rsp + row_slot i) ≡ Some (base i)) (sym e) x.5)
+                (λ ne. slot_apart k j low (omega (arith, m, few)) (λ e. ne (sym e)) x.0.memory a.0.memory x.6 ∙ a.2.bases j l (omega (arith, m, ne)))
+                (cases_eq j k);
+            slots = λ j l o. slot_apart k j low l (λ e. ⊎_elim (λ p. omega (arith, p, e)) (λ p. omega (arith, p, e)) o) x.0.memory a.0.memory x.6 ∙ a.2.slots j l (⊎_elim (λ p. inl p) (λ p. inr (omega (arith, p))) o);
             way = x.2;
           },
         )
@@ -437,9 +458,10 @@ module _ (rsp rdi : ℕ) (stack_low : rsp + (frame_size + 8) ≤ 2 ^ 47) (block_
       pub pointers : (k : ℕ) → IsSlot dests sources k → d.gpr (pointer k) ≡ base k
       pub counter : d.gpr 1 ≡ n
       pub tests : test Ne d.flags ≡ Some (not (d.gpr 1 == 0))
+      pub bases : (k : ℕ) → IsSlot dests sources k → word d.memory (rsp + row_slot k) ≡ Some (base k)
       pub way : OnWay c d
 
-    -- the pointers become the block's bases, and the counter the number of elements
+    -- the pointers and the words of slots become the block's bases, and the counter the number of elements
     pub one_row_line : (base : ℕ → ℕ) (n : ℕ) (c : Core) → c.gpr 4 ≡ rsp → c.gpr 7 ≡ rdi → Calmly c → ((x : ℕ) → InRows x → IsMapped c.memory x)
         → ((k : ℕ) → IsSlot dests sources k → word c.memory (rdi + base_word k) ≡ Some (base k)) → ((k : ℕ) → IsSlot dests sources k → base k < 2 ^ 64) → word c.memory (rdi + elements_word) ≡ Some n
         → (d : Core) × Line Q (one_row_code dests sources) c d × OnlyEntered base n c d
@@ -463,6 +485,10 @@ module _ (rsp rdi : ℕ) (stack_low : rsp + (frame_size + 8) ≤ 2 ^ 47) (block_
                 t;
             counter = refl;
             tests = ap (λ x. Some (not (x == 0))) (both_is n);
+            bases = λ k t. ⊎_elim
+                (λ l. z.2.slots k (omega (arith, l, few_dests)) (inl (omega (arith, l, few_dests))) ∙ a.2.bases k (omega arith) (omega (arith, l)))
+                (λ l. z.2.bases k l.0 l.1)
+                t;
             way = way_with c u1 d w1 refl refl refl refl;
           },
         )
@@ -483,9 +509,9 @@ module _ (rsp rdi : ℕ) (stack_low : rsp + (frame_size + 8) ≤ 2 ^ 47) (block_
         let first : work (Load 0 (away 4 (row_slot k))) u ≡ Ok u1 = load_word u 0 4 rsp (row_slot k) v h.stack (omega (arith, slot_low k (omega (arith, l)))) (same ∙ base_is) in
         let second : work (Load 1 (away 7 (stride_word k))) u1 ≡ Ok u2 = load_word u1 1 7 rdi (stride_word k) s h.block (omega (arith, block_low, l)) (block_word c u h (stride_word k) s (omega (arith, l)) stride_is) in
         let fits : (v + s) % 2 ^ 64 < 2 ^ 64 = omega arith in
-        let x = store_slot 0 k (omega (arith, l)) u3 h.stack fits (λ x r. h.mapped x (there x r)) in (
+        let x = store_slot 0 k (array_changes k l) u3 h.stack fits (λ x r. h.mapped x (there x r)) in (
           stored 0 k u3,
-          (at_slot c calmly k (omega (arith, l)) _ u h refl, (u1, first, (at_block c calmly (stride_word k) (omega (arith, l)) _ u1 w1 refl, (u2, second, (at_none c calmly _ u2 w2 refl, (u3, refl, (at_slot c calmly k (omega (arith, l)) _ u3 w3 refl, (stored 0 k u3, x.works, refl)))))))),
+          (at_slot c calmly k (array_changes k l) _ u h refl, (u1, first, (at_block c calmly (stride_word k) (omega (arith, l)) _ u1 w1 refl, (u2, second, (at_none c calmly _ u2 w2 refl, (u3, refl, (at_slot c calmly k (array_changes k l) _ u3 w3 refl, (stored 0 k u3, x.works, refl)))))))),
           record { gpr = λ r p q. change_other u2.gpr 0 ((v + s) % 2 ^ 64) r p ∙ change_other u1.gpr 1 s r q ∙ change_other u.gpr 0 v r p; holds = x.holds; outside = x.outside; mapped = x.mapped; xmm = refl },
         )
 
@@ -499,10 +525,10 @@ module _ (rsp rdi : ℕ) (stack_low : rsp + (frame_size + 8) ≤ 2 ^ 47) (block_
         let w1 = way_with c u u1 h refl refl refl refl in
         let w2 = way_with c u u2 h refl refl refl refl in
         let first : work (Load 0 (away 4 rows_slot)) u ≡ Ok u1 = load_word u 0 4 rsp rows_slot (suc left) h.stack (omega (arith, stack_low)) rows in
-        let s = store_slot 0 13 (omega arith) u2 h.stack (omega (arith, new_is, small)) (λ x r. h.mapped x (there x r)) in
+        let s = store_slot 0 13 rows_change u2 h.stack (omega (arith, new_is, small)) (λ x r. h.mapped x (there x r)) in
         let d = stored 0 13 u2 in (
           d,
-          (at_slot c calmly 13 (omega arith) _ u h refl, (u1, first, (at_none c calmly _ u1 w1 refl, (u2, refl, (at_slot c calmly 13 (omega arith) _ u2 w2 refl, (d, s.works, refl)))))),
+          (at_slot c calmly 13 rows_change _ u h refl, (u1, first, (at_none c calmly _ u1 w1 refl, (u2, refl, (at_slot c calmly 13 rows_change _ u2 w2 refl, (d, s.works, refl)))))),
           record {
             gpr = λ r p q. change_other u1.gpr 0 new r p ∙ change_other u.gpr 0 (suc left) r p;
             has = record {
@@ -510,7 +536,7 @@ module _ (rsp rdi : ℕ) (stack_low : rsp + (frame_size + 8) ≤ 2 ^ 47) (block_
               rows = s.holds ∙ ap Some new_is;
               tests = ap (λ x. Some (not (x == 0))) new_is;
             };
-            way = record { stack = h.stack; block = h.block; outside = λ x out. s.outside x (λ r. out (in_rows 13 x (omega arith) r)); mapped = s.mapped; xmm = refl };
+            way = record { stack = h.stack; block = h.block; outside = λ x out. s.outside x (λ r. out (in_rows 13 x rows_change r)); mapped = s.mapped; xmm = refl };
           },
         )
 

@@ -26,7 +26,7 @@ use Rattle.orc_region.proofs.Block.Keeping.{line_bounded, ins_of}
 use Rattle.orc_asm.proofs.Row.Emulated.{more_rows}
 use Rattle.orc_region.proofs.Calls.Cells.{Arrays, stack_room, call, P, row_base, base_small, first_base, next_base, rows_small, dest_cell, cell_block}
 use Rattle.orc_asm.proofs.Row.Counts.{fine_rows, fine_row_entry, fine_one_row, fine_row_step, rows_count, row_entry_count, one_row_count, row_step_count, rows_free, row_entry_free, one_row_free, row_step_free}
-use Rattle.orc_asm.proofs.Row.Lines.{InRows, OnWay, TouchesFew, HasRows, rows_line, row_entry_line, one_row_line, row_step_line}
+use Rattle.orc_asm.proofs.Row.Lines.{InRows, Changes, array_changes, rows_change, in_rows, OnWay, TouchesFew, HasRows, rows_line, row_entry_line, one_row_line, row_step_line}
 
 weigh_one : (l : List Ins) → weigh (λ i. 1) l ≡ length l
 weigh_one [] = refl
@@ -90,6 +90,7 @@ module _ (f : FunctionValue) (known : Arrays f) (code : Placed) (s : Point) (arg
       pub emulated : rows_of f (call f known code s args back good) r (start s.core.memory) ≡ Ok e
       pub steady : Steady e c
       pub pointers : (k : ℕ) → P f known code s args back good k → c.gpr (pointer k) ≡ slot_base r k
+      pub bases : (k : ℕ) → P f known code s args back good k → word c.memory (rsp + row_slot k) ≡ Some (slot_base r k)
       pub counter : c.gpr 1 ≡ args.n
       pub tests : test Ne c.flags ≡ Some (not (c.gpr 1 == 0))
 
@@ -137,8 +138,8 @@ module _ (f : FunctionValue) (known : Arrays f) (code : Placed) (s : Point) (arg
           ∙ q
 
       -- the words of slots after the elements
-      slot_word : (c d : Core) → ((x : ℕ) → InRows rsp rdi stack_low good.block_low x → d.memory x ≡ c.memory x) → (k v : ℕ) → k < 14 → word c.memory (rsp + row_slot k) ≡ Some v → word d.memory (rsp + row_slot k) ≡ Some v
-      slot_word c d same k v l q = word_same d.memory c.memory (rsp + row_slot k) (omega (arith, stack_low, l)) (λ x a b. same x (omega (arith, a), omega (arith, b, l))) ∙ q
+      slot_word : (c d : Core) → ((x : ℕ) → InRows rsp rdi stack_low good.block_low x → d.memory x ≡ c.memory x) → (k v : ℕ) → Changes rsp rdi stack_low good.block_low k → word c.memory (rsp + row_slot k) ≡ Some v → word d.memory (rsp + row_slot k) ≡ Some v
+      slot_word c d same k v l q = word_same d.memory c.memory (rsp + row_slot k) (omega (arith, stack_low, l.0)) (λ x a b. same x (in_rows rsp rdi stack_low good.block_low k x l (a, b))) ∙ q
 
       slot_few : (k : ℕ) → P f known code s args back good k → k < 12
       slot_few k (inl h) = (let a = known.few.dests in omega (arith, h, a))
@@ -185,7 +186,7 @@ module _ (f : FunctionValue) (known : Arrays f) (code : Placed) (s : Point) (arg
           (base_small f known code s args back good)
           (block_word e c h 0 args.n (omega arith) (ap (λ t. word s.core.memory t) (none rdi) ∙ good.reads.n)) in
           let bounded = line_bounded Q (one_row_code dests sources) c a.0 (ins_of (one_row_code dests sources) (fine_one_row dests sources known.few.dests known.few.sources)) a.1 h.bounded in
-          (a.0, a.1, record { emulated = refl; steady = on_way e c a.0 h a.2.way bounded; pointers = λ k p. a.2.pointers k p ∙ sym (first_base f known code s args back good k p); counter = a.2.counter; tests = a.2.tests })
+          (a.0, a.1, record { emulated = refl; steady = on_way e c a.0 h a.2.way bounded; pointers = λ k p. a.2.pointers k p ∙ sym (first_base f known code s args back good k p); bases = λ k p. a.2.bases k p ∙ ap Some (sym (first_base f known code s args back good k p)); counter = a.2.counter; tests = a.2.tests })
         where
           none : (a : ℕ) → a + 0 ≡ a
           none a = omega arith
@@ -203,7 +204,7 @@ module _ (f : FunctionValue) (known : Arrays f) (code : Placed) (s : Point) (arg
             xmm = a.2.xmm;
           } in
           let bounded = line_bounded Q (row_entry_code dests sources) c d (ins_of (row_entry_code dests sources) (fine_row_entry dests sources known.few.dests known.few.sources)) a.1 h.steady.bounded in
-          (d, a.1, record { emulated = h.emulated; steady = on_way e c d h.steady still bounded; pointers = a.2.pointers; counter = a.2.counter; tests = a.2.tests }, a.2.memory)
+          (d, a.1, record { emulated = h.emulated; steady = on_way e c d h.steady still bounded; pointers = a.2.pointers; bases = λ k p. ap (λ m. word m (rsp + row_slot k)) a.2.memory ∙ h.has.bases k p; counter = a.2.counter; tests = a.2.tests }, a.2.memory)
         where
           none : (a : ℕ) → a + 0 ≡ a
           none a = omega arith
@@ -213,9 +214,9 @@ module _ (f : FunctionValue) (known : Arrays f) (code : Placed) (s : Point) (arg
           let slots : (y : ℕ) → InRows rsp rdi stack_low good.block_low y → d.memory y ≡ c.memory y = λ y i. x.slots y i ∙ ap (λ f. f y) same in
           let a = row_step_line rsp rdi stack_low good.block_low Q dests sources known.few.dests known.few.sources block_apart (slot_base r) args.stride left d x.steady.stack x.steady.block (calm t d x.steady)
           (λ y i. x.steady.frame y (in_frame y i))
-          (λ k p. slot_word c d slots k (slot_base r k) (few_more k (slot_few k p)) (h.has.bases k p))
+          (λ k p. slot_word c d slots k (slot_base r k) (array_changes rsp rdi stack_low good.block_low k (slot_few k p)) (h.has.bases k p))
           (λ k p. block_word t d x.steady (stride_word k) (args.stride k) (in_block k (slot_few k p)) (good.reads.strides k p))
-          (slot_word c d slots 13 (suc left) (omega arith) h.has.rows)
+          (slot_word c d slots 13 (suc left) (rows_change rsp rdi stack_low good.block_low) h.has.rows)
           (few_left left r (rows (subject_of f) args) h.all (rows_small f known code s args back good)) in
           let v = a.0 in
           let bounded = line_bounded Q (row_step_code dests sources) d v (ins_of (row_step_code dests sources) (fine_row_step dests sources known.few.dests known.few.sources)) a.1 x.steady.bounded in (
@@ -233,9 +234,6 @@ module _ (f : FunctionValue) (known : Arrays f) (code : Placed) (s : Point) (arg
             },
           )
         where
-          few_more : (k : ℕ) → k < 12 → k < 14
-          few_more k l = omega (arith, l)
-
           in_block : (k : ℕ) → k < 12 → stride_word k + 8 ≤ block_size
           in_block k l = omega (arith, l)
 

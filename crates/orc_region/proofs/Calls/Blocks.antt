@@ -25,7 +25,7 @@ use Rattle.orc_frame.specs.Subject.{Call as Arguments, IsArray, rows, cell}
 use Rattle.orc_frame.specs.GoodCall.{GoodCall, lowered}
 use Rattle.orc_frame.specs.Function.{IsCellByte, subject_of}
 use Rattle.orc_region.specs.Code.{Plan, IsBlock, plan_with, far_by, aligned_first}
-use Rattle.orc_region.specs.Elements.{meant_call, HasCome, Holds, PointsAt, InElements, InWords, IsDest, IsQuiet, IsAlone, Stands, Done, DoesElements}
+use Rattle.orc_region.specs.Elements.{meant_call, HasCome, Holds, PointsAt, RowStands, InElements, InFarElements, InWords, IsDest, IsQuiet, IsAlone, Stands, Done, DoesElements}
 use Rattle.orc_region.specs.Stores.{StoresFirst}
 use Rattle.orc_region.proofs.Block.Cells.{OfDests, AtElements}
 use Rattle.orc_region.proofs.Block.Emulated.{state}
@@ -72,7 +72,7 @@ module _ (target : CodeTarget) (f : FunctionValue) (is : is_function f ≡ true)
   fits = size_of_slot f.vars
 
   module _ (code : Placed) (s : Point) (args : Arguments) (back : ℕ) (good : GoodCall (subject_of f) code s args back) (r : ℕ) (row : r < rows (subject_of f) args) (i : ℕ) (within : i + count ≤ args.n) (at_16 : aligned ≡ true → IsDest f 0 → cell (subject_of f) args 0 r i 0 % 16 ≡ 0)
-      (e : State) (come : HasCome f args s.core.memory r i e) (c : Core) (h : Holds f at s.core args e c) (points : PointsAt f args r i c) where
+      (e : State) (come : HasCome f args s.core.memory r i e) (c : Core) (h : Holds f at s.core args e c) (points : PointsAt f args r i c) (stands : has_far f ≡ true → RowStands f args r s.core c) where
     abbrev Base : ℕ → ℕ
     Base = base f is known code s args back good r row
 
@@ -169,8 +169,8 @@ module _ (target : CodeTarget) (f : FunctionValue) (is : is_function f ≡ true)
     quietly u only a nd nf = only a (λ t. nd (these_dests a t)) (λ t. nf (changed_frame f is known code s args back good at a t))
 
     touched : (u : Core) (ins : Ins) → TouchesPart count (base_from args.n Base Slots (numbers f is known code s args back good at) low plan Emulates (InFrame low) set (s.core.gpr 7) c.memory count i) fits Slots low Free u ins
-        → (a : ℕ) → Touches ins u a → These (IsArray (subject_of f)) a ⊎ InFrame low a
-    touched u ins (inl g) a t = inr (g a t)
+        → (a : ℕ) → Touches ins u a → These (IsArray (subject_of f)) a ⊎ (InFarElements f args r i count a ⊎ InFrame low a)
+    touched u ins (inl g) a t = inr (inr (g a t))
     touched u ins (inr g) a t = inl (these_arrays g.0 g.1 a (g.3 a t))
 
     on_way : (u : Core) (ins : Ins) → Here u ins → Way u ins
@@ -186,7 +186,7 @@ module _ (target : CodeTarget) (f : FunctionValue) (is : is_function f ≡ true)
     Made from = (y : Done f at code s.core args r i count (cost_for f target) (subject_of f).operands from list c) × ((z : ℕ) → z ≢ 0 → y.d.gpr z ≡ c.gpr z) × (Wanted → Each (λ m. StoresFirst (subject_of f) args m → ⊥) y.way)
 
     made : (from : ℕ) → Stands code from list → Made from
-    made from stands =
+    made from placed =
         let y = block_steps args.n Base Slots (numbers f is known code s args back good at) low plan Emulates (InFrame low) set (s.core.gpr 7) c.memory count Free is_count.some (fit_actions f is at places count is_count target x.0 x.1)
         (far_by 0 fits) (aligned_first stored) (λ a b. (a, b)) 0 (λ k. refl) (ins_of_block f is at places count is_count stored target x.0 x.1) i i (let z : i ≡ 0 + i = omega arith in z) (aligns stored refl) e.memory (totals_in f is known code s args back good at e c h) c within begins reached in
         let d = y.2 in
@@ -196,7 +196,7 @@ module _ (target : CodeTarget) (f : FunctionValue) (is : is_function f ≡ true)
         let emulated = y.3 in
         let t : State = state memory emulated.temps emulated.sums in
         let does : Does Way (Plain list) c list d = (line_map Here Way on_way list c d line, refl) in
-        let z = doing f code s args back good r i count Wanted c at (Plain list) (all_allowed list (block_fine f is at places count is_count stored target list x)) from stands (cost_for f target) (subject_of f).operands list d does (record {
+        let z = doing f code s args back good r i count Wanted c at (Plain list) (all_allowed list (block_fine f is at places count is_count stored target list x)) from placed (cost_for f target) (subject_of f).operands list d does (record {
           e = t;
           come = (come.0, come.1, subst (λ n. row_of f (meant_call f args) r n come.0 ≡ Ok t) (more_elements i count) emulated.is);
           short = block_few f is at places count is_count stored target list x;
@@ -208,6 +208,6 @@ module _ (target : CodeTarget) (f : FunctionValue) (is : is_function f ≡ true)
         (z.0, λ n ne. ap (λ (v : Core). v.gpr n) z.1 ∙ y.6 n ne, z.2)
 
   pub does_elements : DoesElements f target at count aligned list
-  does_elements code s args back good from stands r row i within at_16 e come c h points =
-      let y = made code s args back good r row i within at_16 e come c h points from stands in
+  does_elements code s args back good from placed r row i within at_16 e come c h points stands =
+      let y = made code s args back good r row i within at_16 e come c h points stands from placed in
       (y.0, y.1, λ a b alone. y.2 (a, b, alone))

@@ -18,7 +18,7 @@ use Rattle.orc_frame.specs.Subject.{Call as Arguments, IsArray}
 use Rattle.orc_frame.specs.GoodCall.{GoodCall, lowered}
 use Rattle.orc_frame.specs.Function.{subject_of}
 use Rattle.orc_region.specs.Stores.{TouchesCell, StoresFirst}
-use Rattle.orc_region.specs.Elements.{HasCome, Holds, InElements, IsQuiet, InWords, Stands, TouchesThese, Done}
+use Rattle.orc_region.specs.Elements.{HasCome, Holds, InElements, InFarElements, IsQuiet, InWords, Stands, TouchesThese, Done}
 use Rattle.orc_region.proofs.Calls.Wide.{GoesWide, cell_weight}
 
 -- elements i to i + count - 1 of row r are done from core c; A is where no movdqu stores to the first dest
@@ -27,7 +27,7 @@ module _ (f : FunctionValue) (code : Placed) (s : Point) (args : Arguments) (bac
   pub record OnWay (u : Core) (ins : Ins) : Type 0 where
     pub stack : u.gpr 4 ≡ lowered s.core
     pub quiet : IsQuiet f s.core args r i count c u
-    pub inside : (a : ℕ) → Touches ins u a → InElements (IsArray (subject_of f)) f args r i count a ⊎ InFrame (lowered s.core) a
+    pub inside : (a : ℕ) → Touches ins u a → InElements (IsArray (subject_of f)) f args r i count a ⊎ (InFarElements f args r i count a ⊎ InFrame (lowered s.core) a)
     pub wide : GoesWide (subject_of f) args A u ins
 
   -- what is left where these instructions were done

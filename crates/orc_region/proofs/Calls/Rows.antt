@@ -8,7 +8,7 @@ use Rattle.std.proofs.lemmas.Bool.{ltb-true}
 use Rattle.orc_bits.specs.Memory.{Memory}
 use Rattle.orc_ops.specs.declared.target.Target.{Target as CodeTarget}
 use Rattle.orc_program.specs.declared.program.VarKind.TheVariants as kind
-use Rattle.orc_program.specs.Program.{FunctionValue, count_of}
+use Rattle.orc_program.specs.Program.{FunctionValue, count_of, has_far}
 use Rattle.orc_program.specs.Facts.{facts_of}
 use Rattle.orc_program.specs.Kept.{is_function}
 use Rattle.orc_program.specs.Meaning.{State, row_of}
@@ -33,7 +33,7 @@ use Rattle.orc_frame.specs.GoodCall.{GoodCall, lowered}
 use Rattle.orc_frame.specs.Function.{IsCellByte, subject_of}
 use Rattle.orc_region.specs.Regions.{TurnParts}
 use Rattle.orc_region.specs.Code.{Action, Plan, AreActions, AreParts, IsPart, seats_of, IsTurnOf, Turns, IsElements, plan_with, aligned_first, shift_of, is_filled, blocks_of, turns_flow, from_first, from_boundary, fills, elements_flow, elements_of}
-use Rattle.orc_region.specs.Elements.{meant_call, HasCome, Holds, PointsAt, InElements, IsDest, IsQuiet, IsAlone, DoesRow, arrays_of}
+use Rattle.orc_region.specs.Elements.{meant_call, HasCome, Holds, PointsAt, RowStands, InElements, InFarElements, IsDest, IsQuiet, IsAlone, DoesRow, arrays_of}
 use Rattle.orc_region.proofs.Block.Cells.{OfDests}
 use Rattle.orc_region.proofs.Block.Emulated.{state}
 use Rattle.orc_region.proofs.Block.Touched.{TouchesPart}
@@ -125,7 +125,7 @@ module _ {target : CodeTarget} (f : FunctionValue) (is : is_function f ≡ true)
     abbrev low : ℕ
     low = lowered s.core
 
-    module _ (e : State) (come : HasCome f args s.core.memory r 0 e) (c : Core) (h : Holds f at s.core args e c) (points : PointsAt f args r 0 c) (counter : c.gpr 1 ≡ args.n) where
+    module _ (e : State) (come : HasCome f args s.core.memory r 0 e) (c : Core) (h : Holds f at s.core args e c) (points : PointsAt f args r 0 c) (stands : has_far f ≡ true → RowStands f args r s.core c) (counter : c.gpr 1 ≡ args.n) where
       abbrev Emulates : ℕ → Memory → (ℕ → ℕ) → Type 0
       Emulates = Emul f is known code s args back good r row come.0
 
@@ -204,8 +204,8 @@ module _ {target : CodeTarget} (f : FunctionValue) (is : is_function f ≡ true)
       quietly : (u : Core) → ((a : ℕ) → (IsRowDest a → ⊥) → (InChanged low (numbers f is known code s args back good at).sums a → ⊥) → (InFree a → ⊥) → u.memory a ≡ c.memory a) → IsQuiet f s.core args r 0 args.n c u
       quietly u w a nd nf = w a (λ t. nd (row_dests a t)) (λ t. nf (changed_frame f is known code s args back good at a t)) (λ t. nf (free_frame a t))
 
-      touched : (u : Core) (ins : Ins) → TouchesPart args.n Base size Slots low Free u ins → (a : ℕ) → Touches ins u a → These (IsArray (subject_of f)) a ⊎ InFrame low a
-      touched u ins (inl g) a t = inr (g a t)
+      touched : (u : Core) (ins : Ins) → TouchesPart args.n Base size Slots low Free u ins → (a : ℕ) → Touches ins u a → These (IsArray (subject_of f)) a ⊎ (InFarElements f args r 0 args.n a ⊎ InFrame low a)
+      touched u ins (inl g) a t = inr (inr (g a t))
       touched u ins (inr g) a t = (let y = g.3 a t in inl (g.0, g.1, y.0, omega arith, omega (arith, y.1), y.2, y.3, y.4 ∙ cell_at f known code s args back good r row g.0 g.1 y.0 y.1 y.2 y.3))
 
       calmly : (u : Core) (ins : Ins) → Calm u → TouchesPart args.n Base size Slots low Free u ins → Q u ins
@@ -374,11 +374,11 @@ module _ {target : CodeTarget} (f : FunctionValue) (is : is_function f ≡ true)
   -- ---- wherever they stand
 
   pub does_flow : DoesRow f target at (flat (elements_of f parts wide aligned large))
-  does_flow code s args back good from stands r row e come c h points counter =
-      let y = row_does code s args back good r row e come c h points counter in
+  does_flow code s args back good from placed r row e come c h points stands counter =
+      let y = row_does code s args back good r row e come c h points stands counter in
       let l = y.3 in
       let steps : 2 + most_turn f target ≡ cost_for f target + arrays_of f + 6 = omega arith in
-      let z = doing f code s args back good r 0 args.n (Wanted code s args back good r row) c at (elements_of f parts wide aligned large) (fits_elements f is at parts wide aligned large x).allowed from stands
+      let z = doing f code s args back good r 0 args.n (Wanted code s args back good r row) c at (elements_of f parts wide aligned large) (fits_elements f is at parts wide aligned large x).allowed from placed
       (most_besides f + turns f args.n * (cost_for f target + arrays_of f + 6)) (turns f args.n * some) y.0 y.1 y.2 (record { e = l.e; come = l.come; short = subst (λ k. length y.0 ≤ most_besides f + turns f args.n * k) steps l.short; light = l.light; quiet = l.quiet; holds = l.holds; words = l.words }) in
       (z.0, λ full reached alone. z.2 (full, reached, alone))
 
