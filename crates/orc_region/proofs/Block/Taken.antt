@@ -1,5 +1,5 @@
 -- Registers that are taken over: nothing that follows reads what stood there.
-use Rattle.std.proofs.Common.{◌≡◌, ℕ, ◌*◌, ◌==◌, Bool, true, false, true≢false, not, ◌&&◌, ◌||◌, if◌then◌else◌, List, [], ◌∷◌, slice_index, Option, Some, None, refl, sym, ap, ap₂, ◌∙◌, subst, ◌⊎◌, inl, inr, ⊎_elim}
+use Rattle.std.proofs.Common.{◌≡◌, ℕ, ◌*◌, ◌==◌, Bool, true, false, true≢false, not, ◌&&◌, ◌||◌, if◌then◌else◌, List, [], ◌∷◌, map, slice_index, Option, Some, None, refl, sym, ap, ap₂, ◌∙◌, subst, ◌⊎◌, inl, inr, ⊎_elim}
 use Rattle.std.proofs.lemmas.Bool.{cases_eq, eqb-true}
 use Rattle.orc_bits.specs.Lanes.{change}
 use Rattle.orc_bits.proofs.LaneLaws.{change_other, change_same, eq_true}
@@ -14,7 +14,7 @@ use Rattle.orc_plan.specs.declared.steps.Item.TheVariants as item
 use Rattle.orc_plan.specs.declared.steps.Step.{Step}
 use Rattle.orc_region.proofs.Block.Places.{by_source}
 use Rattle.orc_region.proofs.Block.Sums.{by_pattern}
-use Rattle.orc_region.specs.Code.{Action, source_of, far_sources, sources_of, Seats, Source, FromArray, FromPattern, FromResident, FromPlace, FromSlot, FromFar, Target, ToArray, ToSum, ToResident, ToPlace, ToSlot, slot_place, AreActions, is_from, is_to, some_from, some_to, is_free, is_last, is_beside, is_first_taken, is_second_taken}
+use Rattle.orc_region.specs.Code.{Action, source_of, target_of, far_sources, sources_of, Seats, Source, FromArray, FromPattern, FromResident, FromPlace, FromSlot, FromFar, Target, ToArray, ToSum, ToResident, ToPlace, ToSlot, slot_place, AreActions, is_from, is_to, some_from, some_to, is_free, is_last, is_beside, is_first_taken, is_second_taken}
 use Rattle.orc_region.proofs.Block.Cells.{Numbers, live_target, live_targets, live_act, IsFrom, AreFrom, IsKnown, AllKnown}
 
 -- of these actions none reads what stands at the place: before one does, one makes a value there
@@ -63,12 +63,32 @@ AllTaken (a ∷ rest) = AreTaken a.takes_first a.takes_second rest a.sources × 
 
 -- ---- the actions of steps
 
-free_same : (target : CodeTarget) (seats : Seats) (count : ℕ) (steps : List Step) (actions : List Action) (p : ℕ) → AreActions target seats count steps actions → is_free seats p steps ≡ is_free_in p actions
-free_same target seats count [] [] p is = refl
-free_same target seats count [] (a ∷ rest) p is = absurd is
-free_same target seats count (s ∷ steps) [] p is = absurd is
-free_same target seats count (s ∷ steps) (a ∷ rest) p is =
-    ap₂ (λ x y. not x && y) (ap (some_from p) (sym is.0.0.sources)) (ap₂ (λ x y. x || y) (ap (some_to p) (sym is.0.0.to)) (free_same target seats count steps rest p is.1))
+-- a far load reads no register that a source of its step is in
+far_unread : (p : ℕ) (load : Far) (is : List Item) → not (some_from p (far_sources load is)) ≡ true
+far_unread p load [] = refl
+far_unread p load (item.Array slot ∷ scalars) = refl
+far_unread p load (item.Value v ∷ is) = refl
+far_unread p load (item.Acc slot size ∷ is) = refl
+far_unread p load (item.Pattern j ∷ is) = refl
+
+unread : (seats : Seats) (p : ℕ) (far : Option Far) (is : List Item) → not (some_from p (map (source_of seats) is)) ≡ true → not (some_from p (sources_of seats far is)) ≡ true
+unread seats p None is h = h
+unread seats p (Some load) is h = far_unread p load is
+
+-- what no step reads no action reads
+free_in : (target : CodeTarget) (seats : Seats) (count : ℕ) (steps : List Step) (actions : List Action) (p : ℕ) → AreActions target seats count steps actions → is_free seats p steps ≡ true → is_free_in p actions ≡ true
+free_in target seats count [] [] p is h = refl
+free_in target seats count [] (a ∷ rest) p is h = absurd is
+free_in target seats count (s ∷ steps) [] p is h = absurd is
+free_in target seats count (s ∷ steps) (a ∷ rest) p is h =
+    let parts = both (not (some_from p (map (source_of seats) s.sources.items))) (some_to p (map (target_of seats.places) s.results.items) || is_free seats p steps) h in
+    ap₂ (λ x y. x && y)
+    (ap (λ ss. not (some_from p ss)) is.0.0.sources ∙ unread seats p (far_of s.op) s.sources.items parts.0)
+    (ap (λ ts. some_to p ts || is_free_in p rest) is.0.0.to ∙ later (some_to p (map (target_of seats.places) s.results.items)) parts.1)
+  where
+    later : (b : Bool) → (b || is_free seats p steps) ≡ true → (b || is_free_in p rest) ≡ true
+    later true e = refl
+    later false e = free_in target seats count steps rest p is.1 e
 
 not_yes : (b : Bool) → not b ≡ true → b ≡ false
 not_yes false h = refl
@@ -99,10 +119,10 @@ sources_alone seats None [] = tt
 sources_alone seats None (i ∷ []) = tt
 sources_alone seats None (i ∷ j ∷ is) = (source_near seats i, source_near seats j)
 
-module _ (seats : Seats) (later : List Step) (rest : List Action) (free : (p : ℕ) → is_free seats p later ≡ is_free_in p rest) where
+module _ (seats : Seats) (later : List Step) (rest : List Action) (free : (p : ℕ) → is_free seats p later ≡ true → is_free_in p rest ≡ true) where
   may_take : (b : Bool) (s : Source) → (b ≡ true → is_last seats later s ≡ true) → MayTake b rest s
   may_take false s h = tt
-  may_take true (FromPlace p) h = sym (free p) ∙ h refl
+  may_take true (FromPlace p) h = free p (h refl)
   may_take true (FromArray k) h = absurd (true≢false (sym (h refl)))
   may_take true (FromPattern j) h = absurd (true≢false (sym (h refl)))
   may_take true (FromResident j g) h = absurd (true≢false (sym (h refl)))
@@ -122,7 +142,7 @@ all_taken target seats count [] [] is = tt
 all_taken target seats count [] (a ∷ rest) is = absurd is
 all_taken target seats count (s ∷ steps) [] is = absurd is
 all_taken target seats count (s ∷ steps) (a ∷ rest) is =
-    (of_sources seats steps rest (λ p. free_same target seats count steps rest p is.1) a.takes_first a.takes_second a.sources is.0.1.first is.0.1.second (subst AreAlone (sym is.0.0.sources) (sources_alone seats (far_of s.op) s.sources.items)), all_taken target seats count steps rest is.1)
+    (of_sources seats steps rest (λ p. free_in target seats count steps rest p is.1) a.takes_first a.takes_second a.sources is.0.1.first is.0.1.second (subst AreAlone (sym is.0.0.sources) (sources_alone seats (far_of s.op) s.sources.items)), all_taken target seats count steps rest is.1)
 
 -- ---- what is known of places that nothing reads
 

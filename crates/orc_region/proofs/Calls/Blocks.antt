@@ -29,7 +29,8 @@ use Rattle.orc_region.specs.Elements.{meant_call, HasCome, Holds, PointsAt, RowS
 use Rattle.orc_region.specs.Stores.{StoresFirst}
 use Rattle.orc_region.proofs.Block.Cells.{OfDests, AtElements}
 use Rattle.orc_region.proofs.Block.Emulated.{state}
-use Rattle.orc_region.proofs.Block.Touched.{InSlot, TouchesPart}
+use Rattle.orc_region.proofs.Block.Fars.{InFars, FarRow}
+use Rattle.orc_region.proofs.Block.Touched.{InSlot, TouchesTurn}
 use Rattle.orc_region.proofs.Checked.Fits.{some_size, slot_size}
 use Rattle.orc_region.proofs.Checked.Several.{IsCount}
 use Rattle.orc_region.proofs.Checked.Slots.{limits}
@@ -116,6 +117,9 @@ module _ (target : CodeTarget) (f : FunctionValue) (is : is_function f ≡ true)
     abbrev Within : ℕ → Memory → (ℕ → ℕ) → Core → Type 0
     Within = Inside args.n Base Slots (numbers f is known code s args back good at) low plan Emulates (InFrame low) set (s.core.gpr 7) c.memory
 
+    far_row : FarRow args.n Base (numbers f is known code s args back good at) low (s.core.gpr 7) c.memory
+    far_row = ?
+
     begins : Within i e.memory (totals_in f is known code s args back good at e c h) c
     begins = record {
       pointers = λ k hk. points k hk ∙ from_row (args.base k + r * args.stride k) (i * fits k);
@@ -125,6 +129,7 @@ module _ (target : CodeTarget) (f : FunctionValue) (is : is_function f ≡ true)
       mapped = λ a w. let m = row_cell a w in subst (λ o. is_some o ≡ true) (h.agree a (cell_frame f known code s args back good a m)) (h.mapped a (mapped f known code s args back good a m));
       framed = framed_in f is known code s args back good at e c h;
       bounded = h.bounded;
+      row = far_row;
     }
 
     reached : Emulates i e.memory (totals_in f is known code s args back good at e c h)
@@ -134,6 +139,10 @@ module _ (target : CodeTarget) (f : FunctionValue) (is : is_function f ≡ true)
 
     abbrev These : (ℕ → Type 0) → ℕ → Type 0
     These D = InElements D f args r i count
+
+    -- what far loads read for them
+    far_elements : (a : ℕ) → InFars Base (numbers f is known code s args back good at) i count a → InFarElements f args r i count a
+    far_elements = ?
 
     abbrev AtThese : ℕ → Type 0
     AtThese = AtElements args.n Base fits (OfDests Slots) i count
@@ -168,17 +177,18 @@ module _ (target : CodeTarget) (f : FunctionValue) (is : is_function f ≡ true)
     quietly : (u : Core) → ((a : ℕ) → (AtThese a → ⊥) → (InChanged low (numbers f is known code s args back good at).sums a → ⊥) → u.memory a ≡ c.memory a) → IsQuiet f s.core args r i count c u
     quietly u only a nd nf = only a (λ t. nd (these_dests a t)) (λ t. nf (changed_frame f is known code s args back good at a t))
 
-    touched : (u : Core) (ins : Ins) → TouchesPart count (base_from args.n Base Slots (numbers f is known code s args back good at) low plan Emulates (InFrame low) set (s.core.gpr 7) c.memory count i) fits Slots low Free u ins
+    touched : (u : Core) (ins : Ins) → TouchesTurn count (base_from args.n Base Slots (numbers f is known code s args back good at) low plan Emulates (InFrame low) set (s.core.gpr 7) c.memory count i) fits Slots low Free Base (numbers f is known code s args back good at) i count u ins
         → (a : ℕ) → Touches ins u a → These (IsArray (subject_of f)) a ⊎ (InFarElements f args r i count a ⊎ InFrame low a)
-    touched u ins (inl g) a t = inr (inr (g a t))
-    touched u ins (inr g) a t = inl (these_arrays g.0 g.1 a (g.3 a t))
+    touched u ins (inl (inl g)) a t = inr (inr (g a t))
+    touched u ins (inl (inr g)) a t = inl (these_arrays g.0 g.1 a (g.3 a t))
+    touched u ins (inr g) a t = ⊎_elim (λ x. inr (inr (x.1, x.2))) (λ x. inr (inl (far_elements a x.1))) (g.0 a t)
 
     on_way : (u : Core) (ins : Ins) → Here u ins → Way u ins
     on_way u ins q = record {
       stack = q.calm.stack;
       quiet = quietly u q.only;
       inside = touched u ins q.touches;
-      wide = part_wide f known code s args back good Wanted (λ w. w.2) r row Free not_free u ins
+      wide = part_wide f known code s args back good Wanted (λ w. w.2) r row Free not_free (numbers f is known code s args back good at) u ins
           (touches_wide args.n Base Slots (numbers f is known code s args back good at) low plan Emulates (InFrame low) set (s.core.gpr 7) c.memory count Free i u ins within q.touches);
     }
 

@@ -1,5 +1,5 @@
 -- The loops of a row do the elements of a row of a good call.
-use Rattle.std.proofs.Common.{◌≡◌, ℕ, ◌+◌, ◌-◌, ◌*◌, ◌/◌, ◌%◌, ◌^◌, ◌<◌, ◌≤◌, ◌==◌, min, le_refl, nat_lt, nat_le, Bool, true, false, true≢false, if◌then◌else◌, List, length, slice_index, Ok, is_some, refl, sym, ap, ap₂, ◌∙◌, subst, arith, mul-le-mul_left, ◌⊎◌, inl, inr}
+use Rattle.std.proofs.Common.{◌≡◌, ℕ, ◌+◌, ◌-◌, ◌*◌, ◌/◌, ◌%◌, ◌^◌, ◌<◌, ◌≤◌, ◌==◌, min, le_refl, nat_lt, nat_le, Bool, true, false, true≢false, if◌then◌else◌, List, length, slice_index, Ok, is_some, refl, sym, ap, ap₂, ◌∙◌, subst, arith, mul-le-mul_left, ◌⊎◌, inl, inr, ⊎_elim}
 use Rattle.std.specs.Int.{cast_unsigned, cast_signed, w64}
 use Rattle.std.proofs.Math.Nat.{mul-add, mul-le-mul_right}
 use Rattle.std.proofs.lemmas.Int.{of_z-to_z}
@@ -36,7 +36,8 @@ use Rattle.orc_region.specs.Code.{Action, Plan, AreActions, AreParts, IsPart, se
 use Rattle.orc_region.specs.Elements.{meant_call, HasCome, Holds, PointsAt, RowStands, InElements, InFarElements, IsDest, IsQuiet, IsAlone, DoesRow, arrays_of}
 use Rattle.orc_region.proofs.Block.Cells.{OfDests}
 use Rattle.orc_region.proofs.Block.Emulated.{state}
-use Rattle.orc_region.proofs.Block.Touched.{TouchesPart}
+use Rattle.orc_region.proofs.Block.Fars.{InFars, FarRow}
+use Rattle.orc_region.proofs.Block.Touched.{TouchesTurn}
 use Rattle.orc_region.proofs.Built.Turns.{fits_elements}
 use Rattle.orc_region.proofs.Checked.Several.{IsCount, share_count, lanes_count}
 use Rattle.orc_region.proofs.Row.Gaps.{AtSixteen, turns_behind}
@@ -153,6 +154,9 @@ module _ {target : CodeTarget} (f : FunctionValue) (is : is_function f ≡ true)
       row_cell : (a : ℕ) → IsRowCell a → IsCellByte f (meant f is known code s args back good) a
       row_cell a w = subst (IsCellByte f (meant f is known code s args back good)) (sym w.6) (cell_cells f known code s args back good r row w.0 w.1 w.2 w.3 w.4 w.5)
 
+      far_row : FarRow args.n Base (numbers f is known code s args back good at) low (s.core.gpr 7) c.memory
+      far_row = ?
+
       begins : Within 0 e.memory (totals_in f is known code s args back good at e c h) c
       begins = record {
         pointers = λ k hk. points k hk ∙ from_row (args.base k + r * args.stride k) (0 * size k);
@@ -162,12 +166,17 @@ module _ {target : CodeTarget} (f : FunctionValue) (is : is_function f ≡ true)
         mapped = λ a w. let m = row_cell a w in subst (λ o. is_some o ≡ true) (h.agree a (cell_frame f known code s args back good a m)) (h.mapped a (mapped f known code s args back good a m));
         framed = framed_in f is known code s args back good at e c h;
         bounded = h.bounded;
+        row = far_row;
       }
 
       -- ---- the cells of the row
 
       abbrev These : (ℕ → Type 0) → ℕ → Type 0
       These D = InElements D f args r 0 args.n
+
+      -- what far loads read for them
+      far_elements : (a : ℕ) → InFars Base (numbers f is known code s args back good at) 0 args.n a → InFarElements f args r 0 args.n a
+      far_elements = ?
 
       dest_few : (k : ℕ) → OfDests Slots k → IsDest f k
       dest_few k (inl l, few) = l
@@ -204,16 +213,17 @@ module _ {target : CodeTarget} (f : FunctionValue) (is : is_function f ≡ true)
       quietly : (u : Core) → ((a : ℕ) → (IsRowDest a → ⊥) → (InChanged low (numbers f is known code s args back good at).sums a → ⊥) → (InFree a → ⊥) → u.memory a ≡ c.memory a) → IsQuiet f s.core args r 0 args.n c u
       quietly u w a nd nf = w a (λ t. nd (row_dests a t)) (λ t. nf (changed_frame f is known code s args back good at a t)) (λ t. nf (free_frame a t))
 
-      touched : (u : Core) (ins : Ins) → TouchesPart args.n Base size Slots low Free u ins → (a : ℕ) → Touches ins u a → These (IsArray (subject_of f)) a ⊎ (InFarElements f args r 0 args.n a ⊎ InFrame low a)
-      touched u ins (inl g) a t = inr (inr (g a t))
-      touched u ins (inr g) a t = (let y = g.3 a t in inl (g.0, g.1, y.0, omega arith, omega (arith, y.1), y.2, y.3, y.4 ∙ cell_at f known code s args back good r row g.0 g.1 y.0 y.1 y.2 y.3))
+      touched : (u : Core) (ins : Ins) → TouchesTurn args.n Base size Slots low Free Base (numbers f is known code s args back good at) 0 args.n u ins → (a : ℕ) → Touches ins u a → These (IsArray (subject_of f)) a ⊎ (InFarElements f args r 0 args.n a ⊎ InFrame low a)
+      touched u ins (inl (inl g)) a t = inr (inr (g a t))
+      touched u ins (inr g) a t = ⊎_elim (λ x. inr (inr (x.1, x.2))) (λ x. inr (inl (far_elements a x.1))) (g.0 a t)
+      touched u ins (inl (inr g)) a t = (let y = g.3 a t in inl (g.0, g.1, y.0, omega arith, omega (arith, y.1), y.2, y.3, y.4 ∙ cell_at f known code s args back good r row g.0 g.1 y.0 y.1 y.2 y.3))
 
-      calmly : (u : Core) (ins : Ins) → Calm u → TouchesPart args.n Base size Slots low Free u ins → Q u ins
+      calmly : (u : Core) (ins : Ins) → Calm u → TouchesTurn args.n Base size Slots low Free Base (numbers f is known code s args back good at) 0 args.n u ins → Q u ins
       calmly u ins w t = record {
         stack = w.stack;
         quiet = quietly u w.quiet;
         inside = touched u ins t;
-        wide = part_wide f known code s args back good Wanted (λ y. y.2) r row Free (λ n y. n y) u ins t;
+        wide = part_wide f known code s args back good Wanted (λ y. y.2) r row Free (λ n y. n y) (numbers f is known code s args back good at) u ins t;
       }
 
       abbrev Place : ℕ → Core → Type 0

@@ -1,10 +1,11 @@
 -- What the instructions of a row touch in a good call: cells by the pointer of one array alone, and the first dest's by no movdqu store where that can be.
-use Rattle.std.proofs.Common.{◌≡◌, ◌≢◌, ℕ, ◌<◌, ◌==◌, ◌||◌, not, Bool, true, if◌then◌else◌, sym, ap, ap₂, ◌∙◌, subst, arith, ◌⊎◌, inl, inr, ⊎_elim}
+use Rattle.std.proofs.Common.{◌≡◌, ◌≢◌, ℕ, ◌<◌, ◌==◌, ◌||◌, not, Bool, true, false, true≢false, if◌then◌else◌, sym, ap, ap₂, ◌∙◌, subst, arith, ◌⊎◌, inl, inr, ⊎_elim}
 use Rattle.std.proofs.lemmas.Bool.{cases_eq}
 use Rattle.orc_bits.proofs.LaneLaws.{eq_false}
 use Rattle.orc_program.specs.declared.program.VarKind.TheVariants as kind
 use Rattle.orc_program.specs.Program.{FunctionValue, count_of}
 use Rattle.x86_ins.specs.declared.ins.Ins.{Ins}
+use Rattle.x86_ins.specs.declared.ins.Ins.TheVariants.{VecStore}
 use Rattle.x86_ins.specs.Machine.{Core, Point, Touches}
 use Rattle.x86_ins.specs.Way.{Placed}
 use Rattle.x86_flow.specs.Touching.{touch_weight, weight_by}
@@ -16,7 +17,9 @@ use Rattle.orc_region.specs.Stores.{IsMovdquStore}
 use Rattle.orc_region.specs.Elements.{IsAlone}
 use Rattle.orc_region.specs.Code.{pointer}
 use Rattle.orc_region.proofs.Block.Registers.{not_4, not_7}
-use Rattle.orc_region.proofs.Block.Touched.{InSlot, TouchesPart}
+use Rattle.orc_resample.specs.Bring.{is_vector_store}
+use Rattle.orc_region.proofs.Block.Cells.{Numbers}
+use Rattle.orc_region.proofs.Block.Touched.{InSlot, TouchesTurn}
 use Rattle.orc_region.proofs.Calls.Cells.{Arrays, call, P, size, row_base, arrays, cell_in, dest_cell}
 
 -- cells go by the registers that are neither RSP nor RDI
@@ -35,6 +38,11 @@ pub record GoesWide (f : Subject) (args : Arguments) (A : Type 0) (u : Core) (in
 -- the pointers of arrays are neither RSP nor RDI
 pointer_counts : (k : ℕ) → by_pointer (pointer k) ≡ true
 pointer_counts k = ap₂ (λ a b. not (a || b)) (eq_false (pointer k) 4 (not_4 k)) (eq_false (pointer k) 7 (not_7 k))
+
+-- where no vector register is stored no movdqu stores one
+no_store : (i : Ins) → is_vector_store i ≡ false → IsMovdquStore i → ⊥
+no_store (VecStore op src at) e m = true≢false e
+no_store _ e m = m
 
 -- A is to say that the first dest is there, and no other dest
 module _ (f : FunctionValue) (known : Arrays f) (code : Placed) (s : Point) (args : Arguments) (back : ℕ) (good : GoodCall (subject_of f) code s args back) (A : Type 0) (alone : A → IsAlone f args) where
@@ -78,9 +86,13 @@ module _ (f : FunctionValue) (known : Arrays f) (code : Placed) (s : Point) (arg
         other ne = ⊎_elim (λ apart. apart a c here) (λ same. (alone x).1 k (omega (arith, ne)) (slot_dest k h few) same) ((arrays f known code s args back good).separate 0 k (inl (alone x).0) h)
 
     -- an instruction of a turn in this row
-    pub part_wide : (Free : Type 0) → (Free → A → ⊥) → (u : Core) (ins : Ins) → TouchesPart args.n base bytes Slot (lowered s.core) Free u ins → GoesWide (subject_of f) args A u ins
-    part_wide Free none u ins (inl h) = own_wide u ins (λ a t. inl (h a t))
-    part_wide Free none u ins (inr h) = record {
+    pub part_wide : (Free : Type 0) → (Free → A → ⊥) → (numbers : Numbers) (u : Core) (ins : Ins) → TouchesTurn args.n base bytes Slot (lowered s.core) Free base numbers 0 args.n u ins → GoesWide (subject_of f) args A u ins
+    part_wide Free none numbers u ins (inl (inl h)) = own_wide u ins (λ a t. inl (h a t))
+    part_wide Free none numbers u ins (inr h) = record {
+      apart = λ z a c t. ⊎_elim (λ x. cell_apart a c (inl (x.1, x.2))) (λ x. let one : cell_weight ins ≡ 1 = x.0 in omega (arith, z, one)) (h.0 a t);
+      stored = λ y m a c t. no_store ins h.1 m;
+    }
+    part_wide Free none numbers u ins (inl (inr h)) = record {
       apart = λ z a c t. (let one : cell_weight ins ≡ 1 = ap (weight_by by_pointer) h.2 ∙ ap (λ b. if b then 1 else 0) (pointer_counts h.0) in omega (arith, z, one));
       stored = λ y m a c t. (let x = h.4 m in other_dest h.0 h.1 y x.0 (λ e. none (x.1 e)) a (h.3 a t) c);
     }
