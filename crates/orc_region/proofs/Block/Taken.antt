@@ -75,6 +75,10 @@ unread : (seats : Seats) (p : ℕ) (far : Option Far) (is : List Item) → not (
 unread seats p None is h = h
 unread seats p (Some load) is h = far_unread p load is
 
+or_on : (b x y : Bool) → (x ≡ true → y ≡ true) → (b || x) ≡ true → (b || y) ≡ true
+or_on true x y f h = refl
+or_on false x y f h = f h
+
 -- what no step reads no action reads
 free_in : (target : CodeTarget) (seats : Seats) (count : ℕ) (steps : List Step) (actions : List Action) (p : ℕ) → AreActions target seats count steps actions → is_free seats p steps ≡ true → is_free_in p actions ≡ true
 free_in target seats count [] [] p is h = refl
@@ -84,11 +88,7 @@ free_in target seats count (s ∷ steps) (a ∷ rest) p is h =
     let parts = both (not (some_from p (map (source_of seats) s.sources.items))) (some_to p (map (target_of seats.places) s.results.items) || is_free seats p steps) h in
     ap₂ (λ x y. x && y)
     (ap (λ ss. not (some_from p ss)) is.0.0.sources ∙ unread seats p (far_of s.op) s.sources.items parts.0)
-    (ap (λ ts. some_to p ts || is_free_in p rest) is.0.0.to ∙ later (some_to p (map (target_of seats.places) s.results.items)) parts.1)
-  where
-    later : (b : Bool) → (b || is_free seats p steps) ≡ true → (b || is_free_in p rest) ≡ true
-    later true e = refl
-    later false e = free_in target seats count steps rest p is.1 e
+    (ap (λ ts. some_to p ts || is_free_in p rest) is.0.0.to ∙ or_on (some_to p (map (target_of seats.places) s.results.items)) (is_free seats p steps) (is_free_in p rest) (λ e. free_in target seats count steps rest p is.1 e) parts.1)
 
 not_yes : (b : Bool) → not b ≡ true → b ≡ false
 not_yes false h = refl
