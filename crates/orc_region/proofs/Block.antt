@@ -5,6 +5,7 @@ pub mod Elements
 pub mod Emulated
 pub mod Far
 pub mod Fars
+pub mod FarReads
 pub mod Frames
 pub mod Keeping
 pub mod Meeting
