@@ -7,6 +7,7 @@ pub mod Far
 pub mod FarActions
 pub mod FarWords
 pub mod Fars
+pub mod FarReads
 pub mod Frames
 pub mod Keeping
 pub mod Meeting

@@ -1,5 +1,5 @@
 -- What emulation does at several elements, said of their cells.
-use Rattle.std.proofs.Common.{◌≡◌, ℕ, zero, suc, ◌+◌, ◌*◌, ◌%◌, ◌^◌, ◌≢◌, length, ◌<◌, ◌≤◌, List, [], ◌∷◌, Some, is_some, Result, Ok, slice_index, if◌then◌else◌, refl, sym, ap, ap₂, ◌∙◌, subst, arith, ◌⊎◌, ⊎_elim, false}
+use Rattle.std.proofs.Common.{◌≡◌, ℕ, zero, suc, ◌+◌, ◌*◌, ◌%◌, ◌^◌, ◌≢◌, length, ◌<◌, ◌≤◌, List, [], ◌∷◌, Option, None, Some, is_some, ℤ, Result, Ok, slice_index, if◌then◌else◌, refl, sym, ap, ap₂, ◌∙◌, subst, arith, ◌⊎◌, ⊎_elim, false}
 use Rattle.std.proofs.lemmas.Bool.{cases_lt, cases_eq}
 use Rattle.std.proofs.Math.Nat.{mod-add-mod}
 use Rattle.orc_bits.specs.Lanes.{change}
@@ -7,6 +7,8 @@ use Rattle.orc_bits.proofs.LaneLaws.{eq_false, change_other, change_same}
 use Rattle.sse_acc.specs.Sums.{sum_below}
 use Rattle.sse_acc.proofs.Totals.{sum_below-zero, sum_below-suc}
 use Rattle.orc_bits.specs.Memory.{Memory}
+use Rattle.orc_ops.specs.declared.far.Far.{Far}
+use Rattle.orc_ops.specs.Far.{far_of, far_size}
 use Rattle.orc_ops.specs.Table.{size_of_result, size_of_source}
 use Rattle.orc_ops.specs.declared.opcode.Op.{Op}
 use Rattle.orc_program.specs.declared.program.VarKind.TheVariants as kind
@@ -14,15 +16,20 @@ use Rattle.orc_program.specs.declared.program.Operand.{Operand}
 use Rattle.orc_program.specs.declared.program.Operand.TheVariants as operand
 use Rattle.orc_program.specs.declared.program.Insn.{Insn}
 use Rattle.orc_program.specs.declared.call.Call.{Call}
-use Rattle.orc_program.specs.Program.{FunctionValue, var_at, same_kind, count_before, places_of, is_far}
+use Rattle.orc_program.specs.Program.{FunctionValue, var_at, same_kind, count_before, places_of, is_far, far_array}
 use Rattle.orc_program.specs.Slots.{slot_of}
-use Rattle.orc_program.specs.Meaning.{State, Gap, cell, sub_lane, go_on, write_result, write_results, act, element, row_of}
+use Rattle.orc_program.specs.Meaning.{State, Gap, cell, cell_at, sub_lane, go_on, write_result, write_results, act, element, row_of}
 use Rattle.orc_program.specs.Checks.{number_in}
 use Rattle.x86_flow.proofs.Moves.{IsFill}
-use Rattle.orc_region.specs.Code.{Action, Source, FromArray, FromPattern, FromResident, FromPlace, FromSlot, FromFar, Target, ToArray, ToSum, ToResident, ToPlace, ToSlot, slot_place}
+use Rattle.orc_resample.specs.Ready.{AmongCells, value_at}
+use Rattle.orc_resample.specs.Ready.{IsRead as ReadsElement}
+use Rattle.orc_resample.specs.Ready.{cell as far_cell}
+use Rattle.orc_region.specs.Code.{computed_by, computed_op, copy_of, Action, Source, FromArray, FromPattern, FromResident, FromPlace, FromSlot, FromFar, Target, ToArray, ToSum, ToResident, ToPlace, ToSlot, slot_place}
 use Rattle.orc_region.proofs.Arithmetic.Digits.{digit}
-use Rattle.orc_region.proofs.Block.Cells.{Numbers, Local, given_by, given, computed, adds_to, results_add, eq_yes, Lanes, Others, IsOf, Separate, Low, set_local, set_target, set_results, value_of, local_act, local, adds, store_lanes, store_others, others_more, cell_apart}
-use Rattle.orc_region.proofs.Block.Emulated.{IsCells, IsDest, IsSum, IsTemp, state, meant, Holds, IsLow, Gives, array_gives, temp_gives, number_gives, array_takes, sum_takes, temp_takes, Writes, act_one, act_two}
+use Rattle.orc_region.proofs.Block.Cells.{Numbers, Local, given_by, given, computed, adds_to, results_add, eq_yes, Lanes, AtElements, Others, OfDests, IsOf, Separate, Low, set_local, set_target, set_results, value_of, local_act, local, adds, store_lanes, store_others, others_more, cell_apart}
+use Rattle.orc_region.proofs.Block.Fars.{IsFarOf, behind_array, AreScalars, far_at, InFars, HasByte, FarValues}
+use Rattle.orc_region.proofs.Block.FarReads.{ReadsBytes, small_value, copy_is, value_alike}
+use Rattle.orc_region.proofs.Block.Emulated.{IsCells, IsDest, IsSum, IsTemp, state, meant, Holds, IsLow, Gives, array_gives, temp_gives, number_gives, array_takes, sum_takes, temp_takes, Writes, act_one, act_two, act_far, reach_is}
 use Rattle.orc_program.proofs.Nth.{place_again}
 
 -- ---- what an instruction's operands and an action's say alike; `patterns` are the patterns' numbers
@@ -151,12 +158,20 @@ pub record Reached (f : FunctionValue) (call : Call) (r : ℕ) (first : State) (
 module _ (f : FunctionValue) (call : Call) (r : ℕ) (base size : ℕ → ℕ) (P : ℕ → Type 0) (separate : Separate call.n base size P) (low : Low call.n base size P)
     (has : (p b : ℕ) → IsCells f p b → IsOf call.n base size P (slot_of f.vars p) b)
     (cell_is : (p b : ℕ) → IsCells f p b → (i : ℕ) → i < call.n → cell f call p r i ≡ base (slot_of f.vars p) + i * size (slot_of f.vars p))
-    (numbers : Numbers) (patterns : ℕ → Operand) (number_is : (j : ℕ) → numbers.number j ≡ meant f call (patterns j)) {View : Type 0} (At : View → ℕ → ℕ → Type 0) where
+    (dest_few : (p b : ℕ) → IsCells f p b → IsDest f p → slot_of f.vars p < 4)
+    (numbers : Numbers) (patterns : ℕ → Operand) (number_is : (j : ℕ) → numbers.number j ≡ meant f call (patterns j))
+    (far_apart : (x : ℕ) → InFars base numbers 0 call.n x → (d : ℕ) → OfDests P d → (i : ℕ) → i < call.n → (j : ℕ) → j < size d → x ≢ base d + i * size d + j)
+    (far_is : (load : Far) (k : ℕ) (js : List ℕ) (x : IsFarOf f patterns load k js) (z : ℤ) → cell_at f call x.place r z ≡ far_cell load (base k) z)
+    {View : Type 0} (At : View → ℕ → ℕ → Type 0) where
   abbrev Cells : ℕ → ℕ → Memory → (ℕ → Local) → Type 0
   Cells = Lanes call.n base size P
 
+  -- outside dests' cells memory stays
   abbrev Rest : ℕ → ℕ → Memory → Memory → Type 0
-  Rest = Others call.n base size P
+  Rest = Others call.n base size (OfDests P)
+
+  abbrev AtDests : ℕ → ℕ → ℕ → Type 0
+  AtDests = AtElements call.n base size (OfDests P)
 
   low_cell : (e p b : ℕ) → IsCells f p b → e < call.n → IsLow f call r e p b
   low_cell e p b is le =
@@ -177,15 +192,15 @@ module _ (f : FunctionValue) (call : Call) (r : ℕ) (base size : ℕ → ℕ) (
       ∙ h k o.array 0 (omega arith) j (subst (λ s. j < s) (sym o.bytes_are) lj)
 
   -- what an instruction leaves, said of the cells
-  filled_lanes : (e d b v : ℕ) (mem end : Memory) (l : Local) → IsCells f d b → e < call.n → Cells e 1 mem (λ q. l) → IsFill b mem (cell f call d r e) (digit v) end
+  filled_lanes : (e d b v : ℕ) (mem end : Memory) (l : Local) → IsCells f d b → IsDest f d → e < call.n → Cells e 1 mem (λ q. l) → IsFill b mem (cell f call d r e) (digit v) end
       → Cells e 1 end (λ q. set_local call.n base size P l (slot_of f.vars d) v) × Rest e 1 mem end
-  filled_lanes e d b v mem end l is le h f' =
+  filled_lanes e d b v mem end l is dest le h f' =
       let o = has d b is in
       let k = slot_of f.vars d in
       let filled : IsFill (1 * size k) mem (base k + e * size k) (digit v) end =
       subst (λ a. IsFill (1 * size k) mem a (digit v) end) (cell_is d b is e le) (subst (λ s. IsFill s mem (cell f call d r e) (digit v) end) (let q : b ≡ 1 * size k = omega (arith, o.bytes_are) in q) f') in (
         store_lanes call.n base size P separate low e 1 mem end (λ q. l) k (digit v) (λ q. v) o.array o.some (omega (arith, le)) h filled (λ q r lq lr. ap (digit v) (let w : q * size k + r ≡ r = ap (λ x. x * size k + r) (let z : q ≡ 0 = omega (arith, lq) in z) ∙ (let z : 0 * size k + r ≡ r = omega arith in z) in w)),
-        store_others call.n base size P e 1 mem end k (digit v) o.array filled,
+        store_others call.n base size (OfDests P) e 1 mem end k (digit v) (o.array, dest_few d b is dest) filled,
       )
 
   -- ---- results
@@ -253,7 +268,7 @@ module _ (f : FunctionValue) (call : Call) (r : ℕ) (base size : ℕ → ℕ) (
       let d = is.0 in
       let b = w * prefix in
       let x = array_takes f call r e d b v mem temps sums is.2 is.3 (low_cell e d b is.2 le) (λ j lj. ap is_some (holds e d b mem l is.2 le h j lj)) in
-      let y = filled_lanes e d b v mem x.0 l is.2 le h x.2 in
+      let y = filled_lanes e d b v mem x.0 l is.2 is.3 le h x.2 in
       record {
         end = x.0;
         temps = temps;
@@ -291,7 +306,7 @@ module _ (f : FunctionValue) (call : Call) (r : ℕ) (base size : ℕ → ℕ) (
         sums = two.sums;
         is = ap (λ o. go_on o (λ s. write_result f call r e x.1 s y)) one.is ∙ two.is;
         lanes = two.lanes;
-        others = others_more call.n base size P e 1 mem one.end two.end one.others two.others;
+        others = others_more call.n base size (OfDests P) e 1 mem one.end two.end one.others two.others;
         carries = two.carries;
         agrees = agrees_same f two.sums (λ g. totals g + adds_to t x.0 g + adds_to u x.1 g) (λ g. totals g + (adds_to t x.0 g + adds_to u x.1 g)) (λ g. omega arith) two.agrees;
       }
@@ -360,32 +375,111 @@ module _ (f : FunctionValue) (call : Call) (r : ℕ) (base size : ℕ → ℕ) (
   abbrev Adds : List Action → Local → ℕ → ℕ
   Adds = adds call.n base size P numbers
 
+  -- ---- far loads' values
+
+  -- no write reaches them
+  fars_target : (l : Local) (t : Target) (v : ℕ) → (set_target call.n base size P l t v).fars ≡ l.fars
+  fars_target l (ToArray d) v = refl
+  fars_target l (ToSum g) v = refl
+  fars_target l (ToResident g) v = refl
+  fars_target l (ToPlace p) v = refl
+  fars_target l (ToSlot k) v = refl
+
+  fars_results : (l : Local) (ts : List Target) (v : ℕ × ℕ) → (set_results call.n base size P l ts v).fars ≡ l.fars
+  fars_results l [] v = refl
+  fars_results l (t ∷ []) v = fars_target l t v.0
+  fars_results l (t ∷ u ∷ further) v = fars_target (set_target call.n base size P l t v.0) u v.1 ∙ fars_target l t v.0
+
+  pub fars_act : (a : Action) (l : Local) → (Act a l).fars ≡ l.fars
+  fars_act a l = fars_results l a.to (value_of call.n base size P numbers a l)
+
+  -- the values of element e are those of this memory
+  abbrev pub FarsAt : ℕ → Memory → Local → Type 0
+  FarsAt e mem l = (load : Far) (k : ℕ) (js : List ℕ) → numbers.far load k js
+      → ((x : ℕ) → AmongCells load 1 (far_at numbers base k js e) x → HasByte mem x) × (l.fars load k js ≡ value_at load (far_at numbers base k js e) mem e)
+
+  -- what they read lies in no dest's cell
+  far_outside : (load : Far) (k : ℕ) (js : List ℕ) → numbers.far load k js → (e i c : ℕ) → e < call.n → i + c ≤ call.n → (x : ℕ) → AmongCells load 1 (far_at numbers base k js e) x → AtDests i c x → ⊥
+  far_outside load k js h e i c le w x among at =
+      let same : e + among.0 ≡ 0 + e = (let one = among.1 in omega (arith, one)) in
+      let element = among.2.0 in
+      far_apart x (load, k, js, h, (e, le, (element, subst (λ m. ReadsElement load (far_at numbers base k js 0) m element) same among.2.1, among.2.2))) at.0 at.1 (i + at.2) (let m = at.3 in omega (arith, m, w)) at.4 at.5 at.6
+
+  -- so they stand
+  fars_stand : (e i c : ℕ) (mem end : Memory) (l k : Local) → e < call.n → i + c ≤ call.n → Rest i c mem end → k.fars ≡ l.fars → FarsAt e mem l → FarsAt e end k
+  fars_stand e i c mem end l l' le w o same h load k js d =
+      let x = h load k js d in
+      let stays : (a : ℕ) → AmongCells load 1 (far_at numbers base k js e) a → end a ≡ mem a = λ a m. o a (far_outside load k js d e i c le w a m) in
+      let none : e ≡ e + 0 = omega arith in (
+        (λ a m. let b = x.0 a m in (b.0, stays a m ∙ b.1, b.2)),
+        ap (λ fars. fars load k js) same ∙ x.1
+            ∙ sym (value_alike load (far_at numbers base k js e) e end mem (λ z is j lj. stays _ (0, omega arith, (z, subst (λ m. ReadsElement load (far_at numbers base k js e) m z) none is, (j, lj, refl))))),
+      )
+
+  -- ---- one instruction
+
+  abbrev ActsAs : ℕ → Insn → Action → Memory → (ℕ → ℕ) → (ℕ → ℕ) → Local → Type 0
+  ActsAs e insn a mem temps sums l = act f call r e insn (state mem temps sums) ≡ write_results f call r e (value_of call.n base size P numbers a l) (state mem temps sums) insn.results.items
+
+  acts_near : (e : ℕ) (insn : Insn) (a : Action) (v w : View) (mem : Memory) (temps sums : ℕ → ℕ) (l : Local) → IsMeant At f patterns numbers.far v w insn a → far_of insn.op ≡ None → AreRead f patterns (At v) insn.op insn.prefix insn.sources.items a.sources
+      → e < call.n → Cells e 1 mem (λ q. l) → Carries (At v) temps l → ActsAs e insn a mem temps sums l
+  acts_near e insn a v w mem temps sums l is near read le h c =
+      let op : a.op ≡ insn.op = is.op ∙ ap (computed_by insn.op) near in
+      reads_all e insn a.sources (At v) mem temps sums l (ap is_some near) read le h c
+      ∙ ap₂ (λ op k. write_results f call r e (computed numbers.number op k l a.sources) (state mem temps sums) insn.results.items) (sym op) (sym is.prefix)
+
+  acts_far : (e : ℕ) (insn : Insn) (a : Action) (v w : View) (mem : Memory) (temps sums : ℕ → ℕ) (l : Local) (load : Far) → IsMeant At f patterns numbers.far v w insn a → far_of insn.op ≡ Some load → AreBrought f patterns numbers.far (At v) insn a.sources (Some load)
+      → FarsAt e mem l → ActsAs e insn a mem temps sums l
+  acts_far e insn a v w mem temps sums l load is loads from fars =
+      let k = from.0 in
+      let js = from.1 in
+      let x = from.5 in
+      let s = far_at numbers base k js e in
+      let there = fars load k js from.3 in
+      let none : e ≡ e + 0 = omega arith in
+      let bytes : ReadsBytes load s e mem = λ z h j lj. there.0 _ (0, omega arith, (z, subst (λ m. ReadsElement load s m z) none h, (j, lj, refl))) in
+      let array : far_array f.vars insn.sources.items ≡ Some x.place = ap (λ (i : Insn). far_array f.vars i.sources.items) (sym from.6) ∙ x.array in
+      let scalars : AreScalars f patterns (behind_array insn.sources.items) js = subst (λ (i : Insn). AreScalars f patterns (behind_array i.sources.items) js) from.6 x.scalars in
+      let number : ℕ = value_at load s mem e in
+      let op : a.op ≡ copy_of (far_size load) = is.op ∙ ap (computed_by insn.op) loads in
+      let value : value_of call.n base size P numbers a l ≡ (number, 0) =
+      ap₂ (λ o p. computed numbers.number o p l a.sources) op (is.prefix ∙ from.4) ∙ ap (computed numbers.number (copy_of (far_size load)) 1 l) from.2
+      ∙ copy_is load (l.fars load k js) (subst (λ n. n < 256 ^ far_size load) (sym there.1) (small_value load s e mem bytes)) ∙ ap (λ n. (n, 0)) there.1 in
+      act_far f call r e load x.place s x.size (far_is load k js x) (state mem temps sums) bytes insn loads array (reach_is f call numbers patterns number_is load insn.sources.items x.place js array scalars e)
+      ∙ ap (λ v. write_results f call r e v (state mem temps sums) insn.results.items) (sym value)
+
+  acts : (e : ℕ) (insn : Insn) (a : Action) (v w : View) (mem : Memory) (temps sums : ℕ → ℕ) (l : Local) → IsMeant At f patterns numbers.far v w insn a → e < call.n → Cells e 1 mem (λ q. l) → Carries (At v) temps l → FarsAt e mem l
+      → ActsAs e insn a mem temps sums l
+  acts e insn a v w mem temps sums l is le h c fars = go (far_of insn.op) refl is.sources
+    where
+      go : (o : Option Far) → far_of insn.op ≡ o → AreBrought f patterns numbers.far (At v) insn a.sources o → ActsAs e insn a mem temps sums l
+      go None near read = acts_near e insn a v w mem temps sums l is near read le h c
+      go (Some load) loads from = acts_far e insn a v w mem temps sums l load is loads from fars
+
   -- one instruction on one element
-  action_lanes : (e : ℕ) (insn : Insn) (a : Action) (v w : View) (mem : Memory) (temps sums totals : ℕ → ℕ) (l : Local) → IsMeant At f patterns v w insn a → e < call.n → Cells e 1 mem (λ q. l)
-      → Carries (At v) temps l → Agrees f sums totals
+  action_lanes : (e : ℕ) (insn : Insn) (a : Action) (v w : View) (mem : Memory) (temps sums totals : ℕ → ℕ) (l : Local) → IsMeant At f patterns numbers.far v w insn a → e < call.n → Cells e 1 mem (λ q. l)
+      → Carries (At v) temps l → Agrees f sums totals → FarsAt e mem l
       → Leaves e (act f call r e insn (state mem temps sums)) mem (At w) (Act a l) (λ g. totals g + results_add a.to (value_of call.n base size P numbers a l) g)
-  action_lanes e insn a v w mem temps sums totals l is le h c agrees =
-      let made = computed numbers.number insn.op insn.prefix l a.sources in
-      let x = write_all e insn.op insn.prefix insn.results.items a.to made v w mem temps sums totals l is.to le h c agrees in
-      let value : made ≡ value_of call.n base size P numbers a l = ap₂ (λ op k. computed numbers.number op k l a.sources) (sym is.op) (sym is.prefix) in
+  action_lanes e insn a v w mem temps sums totals l is le h c agrees fars =
+      let x = write_all e a.op insn.prefix insn.results.items a.to (value_of call.n base size P numbers a l) v w mem temps sums totals l is.to le h c agrees in
       record {
         end = x.end;
         temps = x.temps;
         sums = x.sums;
-        is = reads_all e insn a.sources (At v) mem temps sums l is.near is.sources le h c ∙ x.is;
-        lanes = subst (λ v. Cells e 1 x.end (λ q. set_results call.n base size P l a.to v)) value x.lanes;
+        is = acts e insn a v w mem temps sums l is le h c fars ∙ x.is;
+        lanes = x.lanes;
         others = x.others;
-        carries = subst (λ v. Carries (At w) x.temps (set_results call.n base size P l a.to v)) value x.carries;
-        agrees = subst (λ v. Agrees f x.sums (λ g. totals g + results_add a.to v g)) value x.agrees;
+        carries = x.carries;
+        agrees = x.agrees;
       }
 
   -- at the end of an element nothing is said of places
   abbrev nowhere : ℕ → ℕ → Type 0
   nowhere x p = ⊥
 
-  element_lanes : (e : ℕ) (insns : List Insn) (actions : List Action) (v : View) (mem : Memory) (temps sums totals : ℕ → ℕ) (l : Local) → AreMeant At f patterns v insns actions → e < call.n → Cells e 1 mem (λ q. l)
-      → Carries (At v) temps l → Agrees f sums totals → Leaves e (element f call r e insns (state mem temps sums)) mem nowhere (All actions l) (λ g. totals g + Adds actions l g)
-  element_lanes e [] [] v mem temps sums totals l is le h c agrees = record {
+  element_lanes : (e : ℕ) (insns : List Insn) (actions : List Action) (v : View) (mem : Memory) (temps sums totals : ℕ → ℕ) (l : Local) → AreMeant At f patterns numbers.far v insns actions → e < call.n → Cells e 1 mem (λ q. l)
+      → Carries (At v) temps l → Agrees f sums totals → FarsAt e mem l → Leaves e (element f call r e insns (state mem temps sums)) mem nowhere (All actions l) (λ g. totals g + Adds actions l g)
+  element_lanes e [] [] v mem temps sums totals l is le h c agrees fars = record {
     end = mem;
     temps = temps;
     sums = sums;
@@ -395,20 +489,20 @@ module _ (f : FunctionValue) (call : Call) (r : ℕ) (base size : ℕ → ℕ) (
     carries = λ x p s. absurd s;
     agrees = agrees_same f sums totals (λ g. totals g + 0) (λ g. omega arith) agrees;
   }
-  element_lanes e [] (a ∷ rest) v mem temps sums totals l is le h c agrees = absurd is
-  element_lanes e (insn ∷ insns) [] v mem temps sums totals l is le h c agrees = absurd is
-  element_lanes e (insn ∷ insns) (a ∷ rest) v mem temps sums totals l is le h c agrees =
+  element_lanes e [] (a ∷ rest) v mem temps sums totals l is le h c agrees fars = absurd is
+  element_lanes e (insn ∷ insns) [] v mem temps sums totals l is le h c agrees fars = absurd is
+  element_lanes e (insn ∷ insns) (a ∷ rest) v mem temps sums totals l is le h c agrees fars =
       let w = is.0 in
-      let x = action_lanes e insn a v w mem temps sums totals l is.1 le h c agrees in
+      let x = action_lanes e insn a v w mem temps sums totals l is.1 le h c agrees fars in
       let one : ℕ → ℕ = results_add a.to (value_of call.n base size P numbers a l) in
-      let y = element_lanes e insns rest w x.end x.temps x.sums (λ g. totals g + one g) (Act a l) is.2 le x.lanes x.carries x.agrees in
+      let y = element_lanes e insns rest w x.end x.temps x.sums (λ g. totals g + one g) (Act a l) is.2 le x.lanes x.carries x.agrees (fars_stand e e 1 mem x.end l (Act a l) le (omega (arith, le)) x.others (fars_act a l) fars) in
       record {
         end = y.end;
         temps = y.temps;
         sums = y.sums;
         is = ap (λ o. go_on o (element f call r e insns)) x.is ∙ y.is;
         lanes = y.lanes;
-        others = others_more call.n base size P e 1 mem x.end y.end x.others y.others;
+        others = others_more call.n base size (OfDests P) e 1 mem x.end y.end x.others y.others;
         carries = y.carries;
         agrees = agrees_same f y.sums (λ g. totals g + one g + Adds rest (Act a l) g) (λ g. totals g + (one g + Adds rest (Act a l) g)) (λ g. omega arith) y.agrees;
       }
@@ -424,9 +518,9 @@ module _ (f : FunctionValue) (call : Call) (r : ℕ) (base size : ℕ → ℕ) (
     pub agrees : Agrees f sums (λ g. totals g + sum_below c (λ q. Adds actions (sig q) g))
 
   -- several elements, one after another; at the start of each nothing stands at places
-  pub row_lanes : (actions : List Action) (v0 : View) → ((x p : ℕ) → At v0 x p → ⊥) → AreMeant At f patterns v0 f.insns actions → (first : State) (i : ℕ) (mem : Memory) (temps sums totals : ℕ → ℕ) (sig : ℕ → Local)
-      → row_of f call r i first ≡ Ok (state mem temps sums) → Agrees f sums totals → (c : ℕ) → i + c ≤ call.n → Cells i c mem sig → Rows first i c mem sig totals actions
-  row_lanes actions v0 none is first i mem temps sums totals sig em agrees zero w h = record {
+  pub row_lanes : (actions : List Action) (v0 : View) → ((x p : ℕ) → At v0 x p → ⊥) → AreMeant At f patterns numbers.far v0 f.insns actions → (first : State) (i : ℕ) (mem : Memory) (temps sums totals : ℕ → ℕ) (sig : ℕ → Local)
+      → row_of f call r i first ≡ Ok (state mem temps sums) → Agrees f sums totals → (c : ℕ) → i + c ≤ call.n → Cells i c mem sig → FarValues base numbers i c mem sig → Rows first i c mem sig totals actions
+  row_lanes actions v0 none is first i mem temps sums totals sig em agrees zero w h fars = record {
     end = mem;
     temps = temps;
     sums = sums;
@@ -435,23 +529,23 @@ module _ (f : FunctionValue) (call : Call) (r : ℕ) (base size : ℕ → ℕ) (
     others = λ a m. refl;
     agrees = agrees_same f sums totals (λ g. totals g + sum_below 0 (λ q. Adds actions (sig q) g)) (λ g. let z = sum_below-zero (λ q. Adds actions (sig q) g) in omega (arith, z)) agrees;
   }
-  row_lanes actions v0 none is first i mem temps sums totals sig em agrees (suc c) w h =
-      let before = row_lanes actions v0 none is first i mem temps sums totals sig em agrees c (omega (arith, w)) (λ k hk q l. h k hk q (omega (arith, l))) in
+  row_lanes actions v0 none is first i mem temps sums totals sig em agrees (suc c) w h fars =
+      let before = row_lanes actions v0 none is first i mem temps sums totals sig em agrees c (omega (arith, w)) (λ k hk q l. h k hk q (omega (arith, l))) (λ load k js d q l. fars load k js d q (omega (arith, l))) in
       let e = i + c in
       let le : e < call.n = omega (arith, w) in
       let here : Cells e 1 before.end (λ q. sig c) = λ k hk q l r lr.
       ap before.end (ap (λ x. base k + x * size k + r) (let p : e + q ≡ i + c = omega (arith, l) in p))
-      ∙ before.others (base k + (i + c) * size k + r) (λ at. cell_apart call.n base size P separate low k at.0 (i + c) (i + at.2) r at.4 hk at.1 le (omega (arith, at.3, w)) lr at.5 (λ s. omega (arith, s, at.3)) at.6)
+      ∙ before.others (base k + (i + c) * size k + r) (λ at. cell_apart call.n base size P separate low k at.0 (i + c) (i + at.2) r at.4 hk at.1.0 le (omega (arith, at.3, w)) lr at.5 (λ s. omega (arith, s, at.3)) at.6)
       ∙ h k hk c (omega arith) r lr in
       let so_far : ℕ → ℕ = λ g. totals g + sum_below c (λ q. Adds actions (sig q) g) in
-      let one = element_lanes e f.insns actions v0 before.end before.temps before.sums so_far (sig c) is le here (λ x p s. absurd (none x p s)) before.agrees in
+      let one = element_lanes e f.insns actions v0 before.end before.temps before.sums so_far (sig c) is le here (λ x p s. absurd (none x p s)) before.agrees (fars_stand e i c mem before.end (sig c) (sig c) le (omega (arith, le)) before.others refl (λ load k js d. fars load k js d c (omega arith))) in
       let step : row_of f call r (suc c + i) first ≡ Ok (state one.end one.temps one.sums) =
       ap (λ n. row_of f call r n first) (let p : suc c + i ≡ suc (c + i) = omega arith in p)
       ∙ ap (λ o. go_on o (element f call r (c + i) f.insns)) before.is
       ∙ ap (λ n. element f call r n f.insns (state before.end before.temps before.sums)) (let p : c + i ≡ i + c = omega arith in p) ∙ one.is in
       let lanes : Cells i (suc c) one.end (λ q. All actions (sig q)) = λ k hk q l r lr.
       ⊎_elim
-      (λ s. one.others (base k + (i + q) * size k + r) (λ at. cell_apart call.n base size P separate low k at.0 (i + q) (e + at.2) r at.4 hk at.1 (omega (arith, l, w)) (omega (arith, at.3, le)) lr at.5 (λ t. omega (arith, t, s)) at.6) ∙ before.lanes k hk q s r lr)
+      (λ s. one.others (base k + (i + q) * size k + r) (λ at. cell_apart call.n base size P separate low k at.0 (i + q) (e + at.2) r at.4 hk at.1.0 (omega (arith, l, w)) (omega (arith, at.3, le)) lr at.5 (λ t. omega (arith, t, s)) at.6) ∙ before.lanes k hk q s r lr)
       (λ g. let p : q ≡ c = omega (arith, g, l) in
       ap one.end (ap (λ x. base k + x * size k + r) (let t : i + q ≡ e + 0 = omega (arith, p) in t)) ∙ one.lanes k hk 0 (omega arith) r lr
       ∙ ap (λ x. Some (digit ((All actions (sig x)).cells k) r)) (sym p))
@@ -469,10 +563,14 @@ module _ (f : FunctionValue) (call : Call) (r : ℕ) (base size : ℕ → ℕ) (
         agrees = agrees_same f one.sums (λ g. so_far g + Adds actions (sig c) g) (λ g. totals g + sum_below (suc c) (λ q. Adds actions (sig q) g)) (λ g. let z = sum_below-suc c (λ q. Adds actions (sig q) g) in omega (arith, z)) one.agrees;
       }
 
+  -- cells of dests are cells
+  rest_of : (i c : ℕ) (mem end : Memory) → Rest i c mem end → Others call.n base size P i c mem end
+  rest_of i c mem end o a m = o a (λ at. m (at.0, at.1.0, at.2, at.3, at.4, at.5, at.6))
+
   -- the same, as a turn's setting asks for it
-  pub reaches : (actions : List Action) (v0 : View) → ((x p : ℕ) → At v0 x p → ⊥) → AreMeant At f patterns v0 f.insns actions → (first : State) (i : ℕ) (mem : Memory) (totals : ℕ → ℕ) (sig : ℕ → Local)
-      → Reached f call r first i mem totals → (c : ℕ) → i + c ≤ call.n → Cells i c mem sig
-      → (end : Memory) × Reached f call r first (c + i) end (λ g. totals g + sum_below c (λ q. Adds actions (sig q) g)) × Cells i c end (λ q. All actions (sig q)) × Rest i c mem end
-  reaches actions v0 none is first i mem totals sig h c w lanes =
-      let x = row_lanes actions v0 none is first i mem h.temps h.sums totals sig h.is h.agrees c w lanes in
-      (x.end, record { temps = x.temps; sums = x.sums; is = x.is; agrees = x.agrees }, x.lanes, x.others)
+  pub reaches : (actions : List Action) (v0 : View) → ((x p : ℕ) → At v0 x p → ⊥) → AreMeant At f patterns numbers.far v0 f.insns actions → (first : State) (i : ℕ) (mem : Memory) (totals : ℕ → ℕ) (sig : ℕ → Local)
+      → Reached f call r first i mem totals → (c : ℕ) → i + c ≤ call.n → Cells i c mem sig → FarValues base numbers i c mem sig
+      → (end : Memory) × Reached f call r first (c + i) end (λ g. totals g + sum_below c (λ q. Adds actions (sig q) g)) × Cells i c end (λ q. All actions (sig q)) × Others call.n base size P i c mem end
+  reaches actions v0 none is first i mem totals sig h c w lanes fars =
+      let x = row_lanes actions v0 none is first i mem h.temps h.sums totals sig h.is h.agrees c w lanes fars in
+      (x.end, record { temps = x.temps; sums = x.sums; is = x.is; agrees = x.agrees }, x.lanes, rest_of i c mem x.end x.others)

@@ -1,10 +1,14 @@
 -- What emulation does at an instruction on arrays.
-use Rattle.std.proofs.Common.{◌≡◌, ℕ, ◌+◌, ◌*◌, ◌/◌, ◌%◌, ◌^◌, ◌<◌, true, if◌then◌else◌, [], ◌∷◌, length, nat_lt, Option, Some, None, Result, Ok, refl, sym, ap, ◌∙◌, subst, arith, false}
+use Rattle.std.proofs.Common.{◌≡◌, ℕ, zero, suc, ◌+◌, ◌*◌, ◌/◌, ◌%◌, ◌^◌, ◌<◌, true, if◌then◌else◌, ℤ, List, [], ◌∷◌, length, nat_lt, Option, Some, None, Result, Ok, refl, sym, ap, ◌∙◌, subst, arith, false, inl, inr}
 use Rattle.std.proofs.lemmas.Bool.{true≢false}
 use Rattle.std.proofs.lemmas.Bool.Decides.{nat_tests}
-use Rattle.orc_bits.specs.Memory.{Memory, value, fill, store, IsMapped}
+use Rattle.orc_bits.specs.Memory.{Memory, value, fill, store, missing, IsMapped}
 use Rattle.orc_bits.specs.Lanes.{byte_of, change}
-use Rattle.orc_bits.proofs.Memories.{AreMapped, store_mapped}
+use Rattle.orc_bits.proofs.Memories.{AreMapped, store_mapped, none_some}
+use Rattle.orc_ops.specs.declared.far.Far.{Far}
+use Rattle.orc_ops.specs.declared.elements.Reach.{Reach}
+use Rattle.orc_ops.specs.Far.{far_of, far_size, far_first, far_second, far_part, far_blend, other}
+use Rattle.orc_ops.specs.Reach.{reach}
 use Rattle.orc_ops.specs.Table.{size_of_source}
 use Rattle.orc_program.specs.declared.program.VarKind.{VarKind}
 use Rattle.orc_program.specs.declared.program.VarKind.TheVariants as kind
@@ -12,13 +16,19 @@ use Rattle.orc_program.specs.declared.program.Operand.{Operand}
 use Rattle.orc_program.specs.declared.program.Operand.TheVariants as operand
 use Rattle.orc_program.specs.declared.program.Insn.{Insn}
 use Rattle.orc_program.specs.declared.call.Call.{Call}
-use Rattle.orc_program.specs.Program.{FunctionValue, var_at, is_array, is_array_kind, same_kind, is_far}
+use Rattle.orc_program.specs.Program.{FunctionValue, var_at, is_array, is_array_kind, same_kind, is_far, far_array}
+use Rattle.orc_program.specs.Good.{is_near}
 use Rattle.orc_program.proofs.Near.{act_near}
-use Rattle.orc_program.specs.Meaning.{State, Gap, param_at, cell, sub_lane, lanewise, go_on, or_gap, gap_at, read_cell, read_var, read_source, read_sources, write_var, write_result, write_results, act}
+use Rattle.orc_program.specs.Meaning.{State, Gap, param_at, cell, cell_at, sub_lane, lanewise, go_on, or_gap, gap_at, read_cell, read_var, read_source, read_sources, write_var, write_result, write_results, scalar_var, scalar_number, scalar_of, reach_of, read_far, read_second, load_far, act, act_as}
 use Rattle.orc_program.specs.Checks.{number_in}
 use Rattle.x86_flow.proofs.Moves.{IsFill, fill_is}
 use Rattle.orc_region.proofs.Arithmetic.Digits.{digit, value_digits}
 use Rattle.orc_region.proofs.Arithmetic.SubLanes.{cut_sub_lane, same_lanewise}
+use Rattle.orc_region.proofs.Block.Cells.{Numbers}
+use Rattle.orc_region.proofs.Block.Fars.{AreScalars, behind_array, scalar_in}
+use Rattle.orc_region.proofs.Block.FarReads.{ReadsBytes, element_known}
+use Rattle.orc_resample.specs.Ready.{Source, IsRead, element, value_at}
+use Rattle.orc_resample.specs.Ready.{cell as far_cell}
 
 -- the variable at a place is an array of elements of so many bytes, which has a cell for each element
 pub record IsCells (f : FunctionValue) (p bytes : ℕ) : Type 0 where
@@ -168,3 +178,63 @@ module _ (f : FunctionValue) (call : Call) (r i : ℕ) where
       ∙ ap (λ o. go_on {A = Pair} (go_on o (λ a. go_on (read_source f call r i (8 * size_of_source insn.op 1) s y) (λ b. Ok (a, b)))) write) a.1
       ∙ ap (λ o. go_on {A = Pair} (go_on o (λ b. Ok (a.0, b))) write) b.1
       ∙ ap (λ v. write_results f call r i v s insn.results.items) (same_lanewise insn.op insn.prefix a.0 b.0 g h a.2 b.2)
+
+  -- ---- a far load
+
+  -- where the bytes of the elements that it reads are there, it writes its value; the array lies where the code has it
+  module _ (load : Far) (p : ℕ) (src : Source) (size : (var_at f.vars p).size ≡ far_size load) (here : (z : ℤ) → cell_at f call p r z ≡ far_cell load src.base z) (s : State) (bytes : ReadsBytes load src i s.memory) where
+    reads_far : (z : ℤ) → IsRead load src i z → read_far f call r i p s z ≡ Ok (element load s.memory src.base z)
+    reads_far z h =
+        let gap : Gap = record { row = r; element = i; at = missing (var_at f.vars p).size s.memory (cell_at f call p r z); memory = s.memory } in
+        ap (λ n. or_gap (value n s.memory (cell_at f call p r z)) gap) size ∙ ap (λ a. or_gap (value (far_size load) s.memory a) gap) (here z)
+        ∙ ap (λ o. or_gap o gap) (element_known load src i s.memory bytes z h).0
+
+    reads_second : (o : Option ℤ) → o ≡ far_second load i src.p src.q
+        → read_second f call r i p s (element load s.memory src.base (far_first load i src.p src.q)) o ≡ Ok (element load s.memory src.base (other (far_first load i src.p src.q) o))
+    reads_second None e = refl
+    reads_second (Some z) e = reads_far z (inr e)
+
+    loads : load_far f call r i load (reach load i src.p src.q) s (Some p) ≡ Ok (value_at load src s.memory i)
+    loads =
+        let first = far_first load i src.p src.q in
+        let part = far_part load i src.p src.q in
+        ap (λ o. go_on o (λ x. go_on (read_second f call r i p s x (far_second load i src.p src.q)) (λ y. Ok (far_blend load x y part)))) (reads_far first (inl refl))
+        ∙ ap (λ o. go_on o (λ y. Ok (far_blend load (element load s.memory src.base first) y part))) (reads_second (far_second load i src.p src.q) refl)
+
+    pub act_far : (insn : Insn) → far_of insn.op ≡ Some load → far_array f.vars insn.sources.items ≡ Some p → reach_of f call load insn.sources.items i ≡ reach load i src.p src.q
+        → act f call r i insn s ≡ write_results f call r i (value_at load src s.memory i, 0) s insn.results.items
+    unfolding act
+    act_far insn is array reaches =
+        let write : ℕ → Result State Gap = λ v. write_results f call r i (v, 0) s insn.results.items in
+        ap (act_as f call r i insn s) is
+        ∙ ap (λ (at : Reach). go_on (load_far f call r i load at s (far_array f.vars insn.sources.items)) write) reaches
+        ∙ ap (λ o. go_on (load_far f call r i load (reach load i src.p src.q) s o) write) array
+        ∙ ap (λ o. go_on o write) loads
+
+-- ---- a far load's scalars
+
+module _ (f : FunctionValue) (call : Call) where
+  scalar_var_is : (p : ℕ) (m : Operand) (k : VarKind) → (if same_kind kind.Param k then Some (operand.Var p) else (if same_kind kind.Const k then Some (operand.Number (var_at f.vars p).number) else None)) ≡ Some m → scalar_var f call p k ≡ meant f call m
+  scalar_var_is p m kind.Param e = ap (λ o. meant f call (some_or o)) e
+  scalar_var_is p m kind.Const e = ap (λ o. meant f call (some_or o)) e
+  scalar_var_is p m kind.Source e = absurd (not_there e)
+  scalar_var_is p m kind.Dest e = absurd (not_there e)
+  scalar_var_is p m kind.Temp e = absurd (not_there e)
+  scalar_var_is p m kind.Accumulator e = absurd (not_there e)
+
+  scalar_number_is : (o m : Operand) → number_in f.vars o ≡ Some m → scalar_number f call o ≡ meant f call m
+  scalar_number_is (operand.Number n) m e = ap (λ o. meant f call (some_or o)) e
+  scalar_number_is (operand.Var p) m e = scalar_var_is p m (var_at f.vars p).kind e
+
+  module _ (numbers : Numbers) (patterns : ℕ → Operand) (number_is : (j : ℕ) → numbers.number j ≡ meant f call (patterns j)) where
+    scalar_at : (os : List Operand) (js : List ℕ) → AreScalars f patterns os js → (i : ℕ) → scalar_of f call os i ≡ scalar_in numbers js i
+    scalar_at [] [] h i = refl
+    scalar_at [] (j ∷ js) h i = absurd h
+    scalar_at (o ∷ os) [] h i = absurd h
+    scalar_at (o ∷ os) (j ∷ js) h zero = scalar_number_is o (patterns j) h.0 ∙ sym (number_is j)
+    scalar_at (o ∷ os) (j ∷ js) h (suc i) = scalar_at os js h.1 i
+
+    -- the elements that it reads are those by its patterns' numbers
+    pub reach_is : (load : Far) (os : List Operand) (p : ℕ) (js : List ℕ) → far_array f.vars os ≡ Some p → AreScalars f patterns (behind_array os) js → (i : ℕ) → reach_of f call load os i ≡ reach load i (scalar_in numbers js 0) (scalar_in numbers js 1)
+    reach_is load [] p js e h i = absurd (none_some e)
+    reach_is load (o ∷ os) p js e h i = ap (λ x. reach load i x (scalar_of f call os 1)) (scalar_at os js h 0) ∙ ap (reach load i (scalar_in numbers js 0)) (scalar_at os js h 1)

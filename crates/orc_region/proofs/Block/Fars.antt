@@ -1,5 +1,5 @@
 -- The far loads of a function, and what they read in a row.
-use Rattle.std.proofs.Common.{◌≡◌, ◌≢◌, ℕ, zero, suc, ◌+◌, ◌*◌, ◌<◌, ◌≤◌, ◌⊎◌, false, List, [], ◌∷◌, length, Some}
+use Rattle.std.proofs.Common.{◌≡◌, ◌≢◌, ℕ, zero, suc, ◌+◌, ◌*◌, ◌<◌, ◌≤◌, ◌==◌, ◌||◌, not, ◌⊎◌, Bool, false, List, [], ◌∷◌, length, Some}
 use Rattle.std.specs.Prelude.{Contains}
 use Rattle.orc_bits.specs.Memory.{Memory, word, IsMapped}
 use Rattle.orc_ops.specs.declared.far.Far.{Far}
@@ -16,7 +16,7 @@ use Rattle.x86_ins.specs.Way.{Each}
 use Rattle.x86_flow.specs.Touching.{touch_weight}
 use Rattle.orc_frame.specs.Layout.{frame_size, row_slot, block_slot}
 use Rattle.orc_resample.specs.Ready.{Source, AmongCells, value_at}
-use Rattle.orc_resample.specs.Bring.{is_array, is_vector_store}
+use Rattle.orc_resample.specs.Bring.{is_vector_store}
 use Rattle.orc_region.proofs.Block.Cells.{Numbers, Local, OfDests}
 
 -- ---- in a function's text
@@ -81,11 +81,19 @@ pub record FarRow (n : ℕ) (base : ℕ → ℕ) (numbers : Numbers) (rsp rdi : 
   pub block : (load : Far) (k : ℕ) (js : List ℕ) → numbers.far load k js → word mem (rsp + block_slot) ≡ Some rdi
   pub mapped : (x : ℕ) → InFars base numbers 0 n x → IsMapped mem x
 
--- the values of far loads for so many elements from one on are those of this memory, where what they read is mapped
+-- an address has a byte
+abbrev pub HasByte : Memory → ℕ → Type 0
+HasByte mem x = (v : ℕ) × (mem x ≡ Some v) × (v < 256)
+
+-- the values of far loads for so many elements from one on are those of this memory, where what they read is bytes
 abbrev pub FarValues : (ℕ → ℕ) → Numbers → ℕ → ℕ → Memory → (ℕ → Local) → Type 0
 FarValues base numbers i count mem sig =
     (load : Far) (k : ℕ) (js : List ℕ) → numbers.far load k js → (q : ℕ) → q < count
-    → ((x : ℕ) → AmongCells load 1 (far_at numbers base k js (i + q)) x → IsMapped mem x) × ((sig q).fars load k js ≡ value_at load (far_at numbers base k js (i + q)) mem (i + q))
+    → ((x : ℕ) → AmongCells load 1 (far_at numbers base k js (i + q)) x → HasByte mem x) × ((sig q).fars load k js ≡ value_at load (far_at numbers base k js (i + q)) mem (i + q))
+
+-- a register that holds the address of elements: neither RSP nor RDI
+abbrev pub is_array : ℕ → Bool
+is_array r = not (r == 4 || r == 7)
 
 -- an instruction of a far load's code touches the frame, or elements that far loads read for these elements, and stores no vector register
 abbrev pub TouchesFar : (ℕ → ℕ) → Numbers → ℕ → ℕ → ℕ → Core → Ins → Type 0
