@@ -458,21 +458,21 @@ module _ (f : FunctionValue) (at temps : List ℕ) (insn : Insn) (rest : List In
       clear : Each (IsClear ts) ss
 
     -- an operand of an instruction that is no far load
-  nearby : is_far insn ≡ false → (x : Operand) → ((p : ℕ) → x ≡ operand.Var p → list_any (is_place p) insn.sources.items ≡ true) → (p : ℕ) → x ≡ operand.Var p → is_near f p ≡ true
-  nearby near x among p e =
-      let stands : Contains f.insns insn = subst (λ is. Contains is insn) (sym whole) (Contains-append_right earlier (insn ∷ rest) insn (0, omega arith, refl)) in
-      let reads : reads_near p insn ≡ true = ap (λ b. not b && list_any (is_place p) insn.sources.items) near ∙ among p e in
-      or_right (is_of kind.Dest (var_at f.vars p)) (list_any (reads_near p) f.insns || not (list_any (reads_far p) f.insns))
-      (ap (λ b. b || not (list_any (reads_far p) f.insns)) (any_at (reads_near p) f.insns insn stands reads))
+    nearby : is_far insn ≡ false → (x : Operand) → ((p : ℕ) → x ≡ operand.Var p → list_any (is_place p) insn.sources.items ≡ true) → (p : ℕ) → x ≡ operand.Var p → is_near f p ≡ true
+    nearby near x among p e =
+        let stands : Contains f.insns insn = subst (λ is. Contains is insn) (sym whole) (Contains-append_right earlier (insn ∷ rest) insn (0, omega arith, refl)) in
+        let reads : reads_near p insn ≡ true = ap (λ b. not b && list_any (is_place p) insn.sources.items) near ∙ among p e in
+        or_right (is_of kind.Dest (var_at f.vars p)) (list_any (reads_near p) f.insns || not (list_any (reads_far p) f.insns))
+        (ap (λ b. b || not (list_any (reads_far p) f.insns)) (any_at (reads_near p) f.insns insn stands reads))
 
-  first_place : (x : Operand) (more : List Operand) → insn.sources.items ≡ x ∷ more → (p : ℕ) → x ≡ operand.Var p → list_any (is_place p) insn.sources.items ≡ true
-  first_place x more are p e = ap (list_any (is_place p)) are ∙ ap (λ o. is_place p o || list_any (is_place p) more) e ∙ ap (λ b. b || list_any (is_place p) more) (same_number p)
+    first_place : (x : Operand) (more : List Operand) → insn.sources.items ≡ x ∷ more → (p : ℕ) → x ≡ operand.Var p → list_any (is_place p) insn.sources.items ≡ true
+    first_place x more are p e = ap (list_any (is_place p)) are ∙ ap (λ o. is_place p o || list_any (is_place p) more) e ∙ ap (λ b. b || list_any (is_place p) more) (same_number p)
 
-  second_place : (x y : Operand) → insn.sources.items ≡ x ∷ y ∷ [] → (p : ℕ) → y ≡ operand.Var p → list_any (is_place p) insn.sources.items ≡ true
-  second_place x y are p e =
-      ap (list_any (is_place p)) are ∙ ap (λ o. is_place p x || (is_place p o || false)) e ∙ ap (λ b. is_place p x || (b || false)) (same_number p) ∙ or_true (is_place p x)
+    second_place : (x y : Operand) → insn.sources.items ≡ x ∷ y ∷ [] → (p : ℕ) → y ≡ operand.Var p → list_any (is_place p) insn.sources.items ≡ true
+    second_place x y are p e =
+        ap (list_any (is_place p)) are ∙ ap (λ o. is_place p x || (is_place p o || false)) e ∙ ap (λ b. is_place p x || (b || false)) (same_number p) ∙ or_true (is_place p x)
 
-  stood : (o : Operand) → Reads o → (x : ℕ) → o ≡ operand.Var x → IsTemp f x → Stands at temps steps x (last_place x) × (last_place x < places)
+    stood : (o : Operand) → Reads o → (x : ℕ) → o ≡ operand.Var x → IsTemp f x → Stands at temps steps x (last_place x) × (last_place x < places)
     stood o reads x is e = let r = reads x is e in (stand.reads x r, last_inside x r)
 
     has_first : (x : Operand) (more : List Operand) → insn.sources.items ≡ x ∷ more → (m : Operand) → number_in f.vars x ≡ Some m → Has (patterns_in f) (used insn.op 0 m)

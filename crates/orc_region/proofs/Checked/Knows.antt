@@ -99,16 +99,16 @@ computed_near : (insn : Insn) → is_far insn ≡ false → computed_op insn.op 
 computed_near insn near = ap (computed_by insn.op) (near_op insn near)
 
 module _ (f : FunctionValue) (at temps : List ℕ) (insn : Insn) where
-  abbrev items_at : List Item
+  abbrev pub items_at : List Item
   items_at = source_items f.vars (patterns_in f) temps insn.op 0 insn.sources.items
 
-  abbrev brought_at : List Source
+  abbrev pub brought_at : List Source
   brought_at = sources_of (seats_of f at) (far_of insn.op) items_at
 
-  brought_near : is_far insn ≡ false → brought_at ≡ sources_at f at temps insn
+  pub brought_near : is_far insn ≡ false → brought_at ≡ sources_at f at temps insn
   brought_near near = ap (λ o. sources_of (seats_of f at) o items_at) (near_op insn near)
 
-  brought_far : (x : IsFarLoad f temps insn) → brought_at ≡ FromFar x.load x.slot x.js ∷ []
+  pub brought_far : (x : IsFarLoad f temps insn) → brought_at ≡ FromFar x.load x.slot x.js ∷ []
   brought_far x = ap (λ o. sources_of (seats_of f at) o items_at) x.is ∙ x.sources
 
 -- ---- what emulation does
@@ -438,6 +438,10 @@ module _ (f : FunctionValue) (at : List ℕ) (call : Call) (n : ℕ) (base : ℕ
 
 -- ---- what the code needs
 
+-- where the instruction is a far load, its values for so many elements come by no more instructions than others have
+abbrev pub IsLight : ℕ → Insn → Type 0
+IsLight count insn = (load : Far) → far_of insn.op ≡ Some load → far_length load count ≤ 104
+
 module _ (f : FunctionValue) (h : is_function f ≡ true) (at : List ℕ) (count : ℕ) (is_count : IsCount f count) where
   from_slot : (temps : List ℕ) (steps : List Step) (op : Op) (prefix position : ℕ) (o : Operand) (s : Source) → IsSourced f at temps steps op prefix position o s → IsFromSlot count (size_of_slot f.vars) s
   from_slot temps steps op prefix position o (FromArray k) d = subst (λ k. IsWidth (count * size_of_slot f.vars k) × (k < 12)) d.3 (slot_width f h count is_count d.0 (size_of_source op position * prefix) d.2, slot_small f h d.0 (size_of_source op position * prefix) d.2)
@@ -672,17 +676,13 @@ module _ (f : FunctionValue) (h : is_function f ≡ true) (at : List ℕ) (count
 
   -- ---- the weight of an action
 
-  -- a far load is a block's part that no more instructions than others have
-  abbrev pub IsLight : Insn → Type 0
-  IsLight insn = (load : Far) → far_of insn.op ≡ Some load → far_length load count ≤ 104
-
-  record Weighs {target : CodeTarget} (insn : Insn) (a : Action) : Type 0 where
+  record Weighs (target : CodeTarget) (insn : Insn) (a : Action) : Type 0 where
     within : weight count a ≤ insn_cost target (lanes f) (spills f) f.vars insn
     few : weight count a ≤ 317
-    light : IsLight insn → weight count a ≤ 108
+    light : IsLight count insn → weight count a ≤ 108
 
-  weighs : {target : CodeTarget} (temps : List ℕ) (insn : Insn) (rest : List Insn) (a : Action) → IsPlanned f at temps insn rest → FitsIn count insn → IsAction target (seats_of f at) count (step_at f temps insn) a → Weighs {target} insn a
-  weighs {target} temps insn rest a d fits is = go d.how
+  weighs : (target : CodeTarget) (temps : List ℕ) (insn : Insn) (rest : List Insn) (a : Action) → IsPlanned f at temps insn rest → FitsIn count insn → IsAction target (seats_of f at) count (step_at f temps insn) a → Weighs target insn a
+  weighs target temps insn rest a d fits is = go d.how
     where
       results : to_weights a.to ≡ to_weights (targets_at f at temps insn)
       results = ap to_weights is.to
@@ -690,7 +690,7 @@ module _ (f : FunctionValue) (h : is_function f ≡ true) (at : List ℕ) (count
       to : AreFewTo insn.results.items (targets_at f at temps insn)
       to = to_few temps insn rest d
 
-      go : IsNearLoad f at temps insn rest ⊎ IsFarLoad f temps insn → Weighs {target} insn a
+      go : IsNearLoad f at temps insn rest ⊎ IsFarLoad f temps insn → Weighs target insn a
       go (inl x) =
           let few = there_near temps insn rest x in
           let sources : from_weights count a.sources ≡ from_weights count (sources_at f at temps insn) = ap (from_weights count) (is.sources ∙ brought_near f at temps insn x.near) in
@@ -721,11 +721,11 @@ module _ (f : FunctionValue) (h : is_function f ≡ true) (at : List ℕ) (count
   -- ---- actions
 
   movable_one : {target : CodeTarget} (temps : List ℕ) (insn : Insn) (rest : List Insn) (a : Action) → IsPlanned f at temps insn rest → FitsIn count insn → IsAction target (seats_of f at) count (step_at f temps insn) a → IsMovable count (size_of_slot f.vars) a
-  movable_one temps insn rest a d fits is = record {
+  movable_one {target} temps insn rest a d fits is = record {
     to = subst (Each (IsToSlot count (size_of_slot f.vars))) (sym is.to) (to_few temps insn rest d).slots;
     sources = subst (Each (IsFromSlot count (size_of_slot f.vars))) (sym is.sources) (are_there temps insn rest d).slots;
     rule = is.rule;
-    few = (weighs temps insn rest a d fits is).few;
+    few = (weighs target temps insn rest a d fits is).few;
   }
 
   movable_from : (target : CodeTarget) (temps : List ℕ) (insns : List Insn) (actions : List Action) → ArePlanned f at temps insns → Each (FitsIn count) insns → AreActions target (seats_of f at) count (steps_from f temps insns) actions → Each (IsMovable count (size_of_slot f.vars)) actions
@@ -756,13 +756,13 @@ module _ (f : FunctionValue) (h : is_function f ≡ true) (at : List ℕ) (count
   weights_from target temps [] (a ∷ rest) d fits is = absurd is
   weights_from target temps (insn ∷ insns) [] d fits is = absurd is
   weights_from target temps (insn ∷ insns) (a ∷ rest) d fits is =
-      omega (arith, (weighs {target} temps insn insns a d.0 fits.0 is.0.0).within, weights_from target (temps ++ made_by f.vars insn) insns rest d.1 fits.1 is.1, sum_by-cons (insn_cost target (lanes f) (spills f) f.vars) insn insns)
+      omega (arith, (weighs target temps insn insns a d.0 fits.0 is.0.0).within, weights_from target (temps ++ made_by f.vars insn) insns rest d.1 fits.1 is.1, sum_by-cons (insn_cost target (lanes f) (spills f) f.vars) insn insns)
 
-  light_from : (target : CodeTarget) (temps : List ℕ) (insns : List Insn) (actions : List Action) → ArePlanned f at temps insns → Each (FitsIn count) insns → Each IsLight insns → AreActions target (seats_of f at) count (steps_from f temps insns) actions → Each (λ a. weight count a ≤ 108) actions
+  light_from : (target : CodeTarget) (temps : List ℕ) (insns : List Insn) (actions : List Action) → ArePlanned f at temps insns → Each (FitsIn count) insns → Each (IsLight count) insns → AreActions target (seats_of f at) count (steps_from f temps insns) actions → Each (λ a. weight count a ≤ 108) actions
   light_from target temps [] [] d fits light is = tt
   light_from target temps [] (a ∷ rest) d fits light is = absurd is
   light_from target temps (insn ∷ insns) [] d fits light is = absurd is
-  light_from target temps (insn ∷ insns) (a ∷ rest) d fits light is = ((weighs {target} temps insn insns a d.0 fits.0 is.0.0).light light.0, light_from target (temps ++ made_by f.vars insn) insns rest d.1 fits.1 light.1 is.1)
+  light_from target temps (insn ∷ insns) (a ∷ rest) d fits light is = ((weighs target temps insn insns a d.0 fits.0 is.0.0).light light.0, light_from target (temps ++ made_by f.vars insn) insns rest d.1 fits.1 light.1 is.1)
 
   -- ---- what is asked of a step whose code is to be given
 
@@ -826,7 +826,7 @@ module _ (f : FunctionValue) (h : is_function f ≡ true) (at : List ℕ) (stand
   weights_within target actions is = weights_from f h at count is_count target [] f.insns actions (are_planned f h at stand) is_count.operands is
 
   -- where each far load has few instructions, so has each action
-  pub all_light : Each (IsLight f h at count is_count) f.insns → (target : CodeTarget) (actions : List Action) → AreActions target (seats_of f at) count (steps_of f) actions → Each (λ a. weight count a ≤ 108) actions
+  pub all_light : Each (IsLight count) f.insns → (target : CodeTarget) (actions : List Action) → AreActions target (seats_of f at) count (steps_of f) actions → Each (λ a. weight count a ≤ 108) actions
   unfolding steps_of
   all_light light target actions is = light_from f h at count is_count target [] f.insns actions (are_planned f h at stand) is_count.operands light is
 

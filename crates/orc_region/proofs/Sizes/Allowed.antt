@@ -22,7 +22,7 @@ rex_short false false false = omega arith
 
 plus_short : (wide : Bool) (opcode rm : ℕ) → length (plus_form wide opcode rm) ≤ 2
 unfolding plus_form
-plus_short wide opcode rm = omega (arith, rex_short wide (top 0) (top rm), length-append (rex wide 0 rm) (opcode + rm % 8 ∷ []))
+plus_short wide opcode rm = omega (arith, rex_short wide (top 0) (top rm), length-append (rex wide 0 rm) ((opcode + rm % 8) ∷ []))
 
 -- a product is a byte longer than the move of a register, and an address has the length of a load
 fine_imul : (d s : ℕ) → d < 16 → s < 16 → IsFine (Imul d s)

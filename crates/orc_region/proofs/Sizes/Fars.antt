@@ -1,5 +1,5 @@
--- The code that brings a far load's values: its instructions are allowed and few, and those that go by other registers than RSP are at most two for each element.
-use Rattle.std.proofs.Common.{◌≡◌, ℕ, zero, suc, ◌+◌, ◌-◌, ◌*◌, ◌^◌, ◌<◌, ◌≤◌, ◌==◌, not, Bool, true, false, if◌then◌else◌, ℤ, pos, List, [], ◌∷◌, ◌++◌, length, map, get_or, Option, None, Some, true≢false, refl, sym, ap, ◌∙◌, subst, arith, inl, inr, length-append}
+-- The code that brings a far load's values: its instructions are allowed and few, and those that go by other registers than RSP and RDI are at most two for each element.
+use Rattle.std.proofs.Common.{◌≡◌, ℕ, zero, suc, ◌+◌, ◌-◌, ◌*◌, ◌^◌, ◌<◌, ◌≤◌, ◌==◌, ◌||◌, not, Bool, true, false, if◌then◌else◌, ℤ, pos, List, [], ◌∷◌, ◌++◌, length, map, get_or, Option, None, Some, true≢false, refl, sym, ap, ◌∙◌, subst, arith, inl, inr, length-append}
 use Rattle.std.proofs.lemmas.Bool.{eqb-true}
 use Rattle.std.proofs.lemmas.List.{length-map}
 use Rattle.x86_ins.specs.declared.ins.Ins.{Ins}
@@ -17,8 +17,7 @@ use Rattle.orc_frame.specs.Layout.{pattern_slot}
 use Rattle.orc_resample.specs.declared.plan.FarPlan.{FarPlan}
 use Rattle.orc_resample.specs.declared.turn.FarSource.{FarSource}
 use Rattle.orc_resample.specs.Code.{element_of, elements_code, gather_with, plan_of, enter_code, leave_code, bring_code}
-use Rattle.orc_resample.specs.Ready.{is_pointer, far_count}
-use Rattle.orc_resample.specs.Bring.{IsFarSource, IsKept, IsSpare, LiesIn, AreApart, pattern_at}
+use Rattle.orc_resample.specs.Bring.{IsFarSource, IsKept, IsSpare, LiesIn, AreApart, is_array, array_count}
 use Rattle.orc_resample.proofs.Touched.{bring_touches, bring_short, bring_allowed}
 use Rattle.orc_resample.proofs.Ranges.{bring_ins}
 use Rattle.orc_region.specs.Code.{pointer, far_source, from_zero_code}
@@ -157,23 +156,25 @@ far_cost Ldreslinl count lanes l = omega (arith, l)
 
 -- ---- what it touches
 
-module _ (by : ℕ → Bool) (by_stack : by 4 ≡ false) where
-  fewer : (r : ℕ) → (if by r then 1 else 0) ≤ (if is_pointer r then 1 else 0)
-  fewer r = go (r == 4) refl (by r) refl
+-- by registers of which RSP and RDI are none
+module _ (by : ℕ → Bool) (by_stack : by 4 ≡ false) (by_block : by 7 ≡ false) where
+  fewer : (r : ℕ) → (if by r then 1 else 0) ≤ (if is_array r then 1 else 0)
+  fewer r = go (r == 4) (r == 7) refl refl (by r) refl
     where
-      go : (s : Bool) → (r == 4) ≡ s → (b : Bool) → by r ≡ b → (if b then 1 else 0) ≤ (if not s then 1 else 0)
-      go s e false g = omega arith
-      go false e true g = omega arith
-      go true e true g = absurd (true≢false (sym g ∙ ap by (eqb-true r 4 e) ∙ by_stack))
+      go : (s t : Bool) → (r == 4) ≡ s → (r == 7) ≡ t → (b : Bool) → by r ≡ b → (if b then 1 else 0) ≤ (if not (s || t) then 1 else 0)
+      go s t e d false g = omega arith
+      go false false e d true g = omega arith
+      go true t e d true g = absurd (true≢false (sym g ∙ ap by (eqb-true r 4 e) ∙ by_stack))
+      go false true e d true g = absurd (true≢false (sym g ∙ ap by (eqb-true r 7 d) ∙ by_block))
 
-  fewer_at : (i : Ins) → touch_weight by i ≤ touch_weight is_pointer i
+  fewer_at : (i : Ins) → touch_weight by i ≤ touch_weight is_array i
   fewer_at i = go (base_of i)
     where
-      go : (o : Option ℕ) → weight_by by o ≤ weight_by is_pointer o
+      go : (o : Option ℕ) → weight_by by o ≤ weight_by is_array o
       go None = omega arith
       go (Some r) = fewer r
 
-  fewer_in : (is : List Ins) → weigh (touch_weight by) is ≤ far_count is
+  fewer_in : (is : List Ins) → weigh (touch_weight by) is ≤ array_count is
   fewer_in [] = omega arith
   fewer_in (i ∷ is) = omega (arith, fewer_at i, fewer_in is)
 
