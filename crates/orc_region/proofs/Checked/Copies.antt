@@ -63,43 +63,42 @@ pub record IsCopied (o : Op) (load : Far) : Type 0 where
   pub no_sum : is_sum (row (computed_op o)).kind ≡ false
   pub small : widest (computed_op o) ≤ 8
 
+-- by what the table says of an opcode and of its copy
+tabled : (o : Op) (load : Far) → (row o).kind ≡ kind.Far → (size_of_result o 0 ≡ far_size load) × (size_of_result o 1 ≡ 0) × (size_of_source o 0 ≡ far_size load) × (source_count o ≡ suc (far_scalars load)) → AreFour (way_of o) (far_scalars load)
+    → (class_for o target.Sse2 ≡ 0) × (class_for o target.Sse41 ≡ 0) × (has_shift o ≡ false) → ((count : ℕ) → count ≤ 16 → count * widest o ≤ 16 → far_length load count ≤ 313)
+    → (size_of_result (computed_op o) 0 ≡ far_size load) × (size_of_result (computed_op o) 1 ≡ 0) × (size_of_source (computed_op o) 0 ≡ far_size load) × (size_of_source (computed_op o) 1 ≡ 0) × (is_sum (row (computed_op o)).kind ≡ false) × (widest (computed_op o) ≤ 8) → IsCopied o load
+tabled o load kind sizes ways plain few copy = record {
+  kind = kind;
+  result = sizes.0;
+  second = sizes.1;
+  source = sizes.2;
+  count = sizes.3;
+  ways = ways;
+  class = no_class o plain.0 plain.1;
+  few = few;
+  plain = plain.2;
+  to = copy.0;
+  no_second = copy.1;
+  from = copy.2;
+  no_other = copy.3;
+  no_sum = copy.4;
+  small = copy.5;
+}
+
+-- with scalars of four bytes, at most four elements are done at once
+with_scalars : (load : Far) → ((n : ℕ) → n ≤ 4 → far_length load n ≤ 313) → (count : ℕ) → count ≤ 16 → count * 4 ≤ 16 → far_length load count ≤ 313
+with_scalars load few count most h = few count (omega (arith, h))
+
 pub copied : (o : Op) (load : Far) → far_of o ≡ Some load → IsCopied o load
-copied op.Loadoffb load e = subst (IsCopied op.Loadoffb) (some_one Loadoffb load e) (record {
-  kind = refl; result = refl; second = refl; source = refl; count = refl; ways = four_one (way_of op.Loadoffb) refl; class = no_class op.Loadoffb refl refl; few = λ n m h. omega arith; plain = refl;
-  to = refl; no_second = refl; from = refl; no_other = refl; no_sum = refl; small = omega arith;
-})
-copied op.Loadoffw load e = subst (IsCopied op.Loadoffw) (some_one Loadoffw load e) (record {
-  kind = refl; result = refl; second = refl; source = refl; count = refl; ways = four_one (way_of op.Loadoffw) refl; class = no_class op.Loadoffw refl refl; few = λ n m h. omega arith; plain = refl;
-  to = refl; no_second = refl; from = refl; no_other = refl; no_sum = refl; small = omega arith;
-})
-copied op.Loadoffl load e = subst (IsCopied op.Loadoffl) (some_one Loadoffl load e) (record {
-  kind = refl; result = refl; second = refl; source = refl; count = refl; ways = four_one (way_of op.Loadoffl) refl; class = no_class op.Loadoffl refl refl; few = λ n m h. omega arith; plain = refl;
-  to = refl; no_second = refl; from = refl; no_other = refl; no_sum = refl; small = omega arith;
-})
-copied op.Loadupdb load e = subst (IsCopied op.Loadupdb) (some_one Loadupdb load e) (record {
-  kind = refl; result = refl; second = refl; source = refl; count = refl; ways = four_none (way_of op.Loadupdb); class = no_class op.Loadupdb refl refl; few = λ n m h. omega (arith, m); plain = refl;
-  to = refl; no_second = refl; from = refl; no_other = refl; no_sum = refl; small = omega arith;
-})
-copied op.Loadupib load e = subst (IsCopied op.Loadupib) (some_one Loadupib load e) (record {
-  kind = refl; result = refl; second = refl; source = refl; count = refl; ways = four_none (way_of op.Loadupib); class = no_class op.Loadupib refl refl; few = λ n m h. omega (arith, m); plain = refl;
-  to = refl; no_second = refl; from = refl; no_other = refl; no_sum = refl; small = omega arith;
-})
-copied op.Ldresnearb load e = subst (IsCopied op.Ldresnearb) (some_one Ldresnearb load e) (record {
-  kind = refl; result = refl; second = refl; source = refl; count = refl; ways = four_two (way_of op.Ldresnearb) refl refl; class = no_class op.Ldresnearb refl refl; few = λ n m h. (let l : n * 4 ≤ 16 = h in omega (arith, l)); plain = refl;
-  to = refl; no_second = refl; from = refl; no_other = refl; no_sum = refl; small = omega arith;
-})
-copied op.Ldresnearl load e = subst (IsCopied op.Ldresnearl) (some_one Ldresnearl load e) (record {
-  kind = refl; result = refl; second = refl; source = refl; count = refl; ways = four_two (way_of op.Ldresnearl) refl refl; class = no_class op.Ldresnearl refl refl; few = λ n m h. (let l : n * 4 ≤ 16 = h in omega (arith, l)); plain = refl;
-  to = refl; no_second = refl; from = refl; no_other = refl; no_sum = refl; small = omega arith;
-})
-copied op.Ldreslinb load e = subst (IsCopied op.Ldreslinb) (some_one Ldreslinb load e) (record {
-  kind = refl; result = refl; second = refl; source = refl; count = refl; ways = four_two (way_of op.Ldreslinb) refl refl; class = no_class op.Ldreslinb refl refl; few = λ n m h. (let l : n * 4 ≤ 16 = h in omega (arith, l)); plain = refl;
-  to = refl; no_second = refl; from = refl; no_other = refl; no_sum = refl; small = omega arith;
-})
-copied op.Ldreslinl load e = subst (IsCopied op.Ldreslinl) (some_one Ldreslinl load e) (record {
-  kind = refl; result = refl; second = refl; source = refl; count = refl; ways = four_two (way_of op.Ldreslinl) refl refl; class = no_class op.Ldreslinl refl refl; few = λ n m h. (let l : n * 4 ≤ 16 = h in omega (arith, l)); plain = refl;
-  to = refl; no_second = refl; from = refl; no_other = refl; no_sum = refl; small = omega arith;
-})
+copied op.Loadoffb load e = subst (IsCopied op.Loadoffb) (some_one Loadoffb load e) (tabled op.Loadoffb Loadoffb refl (refl, refl, refl, refl) (four_one (way_of op.Loadoffb) refl) (refl, refl, refl) (λ n m h. omega arith) (refl, refl, refl, refl, refl, omega arith))
+copied op.Loadoffw load e = subst (IsCopied op.Loadoffw) (some_one Loadoffw load e) (tabled op.Loadoffw Loadoffw refl (refl, refl, refl, refl) (four_one (way_of op.Loadoffw) refl) (refl, refl, refl) (λ n m h. omega arith) (refl, refl, refl, refl, refl, omega arith))
+copied op.Loadoffl load e = subst (IsCopied op.Loadoffl) (some_one Loadoffl load e) (tabled op.Loadoffl Loadoffl refl (refl, refl, refl, refl) (four_one (way_of op.Loadoffl) refl) (refl, refl, refl) (λ n m h. omega arith) (refl, refl, refl, refl, refl, omega arith))
+copied op.Loadupdb load e = subst (IsCopied op.Loadupdb) (some_one Loadupdb load e) (tabled op.Loadupdb Loadupdb refl (refl, refl, refl, refl) (four_none (way_of op.Loadupdb)) (refl, refl, refl) (λ n m h. omega (arith, m)) (refl, refl, refl, refl, refl, omega arith))
+copied op.Loadupib load e = subst (IsCopied op.Loadupib) (some_one Loadupib load e) (tabled op.Loadupib Loadupib refl (refl, refl, refl, refl) (four_none (way_of op.Loadupib)) (refl, refl, refl) (λ n m h. omega (arith, m)) (refl, refl, refl, refl, refl, omega arith))
+copied op.Ldresnearb load e = subst (IsCopied op.Ldresnearb) (some_one Ldresnearb load e) (tabled op.Ldresnearb Ldresnearb refl (refl, refl, refl, refl) (four_two (way_of op.Ldresnearb) refl refl) (refl, refl, refl) (with_scalars Ldresnearb (λ n m. omega (arith, m))) (refl, refl, refl, refl, refl, omega arith))
+copied op.Ldresnearl load e = subst (IsCopied op.Ldresnearl) (some_one Ldresnearl load e) (tabled op.Ldresnearl Ldresnearl refl (refl, refl, refl, refl) (four_two (way_of op.Ldresnearl) refl refl) (refl, refl, refl) (with_scalars Ldresnearl (λ n m. omega (arith, m))) (refl, refl, refl, refl, refl, omega arith))
+copied op.Ldreslinb load e = subst (IsCopied op.Ldreslinb) (some_one Ldreslinb load e) (tabled op.Ldreslinb Ldreslinb refl (refl, refl, refl, refl) (four_two (way_of op.Ldreslinb) refl refl) (refl, refl, refl) (with_scalars Ldreslinb (λ n m. omega (arith, m))) (refl, refl, refl, refl, refl, omega arith))
+copied op.Ldreslinl load e = subst (IsCopied op.Ldreslinl) (some_one Ldreslinl load e) (tabled op.Ldreslinl Ldreslinl refl (refl, refl, refl, refl) (four_two (way_of op.Ldreslinl) refl refl) (refl, refl, refl) (with_scalars Ldreslinl (λ n m. omega (arith, m))) (refl, refl, refl, refl, refl, omega arith))
 copied other load e = absurd (none_some e)
 
 -- the computed opcode has no larger operand
