@@ -1,15 +1,13 @@
 -- A far load that passes the checks: its array, and the patterns of its scalars.
-use Rattle.std.proofs.Common.{◌≡◌, ℕ, zero, suc, ◌+◌, ◌*◌, ◌<◌, ◌≤◌, ◌==◌, ◌&&◌, ◌||◌, not, Bool, true, false, if◌then◌else◌, List, [], ◌∷◌, ◌++◌, length, map, get_or, Option, Some, None, refl, sym, ap, ◌∙◌, subst, arith, true≢false}
+use Rattle.std.proofs.Common.{◌≡◌, ℕ, suc, ◌+◌, ◌*◌, ◌<◌, ◌≤◌, ◌==◌, ◌&&◌, ◌||◌, not, Bool, true, false, if◌then◌else◌, List, [], ◌∷◌, ◌++◌, length, map, Option, Some, None, refl, sym, ap, ◌∙◌, subst, arith, true≢false}
 use Rattle.std.specs.Prelude.{Contains}
 use Rattle.std.specs.List.{list_any, list_all, cons_option, sum_by}
-use Rattle.std.proofs.lemmas.Bool.{ltb-true, eqb-true}
-use Rattle.std.proofs.lemmas.List.{length-map}
+use Rattle.std.proofs.lemmas.Bool.{ltb-true}
 use Rattle.std.proofs.lemmas.List.Elements.{Contains-append_right}
 use Rattle.std.proofs.lemmas.List.Sums.{sum_by-cons}
 use Rattle.orc_bits.proofs.LaneLaws.{eq_false}
 use Rattle.orc_ops.specs.declared.far.Far.{Far}
 use Rattle.orc_ops.specs.declared.opcode.Op.{Op}
-use Rattle.orc_ops.specs.declared.opcode.Kind.{Kind}
 use Rattle.orc_ops.specs.declared.opcode.Kind.TheVariants as opkind
 use Rattle.orc_ops.specs.Far.{far_of, far_size, far_scalars}
 use Rattle.orc_ops.specs.Table.{row, size_of_source}
@@ -23,7 +21,7 @@ use Rattle.orc_program.specs.declared.program.Pattern.{Pattern}
 use Rattle.orc_program.specs.declared.fault.Fault.TheVariants as fault
 use Rattle.orc_program.specs.Program.{FunctionValue, var_at, same_kind, is_array_kind, operand_kind, far_array}
 use Rattle.orc_program.specs.Slots.{slot_of}
-use Rattle.orc_program.specs.Checks.{takes_no_prefix, check, is_kind, is_scalar, is_wrong_size, is_unset, number_in, way_of, pattern_with, pattern_number, same_pattern, uses_from, patterns_of, source_kind_fault, source_fault, sources_fault}
+use Rattle.orc_program.specs.Checks.{takes_no_prefix, check, is_kind, is_scalar, is_wrong_size, is_unset, number_in, way_of, pattern_with, same_pattern, uses_from, patterns_of, source_kind_fault, source_fault, sources_fault}
 use Rattle.orc_program.specs.Kept.{is_in_range, has_no_fault}
 use Rattle.orc_program.specs.Need.{source_cost}
 use Rattle.orc_program.proofs.Near.{or_right}
@@ -31,14 +29,13 @@ use Rattle.orc_program.proofs.KnownPatterns.{Has, used, has_uses, pattern_found}
 use Rattle.orc_program.proofs.Sizes.{both}
 use Rattle.x86_ins.specs.Way.{Each}
 use Rattle.orc_plan.specs.declared.steps.Item.{Item}
-use Rattle.orc_plan.specs.declared.steps.Item.TheVariants as item
 use Rattle.orc_plan.specs.Lowered.{pattern_item, var_item, source_item, source_items}
 use Rattle.orc_frame.specs.Frame.{no_pattern}
 use Rattle.orc_region.specs.Code.{Source, FromFar, far_sources, scalar_pattern, patterns_in}
 use Rattle.orc_region.proofs.Block.Fars.{IsFarOf, AreScalars, behind_array}
 use Rattle.orc_region.proofs.Checked.Passing.{none_left, unchecked, size_ok, Checked}
 use Rattle.orc_region.proofs.Checked.Building.{Shape}
-use Rattle.orc_region.proofs.Checked.Sized.{HasPrefix, prefix_ok}
+use Rattle.orc_region.proofs.Checked.Sized.{prefix_ok}
 use Rattle.orc_region.proofs.Checked.Copies.{IsCopied, copied}
 use Rattle.orc_region.proofs.Checked.Direct.{pattern_of, number_of}
 

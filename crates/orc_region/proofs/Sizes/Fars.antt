@@ -20,7 +20,7 @@ use Rattle.orc_resample.specs.Code.{element_of, elements_code, gather_with, plan
 use Rattle.orc_resample.specs.Bring.{IsFarSource, IsKept, IsSpare, LiesIn, AreApart, is_array, array_count}
 use Rattle.orc_resample.proofs.Touched.{bring_touches, bring_short, bring_allowed}
 use Rattle.orc_resample.proofs.Ranges.{bring_ins}
-use Rattle.orc_region.specs.Code.{pointer, far_source, from_zero_code}
+use Rattle.orc_region.specs.Code.{far_source, from_zero_code}
 use Rattle.orc_region.proofs.Block.Registers.{pointer_small}
 use Rattle.orc_region.proofs.Sizes.Cost.{far_length}
 use Rattle.orc_region.proofs.Sizes.Allowed.{fine_each}

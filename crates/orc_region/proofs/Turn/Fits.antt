@@ -2,7 +2,6 @@
 use Rattle.std.proofs.Common.{◌≡◌, ℕ, ◌+◌, ◌*◌, ◌<◌, ◌≤◌, ◌==◌, if◌then◌else◌, Bool, true, false, List, length, nat_lt, le_refl, refl, sym, ap, subst, arith, ⊎_elim}
 use Rattle.std.proofs.lemmas.Bool.{cases_lt, lt-ltb, le-ltb, ltb-true}
 use Rattle.orc_ops.specs.declared.target.Target.{Target as CodeTarget}
-use Rattle.orc_program.specs.declared.program.Insn.{Insn}
 use Rattle.orc_program.specs.Program.{FunctionValue}
 use Rattle.orc_program.specs.Kept.{is_function}
 use Rattle.orc_program.specs.Need.{lanes, has_whole_turns, begins_aligned}
@@ -11,7 +10,7 @@ use Rattle.x86_ins.specs.declared.ins.Cond.TheVariants.{Ns}
 use Rattle.x86_ins.specs.declared.ins.Ins.{Ins}
 use Rattle.x86_ins.specs.Way.{Each}
 use Rattle.x86_flow.specs.declared.tree.Flow.{Flow as Tree}
-use Rattle.x86_flow.specs.Flow.{Flow, Plain, flat, size, loop_code}
+use Rattle.x86_flow.specs.Flow.{Flow, Plain, flat, size}
 use Rattle.x86_flow.specs.Tree.{flat_of}
 use Rattle.x86_flow.proofs.Shapes.{loop_size, loop_fine}
 use Rattle.x86_flow.proofs.Spelled.{all_allowed}

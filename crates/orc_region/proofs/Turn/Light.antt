@@ -1,10 +1,9 @@
 -- A turn with few instructions has far loads with few, so that its actions are as small as those of other functions.
-use Rattle.std.proofs.Common.{◌≡◌, ℕ, zero, suc, ◌+◌, ◌*◌, ◌<◌, ◌≤◌, ◌⊎◌, inl, inr, Bool, true, false, pos, List, [], ◌∷◌, ◌++◌, length, map, Option, Some, None, refl, sym, ap, ◌∙◌, subst, arith, length-append}
+use Rattle.std.proofs.Common.{◌≡◌, ℕ, ◌+◌, ◌*◌, ◌≤◌, ◌⊎◌, inl, inr, Bool, true, false, pos, List, [], ◌∷◌, ◌++◌, length, map, sym, ap, ◌∙◌, subst, arith, length-append}
 use Rattle.std.proofs.lemmas.List.{length-map}
 use Rattle.orc_bits.proofs.Memories.{none_some, some_one}
 use Rattle.orc_ops.specs.declared.far.Far.{Far}
 use Rattle.orc_ops.specs.declared.target.Target.{Target as CodeTarget}
-use Rattle.orc_ops.specs.Far.{far_of}
 use Rattle.orc_program.specs.declared.program.Insn.{Insn}
 use Rattle.orc_program.specs.declared.program.VarKind.TheVariants as kind
 use Rattle.orc_program.specs.Program.{FunctionValue, count_of}
@@ -19,7 +18,7 @@ use Rattle.x86_ins.specs.declared.ins.Ins.TheVariants.{AluImm}
 use Rattle.x86_ins.specs.Renaming.{renamed, renaming}
 use Rattle.x86_ins.specs.Way.{Each}
 use Rattle.orc_resample.specs.Code.{bring_code}
-use Rattle.orc_region.specs.Code.{Action, spares_second, Source, FromFar, Seats, seats_of, patterns_in, IsAction, IsTaking, AreActions, is_first_taken, AreBlocks, IsTurnOf, far_source, from_zero_code, first_register, second_register, rule_code, brought, sources_far_code, sum_code, results_far_code, action_names, action_far_code, named_code, own_names, actions_far_code, advance_code, far_by, aligned_first}
+use Rattle.orc_region.specs.Code.{Action, spares_second, Source, FromFar, seats_of, patterns_in, IsAction, IsTaking, AreActions, is_first_taken, IsTurnOf, far_source, from_zero_code, first_register, second_register, rule_code, brought, sources_far_code, sum_code, results_far_code, action_names, action_far_code, named_code, own_names, actions_far_code, advance_code, far_by, aligned_first}
 use Rattle.orc_region.proofs.Sizes.Cost.{far_length}
 use Rattle.orc_region.proofs.Sizes.Fars.{far_light, far_one}
 use Rattle.orc_region.proofs.Checked.Acts.{AllPlaced, IsNearLoad, IsPlanned, ArePlanned, are_planned}
