@@ -2,8 +2,10 @@
 pub mod Passing
 pub mod Building
 pub mod Sized
+pub mod Copies
 pub mod Several
 pub mod Direct
+pub mod Fars
 pub mod Acts
 pub mod Knows
 pub mod Numbered

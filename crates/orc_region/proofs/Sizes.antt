@@ -1,5 +1,7 @@
 -- How many instructions, steps and bytes the code has, and that its instructions are allowed.
 pub mod Cost
+pub mod Allowed
+pub mod Fars
 pub mod Counts
 pub mod Vectored
 pub mod Bytes

@@ -6,3 +6,5 @@ pub mod Lists
 pub mod Touches
 pub mod Operands
 pub mod Blocks
+pub mod Light
+pub mod Fits

@@ -1,6 +1,10 @@
 -- An instruction that passes the checks, and its step with good places: what its sources and its results are.
-use Rattle.std.proofs.Common.{◌≡◌, ◌≢◌, ℕ, ◌+◌, ◌<◌, ◌≤◌, ◌==◌, ◌&&◌, ◌||◌, Bool, true, false, if◌then◌else◌, List, [], ◌∷◌, ◌++◌, length, map, slice_index, Some, None, refl, sym, ap, ◌∙◌, subst, arith, ◌⊎◌, inl, inr, ⊎_elim, append_assoc, append-nil, length-append, true≢false}
+use Rattle.std.proofs.Common.{◌≡◌, ◌≢◌, ℕ, ◌+◌, ◌*◌, ◌<◌, ◌≤◌, ◌==◌, ◌&&◌, ◌||◌, not, Bool, true, false, if◌then◌else◌, List, [], ◌∷◌, ◌++◌, length, map, slice_index, Option, Some, None, is_some, refl, sym, ap, ap₂, ◌∙◌, subst, arith, ◌⊎◌, inl, inr, ⊎_elim, append_assoc, append-nil, length-append, true≢false}
+use Rattle.std.specs.Prelude.{Contains}
 use Rattle.std.specs.List.{list_all, list_any}
+use Rattle.std.proofs.lemmas.List.Elements.{Contains-append_right}
+use Rattle.orc_ops.specs.declared.far.Far.{Far}
+use Rattle.orc_ops.specs.Far.{far_of}
 use Rattle.orc_ops.specs.declared.opcode.Op.{Op}
 use Rattle.orc_ops.specs.Table.{row, size_of_result, size_of_source}
 use Rattle.orc_program.specs.declared.program.VarKind.{VarKind}
@@ -9,8 +13,9 @@ use Rattle.orc_program.specs.declared.program.Operand.{Operand}
 use Rattle.orc_program.specs.declared.program.Operand.TheVariants as operand
 use Rattle.orc_program.specs.declared.program.Insn.{Insn}
 use Rattle.orc_program.specs.declared.program.Pattern.{Pattern}
-use Rattle.orc_program.specs.Program.{FunctionValue, var_at, same_kind, is_of, temps_among, is_temp, count_before, is_far, has_far}
-use Rattle.orc_program.proofs.Near.{near_op, near_parts}
+use Rattle.orc_program.specs.Program.{FunctionValue, var_at, same_kind, is_of, temps_among, is_temp, is_place, count_before, is_far}
+use Rattle.orc_program.specs.Good.{is_near, reads_near, reads_far}
+use Rattle.orc_program.proofs.Near.{near_op, any_at, or_right}
 use Rattle.orc_program.specs.Checks.{number_in, way_of, uses_from, patterns_of, source_fault, sources_fault, result_fault, results_fault, insn_fault}
 use Rattle.orc_program.specs.Kept.{is_function, all_pass, is_shaped, is_in_range, has_no_fault, result_count, source_count, count_sizes}
 use Rattle.orc_program.specs.Need.{is_in, made_by, read_by, places, registers, spills}
@@ -24,15 +29,17 @@ use Rattle.orc_plan.specs.Lowered.{last_value, acc_item, result_item, result_ite
 use Rattle.orc_plan.specs.Standing.{Stands, StandAt, AllStand}
 use Rattle.orc_plan.proofs.Last.{last_below}
 use Rattle.orc_program.specs.Slots.{slot_of}
-use Rattle.orc_region.specs.Code.{Source, FromArray, FromPattern, FromResident, FromPlace, FromSlot, FromFar, Target, ToPlace, to_place, seats_of, source_of, target_of, patterns_in, place_register, made_in, first_register, second_register}
+use Rattle.orc_region.specs.Code.{Source, FromArray, FromPattern, FromResident, FromPlace, FromSlot, FromFar, Target, ToArray, ToSum, ToResident, ToPlace, ToSlot, to_place, computed_by, computed_op, seats_of, source_of, target_of, patterns_in, place_register, made_in, first_register, second_register}
 use Rattle.orc_region.proofs.Block.Places.{by_target}
 use Rattle.orc_region.proofs.Block.Sums.{by_sum}
-use Rattle.orc_region.proofs.Block.Emulated.{IsTemp}
+use Rattle.orc_region.proofs.Block.Emulated.{IsCells, IsTemp}
 use Rattle.orc_region.proofs.Block.Elements.{Follows}
 use Rattle.orc_region.proofs.Checked.Passing.{none_left, Checked, checked}
 use Rattle.orc_region.proofs.Checked.Building.{Shape, shape_of}
 use Rattle.orc_region.proofs.Checked.Sized.{some_sizes, has_sizes, HasPrefix, prefix_ok, sum_ok, near_count}
 use Rattle.orc_program.proofs.KnownPatterns.{Has, used, has_uses, first_use, second_use}
+use Rattle.orc_region.proofs.Checked.Copies.{copied, one_result}
+use Rattle.orc_region.proofs.Checked.Fars.{IsFarLoad, far_load}
 use Rattle.orc_region.proofs.Checked.Direct.{IsSourced, IsTargeted, sourced, to_of, targeted, temp_targeted}
 
 -- a value's place is a spill slot only where the function spills
@@ -85,17 +92,21 @@ IsClear ts (FromPlace p) = (first_register ts ≢ place_register p) × (second_r
 IsClear ts (FromFar load array js) = Unit {0}
 IsClear ts (FromSlot k) = Unit {0}
 
--- an instruction that passes the checks, before which values of these temps were made, and after which these instructions come
-pub record IsPlanned (f : FunctionValue) (at temps : List ℕ) (insn : Insn) (rest : List Insn) : Type 0 where
+-- an instruction that is no far load: its sources one by one
+pub record IsNearLoad (f : FunctionValue) (at temps : List ℕ) (insn : Insn) (rest : List Insn) : Type 0 where
+  pub near : is_far insn ≡ false
   pub sources : AreSourced f at temps (steps_after f.vars (patterns_in f) temps (insn ∷ rest)) insn.op insn.prefix insn.sources.items
       (map (source_of (seats_of f at)) (source_items f.vars (patterns_in f) temps insn.op 0 insn.sources.items))
-  pub to : AreTargeted f insn.op insn.prefix insn.results.items (map (target_of at) (result_items f.vars (length temps) insn.results.items))
+  pub clear : Each (IsClear (map (target_of at) (result_items f.vars (length temps) insn.results.items))) (map (source_of (seats_of f at)) (source_items f.vars (patterns_in f) temps insn.op 0 insn.sources.items))
+
+-- an instruction that passes the checks, before which values of these temps were made, and after which these instructions come
+pub record IsPlanned (f : FunctionValue) (at temps : List ℕ) (insn : Insn) (rest : List Insn) : Type 0 where
+  pub to : AreTargeted f (computed_op insn.op) insn.prefix insn.results.items (map (target_of at) (result_items f.vars (length temps) insn.results.items))
   pub follows : AreFollowed at insn.results.items (map (target_of at) (result_items f.vars (length temps) insn.results.items))
       (temps, steps_after f.vars (patterns_in f) temps (insn ∷ rest)) (temps ++ made_by f.vars insn, steps_after f.vars (patterns_in f) (temps ++ made_by f.vars insn) rest)
-  pub clear : Each (IsClear (map (target_of at) (result_items f.vars (length temps) insn.results.items))) (map (source_of (seats_of f at)) (source_items f.vars (patterns_in f) temps insn.op 0 insn.sources.items))
   pub apart : first_register (map (target_of at) (result_items f.vars (length temps) insn.results.items)) ≢ second_register (map (target_of at) (result_items f.vars (length temps) insn.results.items))
   pub prefix : HasPrefix insn.op insn.prefix
-  pub near : is_far insn ≡ false
+  pub how : IsNearLoad f at temps insn rest ⊎ IsFarLoad f temps insn
 
 abbrev pub ArePlanned : FunctionValue → List ℕ → List ℕ → List Insn → Type 0
 ArePlanned f at temps [] = Unit {0}
@@ -446,6 +457,21 @@ module _ (f : FunctionValue) (at temps : List ℕ) (insn : Insn) (rest : List In
       sources : AreSourced f at temps steps insn.op insn.prefix os ss
       clear : Each (IsClear ts) ss
 
+    -- an operand of an instruction that is no far load
+    nearby : is_far insn ≡ false → (x : Operand) → ((p : ℕ) → x ≡ operand.Var p → list_any (is_place p) insn.sources.items ≡ true) → (p : ℕ) → x ≡ operand.Var p → is_near f p ≡ true
+    nearby near x among p e =
+        let stands : Contains f.insns insn = subst (λ is. Contains is insn) (sym whole) (Contains-append_right earlier (insn ∷ rest) insn (0, omega arith, refl)) in
+        let reads : reads_near p insn ≡ true = ap (λ b. not b && list_any (is_place p) insn.sources.items) near ∙ among p e in
+        or_right (is_of kind.Dest (var_at f.vars p)) (list_any (reads_near p) f.insns || not (list_any (reads_far p) f.insns))
+        (ap (λ b. b || not (list_any (reads_far p) f.insns)) (any_at (reads_near p) f.insns insn stands reads))
+
+    first_place : (x : Operand) (more : List Operand) → insn.sources.items ≡ x ∷ more → (p : ℕ) → x ≡ operand.Var p → list_any (is_place p) insn.sources.items ≡ true
+    first_place x more are p e = ap (list_any (is_place p)) are ∙ ap (λ o. is_place p o || list_any (is_place p) more) e ∙ ap (λ b. b || list_any (is_place p) more) (same_number p)
+
+    second_place : (x y : Operand) → insn.sources.items ≡ x ∷ y ∷ [] → (p : ℕ) → y ≡ operand.Var p → list_any (is_place p) insn.sources.items ≡ true
+    second_place x y are p e =
+        ap (list_any (is_place p)) are ∙ ap (λ o. is_place p x || (is_place p o || false)) e ∙ ap (λ b. is_place p x || (b || false)) (same_number p) ∙ or_true (is_place p x)
+
     stood : (o : Operand) → Reads o → (x : ℕ) → o ≡ operand.Var x → IsTemp f x → Stands at temps steps x (last_place x) × (last_place x < places)
     stood o reads x is e = let r = reads x is e in (stand.reads x r, last_inside x r)
 
@@ -469,7 +495,7 @@ module _ (f : FunctionValue) (at temps : List ℕ) (insn : Insn) (rest : List In
         go (x ∷ []) are l r h c =
             let one = none_left (source_fault f.vars earlier insn.op insn.prefix 0 x) None h in
             let reads : Reads x = λ q is e. ap (λ os. is_in q (temps_among f.vars os)) are ∙ first_among f x q [] is e in
-            let s = sourced f at temps steps insn.op insn.prefix 0 earlier x (both (is_in_range f.vars x) true r).0 one.0 (has_first x [] are) (stood x reads) in
+            let s = sourced f at temps steps insn.op insn.prefix 0 earlier x (both (is_in_range f.vars x) true r).0 one.0 (has_first x [] are) (stood x reads) (nearby near x (first_place x [] are)) in
             record {
               sources = (s, ⊎_elim (λ z. z.1) (λ z. absurd (omega (arith, l, z.0))) c);
               clear = (clear_one ts free 0 x (source_at 0 x) reads s, tt);
@@ -480,39 +506,76 @@ module _ (f : FunctionValue) (at temps : List ℕ) (insn : Insn) (rest : List In
             let rs = both (is_in_range f.vars x) (list_all (is_in_range f.vars) (y ∷ [])) r in
             let reads : Reads x = λ q is e. ap (λ os. is_in q (temps_among f.vars os)) are ∙ first_among f x q (y ∷ []) is e in
             let reads' : Reads y = λ q is e. ap (λ os. is_in q (temps_among f.vars os)) are ∙ later_among f x q (y ∷ []) (first_among f y q [] is e) in
-            let s = sourced f at temps steps insn.op insn.prefix 0 earlier x rs.0 one.0 (has_first x (y ∷ []) are) (stood x reads) in
-            let t = sourced f at temps steps insn.op insn.prefix 1 earlier y (both (is_in_range f.vars y) true rs.1).0 two.0 (has_second x y are) (stood y reads') in
+            let s = sourced f at temps steps insn.op insn.prefix 0 earlier x rs.0 one.0 (has_first x (y ∷ []) are) (stood x reads) (nearby near x (first_place x (y ∷ []) are)) in
+            let t = sourced f at temps steps insn.op insn.prefix 1 earlier y (both (is_in_range f.vars y) true rs.1).0 two.0 (has_second x y are) (stood y reads') (nearby near y (second_place x y are)) in
             record {
               sources = (s, t, ⊎_elim (λ z. absurd (omega (arith, l, z.0))) (λ z. z.1) c);
               clear = (clear_one ts free 0 x (source_at 0 x) reads s, (clear_one ts free 1 y (source_at 1 y) reads' t, tt));
             }
         go (x ∷ y ∷ z ∷ more) are l r h c = absurd (⊎_elim (λ x. omega (arith, l, x.0)) (λ x. omega (arith, l, x.0)) c)
 
-    planned : is_far insn ≡ false → Shape f.vars insn → Checked f.vars earlier insn → IsPlanned f at temps insn rest
-    planned near s c =
-        let made = results_made insn.results.items refl s.results s.inside c.results in
-        let good = sources_good near (map (target_of at) (result_items f.vars (length temps) insn.results.items)) made.free insn.sources.items refl s.sources s.inside' c.sources in
-        record {
-          sources = good.sources;
-          to = made.to;
+    -- results by another opcode whose results have the same sizes
+    retargeted : (o : Op) → size_of_result insn.op 0 ≡ size_of_result o 0 → is_sum (row insn.op).kind ≡ false → is_sum (row o).kind ≡ false → (x : Operand) (t : Target) → IsTargeted f insn.op insn.prefix 0 x t → IsTargeted f o insn.prefix 0 x t
+    retargeted o size plain plain' x (ToArray k) h = (h.0, h.1, subst (λ n. IsCells f h.0 (n * insn.prefix)) size h.2, h.3, h.4, plain')
+    retargeted o size plain plain' x (ToSum g) h = absurd (true≢false (sym h.4 ∙ plain))
+    retargeted o size plain plain' x (ToResident g) h = absurd (true≢false (sym h.4 ∙ plain))
+    retargeted o size plain plain' x (ToPlace a) h = (h.0, h.1, h.2, h.3 ∙ ap (λ n. n * insn.prefix) size, plain', h.5)
+    retargeted o size plain plain' x (ToSlot k) h = (h.0, h.1, h.2, h.3 ∙ ap (λ n. n * insn.prefix) size, plain', h.5, h.6)
+
+    all_retargeted : (o : Op) → size_of_result insn.op 0 ≡ size_of_result o 0 → is_sum (row insn.op).kind ≡ false → is_sum (row o).kind ≡ false → (os : List Operand) (ts : List Target) → length os ≡ 1 → AreTargeted f insn.op insn.prefix os ts → AreTargeted f o insn.prefix os ts
+    all_retargeted o size plain plain' [] ts l h = absurd h
+    all_retargeted o size plain plain' (x ∷ []) [] l h = absurd h
+    all_retargeted o size plain plain' (x ∷ []) (t ∷ []) l h = retargeted o size plain plain' x t h
+    all_retargeted o size plain plain' (x ∷ []) (t ∷ u ∷ more) l h = absurd h
+    all_retargeted o size plain plain' (x ∷ y ∷ more) ts l h = absurd (omega (arith, l))
+
+    planned : Shape f.vars insn → Checked f.vars earlier insn → IsPlanned f at temps insn rest
+    planned s c = go (far_of insn.op) refl
+      where
+        targets : List Target
+        targets = map (target_of at) (result_items f.vars (length temps) insn.results.items)
+
+        made : AreMade insn.results.items targets
+        made = results_made insn.results.items refl s.results s.inside c.results
+
+        near_to : far_of insn.op ≡ None → AreTargeted f (computed_op insn.op) insn.prefix insn.results.items targets
+        near_to e = subst (λ o. AreTargeted f o insn.prefix insn.results.items targets) (sym (ap (computed_by insn.op) e)) made.to
+
+        far_to : (load : Far) → far_of insn.op ≡ Some load → AreTargeted f (computed_op insn.op) insn.prefix insn.results.items targets
+        far_to load e =
+            let about = copied insn.op load e in
+            let one : result_count insn.op ≡ 1 = ap₂ count_sizes about.result about.second ∙ one_result load in
+            all_retargeted (computed_op insn.op) (about.result ∙ sym about.to) (ap is_sum about.kind) about.no_sum insn.results.items targets (s.results ∙ one) made.to
+
+        go : (o : Option Far) → far_of insn.op ≡ o → IsPlanned f at temps insn rest
+        go None e =
+            let near : is_far insn ≡ false = ap is_some e in
+            let good = sources_good near targets made.free insn.sources.items refl s.sources s.inside' c.sources in
+            record {
+              to = near_to e;
+              follows = made.follows;
+              apart = made.apart;
+              prefix = prefix_ok insn.op insn.prefix c.prefix;
+              how = inl (record { near = near; sources = good.sources; clear = good.clear });
+            }
+        go (Some load) e = record {
+          to = far_to load e;
           follows = made.follows;
-          clear = good.clear;
           apart = made.apart;
           prefix = prefix_ok insn.op insn.prefix c.prefix;
-          near = near;
+          how = inr (far_load f temps earlier insn rest whole load e s c);
         }
 
 -- ---- each instruction of a function
 
-all_planned : (f : FunctionValue) (at temps : List ℕ) (earlier insns : List Insn) → f.insns ≡ earlier ++ insns → list_any is_far insns ≡ false → all_pass f.vars earlier insns ≡ true → AllStand f.vars (patterns_in f) at temps insns → IsPaid f at → ArePlanned f at temps insns
-all_planned f at temps earlier [] whole near h stand paid = tt
-all_planned f at temps earlier (insn ∷ insns) whole near h stand paid =
-    let n = near_parts insn insns near in
+all_planned : (f : FunctionValue) (at temps : List ℕ) (earlier insns : List Insn) → f.insns ≡ earlier ++ insns → all_pass f.vars earlier insns ≡ true → AllStand f.vars (patterns_in f) at temps insns → IsPaid f at → ArePlanned f at temps insns
+all_planned f at temps earlier [] whole h stand paid = tt
+all_planned f at temps earlier (insn ∷ insns) whole h stand paid =
     let a = both (is_shaped f.vars insn) (has_no_fault (insn_fault f.vars earlier insn) && all_pass f.vars (earlier ++ insn ∷ []) insns) h in
     let b = both (has_no_fault (insn_fault f.vars earlier insn)) (all_pass f.vars (earlier ++ insn ∷ []) insns) a.1 in (
-      planned f at temps insn insns stand.0 paid earlier whole n.0 (shape_of f.vars insn a.0) (checked f.vars earlier insn b.0),
-      all_planned f at (temps ++ made_by f.vars insn) (earlier ++ insn ∷ []) insns (whole ∙ sym (append_assoc earlier (insn ∷ []) insns)) n.1 b.1 stand.1 paid,
+      planned f at temps insn insns stand.0 paid earlier whole (shape_of f.vars insn a.0) (checked f.vars earlier insn b.0),
+      all_planned f at (temps ++ made_by f.vars insn) (earlier ++ insn ∷ []) insns (whole ∙ sym (append_assoc earlier (insn ∷ []) insns)) b.1 stand.1 paid,
     )
 
-pub are_planned : (f : FunctionValue) → is_function f ≡ true → has_far f ≡ false → (at : List ℕ) → AllPlaced f at → ArePlanned f at [] f.insns
-are_planned f h near at placed = all_planned f at [] [] f.insns refl near (kept_of f h).insns placed.stand placed.paid
+pub are_planned : (f : FunctionValue) → is_function f ≡ true → (at : List ℕ) → AllPlaced f at → ArePlanned f at [] f.insns
+are_planned f h at placed = all_planned f at [] [] f.insns refl (kept_of f h).insns placed.stand placed.paid

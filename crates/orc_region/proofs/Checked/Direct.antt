@@ -1,9 +1,11 @@
 -- What the checks say of operands: arrays, numbers that are patterns, accumulators, and temps that stand at places.
 use Rattle.std.proofs.Common.{◌≡◌, ℕ, ◌+◌, ◌*◌, ◌<◌, ◌≤◌, ◌==◌, ◌&&◌, not, Bool, true, false, if◌then◌else◌, List, length, get_or, slice_index, Some, None, refl, sym, ap, ◌∙◌, subst, arith, ◌⊎◌, inl, inr, ⊎_elim}
 use Rattle.std.proofs.lemmas.Bool.{true≢false, eqb-true, ltb-true}
+use Rattle.orc_ops.specs.declared.far.Far.{Far}
 use Rattle.orc_ops.specs.declared.opcode.Op.{Op}
 use Rattle.orc_ops.specs.declared.opcode.Kind.{Kind}
 use Rattle.orc_ops.specs.declared.opcode.Kind.TheVariants as opkind
+use Rattle.orc_ops.specs.Far.{far_scalars}
 use Rattle.orc_ops.specs.Table.{row, size_of_result, size_of_source}
 use Rattle.orc_program.specs.declared.program.VarKind.{VarKind}
 use Rattle.orc_program.specs.declared.program.VarKind.TheVariants as kind
@@ -16,6 +18,9 @@ use Rattle.orc_program.specs.Program.{FunctionValue, var_at, same_kind, is_array
 use Rattle.orc_program.specs.Slots.{slot_of}
 use Rattle.orc_program.specs.Checks.{check, is_kind, is_scalar, is_wrong_size, is_unset, number_in, pattern_number, way_of, result_kind_fault, source_kind_fault, result_fault, source_fault}
 use Rattle.orc_program.specs.Kept.{is_in_range, has_no_fault}
+use Rattle.orc_program.specs.Good.{is_near}
+use Rattle.orc_program.proofs.Near.{dest_near}
+use Rattle.x86_ins.specs.Way.{Each}
 use Rattle.sse_laws.specs.Meets.{is_shift, is_sum}
 use Rattle.orc_plan.specs.declared.steps.Item.TheVariants as item
 use Rattle.orc_plan.specs.declared.steps.Step.{Step}
@@ -28,6 +33,7 @@ use Rattle.orc_region.specs.Code.{Source, FromArray, FromPattern, FromResident, 
 use Rattle.orc_region.proofs.Block.Places.{by_source, by_target}
 use Rattle.orc_region.proofs.Block.Sums.{IsResident, by_sum, by_pattern}
 use Rattle.orc_region.proofs.Block.Emulated.{IsCells, IsDest, IsSum, IsTemp}
+use Rattle.orc_region.proofs.Block.Fars.{IsFarOf}
 use Rattle.orc_region.proofs.Checked.Passing.{none_left, unchecked, size_ok, no_sum}
 use Rattle.orc_program.proofs.KnownPatterns.{Has, pattern_found, used}
 
@@ -63,7 +69,7 @@ IsTargeted f op prefix position o (ToSlot k) =
     (x : ℕ) × (o ≡ operand.Var x) × IsTemp f x × ((var_at f.vars x).size ≡ size_of_result op position * prefix) × (is_sum (row op).kind ≡ false) × (k < spill_slots) × (spills f ≡ true)
 
 -- the size of a variable that is no number
-same_size : (size n : ℕ) → not (size == n) ≡ false → size ≡ n
+pub same_size : (size n : ℕ) → not (size == n) ≡ false → size ≡ n
 same_size size n h = eqb-true size n (turned (size == n) h)
   where
     turned : (b : Bool) → not b ≡ false → b ≡ true
@@ -118,6 +124,10 @@ module _ (f : FunctionValue) (at temps : List ℕ) (steps : List Step) (op : Op)
   abbrev Stood : Operand → Type 0
   Stood o = (x : ℕ) → o ≡ operand.Var x → IsTemp f x → Stands at temps steps x (slice_index at (last_value temps x)) × (slice_index at (last_value temps x) < places)
 
+  -- where it's an array, it has a cell for each element
+  abbrev Nearby : Operand → Type 0
+  Nearby o = (p : ℕ) → o ≡ operand.Var p → is_near f p ≡ true
+
   -- where an operand comes from
   abbrev pub from_of : Operand → Source
   from_of o = source_of (seats_of f at) (source_item f.vars (patterns_in f) temps (way_of op position) o)
@@ -131,8 +141,8 @@ module _ (f : FunctionValue) (at temps : List ℕ) (steps : List Step) (op : Op)
       by_pattern (Sourced o) (seats_of f at) j (λ r. (number, x.0, way, refl, r)) (λ r. (number, x.0, way))
 
   var_sourced : (p : ℕ) → p < length f.vars → has_no_fault (source_kind_fault (row op).kind position (Some (var_at f.vars p).kind)) ≡ true → is_wrong_size f.vars (size_of_source op position * prefix) (operand.Var p) ≡ false
-      → Used (operand.Var p) → Stood (operand.Var p) → Sourced (operand.Var p) (from_of (operand.Var p))
-  var_sourced p inside kinds wrong has stood = go (var_at f.vars p).kind refl kinds wrong
+      → Used (operand.Var p) → Stood (operand.Var p) → Nearby (operand.Var p) → Sourced (operand.Var p) (from_of (operand.Var p))
+  var_sourced p inside kinds wrong has stood near = go (var_at f.vars p).kind refl kinds wrong
     where
       number_is : (k : VarKind) → (var_at f.vars p).kind ≡ k
           → number_in f.vars (operand.Var p) ≡ (if same_kind kind.Param k then Some (operand.Var p) else (if same_kind kind.Const k then Some (operand.Number (var_at f.vars p).number) else None))
@@ -145,19 +155,19 @@ module _ (f : FunctionValue) (at temps : List ℕ) (steps : List Step) (op : Op)
           let size = same_size (var_at f.vars p).size wanted w in
           let plain = not_shift (row op).kind position kind.Temp refl h in
           by_source (Sourced (operand.Var p)) (slice_index at (last_value temps p)) (λ l. (p, refl, e, size, s.0, plain, l)) (λ k is. (p, refl, e, size, subst (λ a. Stands at temps steps p a) is s.0, plain, (let l = s.1 in omega (arith, l, is))))
-      go kind.Source e h w = (p, refl, record { inside = inside; array = ap is_array_kind e; size = same_size (var_at f.vars p).size wanted w }, refl, not_shift (row op).kind position kind.Source refl h)
-      go kind.Dest e h w = (p, refl, record { inside = inside; array = ap is_array_kind e; size = same_size (var_at f.vars p).size wanted w }, refl, not_shift (row op).kind position kind.Dest refl h)
+      go kind.Source e h w = (p, refl, record { inside = inside; array = ap is_array_kind e; size = same_size (var_at f.vars p).size wanted w; near = near p refl }, refl, not_shift (row op).kind position kind.Source refl h)
+      go kind.Dest e h w = (p, refl, record { inside = inside; array = ap is_array_kind e; size = same_size (var_at f.vars p).size wanted w; near = near p refl }, refl, not_shift (row op).kind position kind.Dest refl h)
       go kind.Accumulator e h w = absurd (no_accumulator (row op).kind position h)
       go kind.Param e h w = number_sourced (operand.Var p) (operand.Var p) (number_is kind.Param e) has
       go kind.Const e h w = number_sourced (operand.Var p) (operand.Number (var_at f.vars p).number) (number_is kind.Const e) has
 
   -- what the checks say of a source
-  pub sourced : (earlier : List Insn) (o : Operand) → is_in_range f.vars o ≡ true → has_no_fault (source_fault f.vars earlier op prefix position o) ≡ true → Used o → Stood o → Sourced o (from_of o)
-  sourced earlier (operand.Number n) r h has stood = number_sourced (operand.Number n) (operand.Number n) refl has
-  sourced earlier (operand.Var p) r h has stood =
+  pub sourced : (earlier : List Insn) (o : Operand) → is_in_range f.vars o ≡ true → has_no_fault (source_fault f.vars earlier op prefix position o) ≡ true → Used o → Stood o → Nearby o → Sourced o (from_of o)
+  sourced earlier (operand.Number n) r h has stood near = number_sourced (operand.Number n) (operand.Number n) refl has
+  sourced earlier (operand.Var p) r h has stood near =
       let one = none_left (source_kind_fault (row op).kind position (Some (var_at f.vars p).kind)) _ h in
       let two = none_left (check (is_wrong_size f.vars (size_of_source op position * prefix) (operand.Var p)) fault.SizeMismatch) (check (is_unset f.vars earlier (operand.Var p)) fault.Unset) one.1 in
-      var_sourced p (ltb-true p (length f.vars) r) one.0 (unchecked _ fault.SizeMismatch two.0) has stood
+      var_sourced p (ltb-true p (length f.vars) r) one.0 (unchecked _ fault.SizeMismatch two.0) has stood near
 
 -- ---- a result
 
@@ -225,7 +235,7 @@ module _ (f : FunctionValue) (at : List ℕ) (op : Op) (prefix position : ℕ) w
   dest_targeted p l e plain w =
       let v = var_at f.vars p in
       let a : is_array_kind v.kind ≡ true = ap is_array_kind e in
-      subst (Targeted (operand.Var p)) (ap (to_kind p) (sym e)) (p, refl, record { inside = l; array = a; size = size_ok v.kind v.size bytes a w }, e, refl, plain)
+      subst (Targeted (operand.Var p)) (ap (to_kind p) (sym e)) (p, refl, record { inside = l; array = a; size = size_ok v.kind v.size bytes a w; near = dest_near f p e }, e, refl, plain)
 
   -- the size of a variable that is of a kind
   kind_size : (p : ℕ) (k : VarKind) → (var_at f.vars p).kind ≡ k → is_scalar (Some k) ≡ false → is_wrong_size f.vars bytes (operand.Var p) ≡ false → (var_at f.vars p).size ≡ bytes

@@ -11,6 +11,7 @@ use Rattle.orc_program.specs.Program.{FunctionValue, var_at, count_of, places_of
 use Rattle.orc_program.specs.Slots.{slot_of, size_of_slot}
 use Rattle.orc_program.specs.Checks.{insn_fault, patterns_of, most_insns, most_patterns}
 use Rattle.orc_program.specs.Need.{made_by}
+use Rattle.orc_program.specs.Good.{IsArray}
 use Rattle.orc_program.specs.Kept.{is_function, all_pass, is_shaped, has_no_fault}
 use Rattle.orc_program.proofs.Apart.{IsSize}
 use Rattle.orc_program.proofs.Sizes.{both, kept_of, size_kept}
@@ -79,15 +80,25 @@ module _ (f : FunctionValue) (h : is_function f ≡ true) where
   few : Limits f
   few = limits f h
 
-  slot_there : (p b : ℕ) → IsCells f p b → SlotIs f no_call p
-  slot_there p b is = slot_is f no_call few p is.inside is.array
+  module _ (p : ℕ) (array : IsArray f p) where
+    slot_there : SlotIs f no_call p
+    slot_there = slot_is f no_call few p array.0 array.1
+
+    pub array_small : slot_of f.vars p < 12
+    array_small = few_slots (count_of kind.Dest f.vars) (count_of kind.Source f.vars) (slot_of f.vars p) few.dests few.sources slot_there.slot
+
+    pub array_size : size_of_slot f.vars (slot_of f.vars p) ≡ (var_at f.vars p).size
+    array_size = slot_there.size
+
+    -- the size in its slot, by the steps' sizes and by the variables
+    pub array_same : slice_index (sizes_of f) (slot_of f.vars p) ≡ size_of_slot f.vars (slot_of f.vars p)
+    array_same = array_sized f h p array ∙ sym slot_there.size
 
   pub slot_small : (p b : ℕ) → IsCells f p b → slot_of f.vars p < 12
-  slot_small p b is = few_slots (count_of kind.Dest f.vars) (count_of kind.Source f.vars) (slot_of f.vars p) few.dests few.sources (slot_there p b is).slot
+  slot_small p b is = array_small p (is.inside, is.array)
 
-  -- the size in its slot, by the steps' sizes and by the variables
   pub slot_same : (p b : ℕ) → IsCells f p b → slice_index (sizes_of f) (slot_of f.vars p) ≡ size_of_slot f.vars (slot_of f.vars p)
-  slot_same p b is = array_sized f h p (is.inside, is.array) ∙ sym (slot_there p b is).size
+  slot_same p b is = array_same p (is.inside, is.array)
 
   pub slot_sized : (k : ℕ) → IsSlot (count_of kind.Dest f.vars) (count_of kind.Source f.vars) k → slice_index (sizes_of f) k ≡ size_of_slot f.vars k
   slot_sized k is = used_sized f k (few_slots (count_of kind.Dest f.vars) (count_of kind.Source f.vars) k few.dests few.sources is) (used k is)
@@ -123,7 +134,7 @@ module _ (f : FunctionValue) (h : is_function f ≡ true) where
     moved_from (FromPattern j ∷ ss) h = (tt, moved_from ss h.1)
     moved_from (FromResident j g ∷ ss) h = (tt, moved_from ss h.1)
     moved_from (FromPlace p ∷ ss) h = (tt, moved_from ss h.1)
-    moved_from (FromFar load array js ∷ ss) h = absurd h.0
+    moved_from (FromFar load array js ∷ ss) h = (h.0.2, moved_from ss h.1)
     moved_from (FromSlot k ∷ ss) h = (tt, moved_from ss h.1)
 
     pub moved_to : (ts : List Target) → Each (IsToSlot count (size_of_slot f.vars)) ts → Each (IsMovedTo count (size_of_slot f.vars)) ts
@@ -135,10 +146,12 @@ module _ (f : FunctionValue) (h : is_function f ≡ true) where
     moved_to (ToSlot k ∷ ts) h = (tt, moved_to ts h.1)
 
     module _ (is_count : IsCount f count) where
+      pub array_width : (p : ℕ) → IsArray f p → IsWidth (count * size_of_slot f.vars (slot_of f.vars p))
+      array_width p array =
+          subst (λ n. IsWidth (count * n)) (sym (array_size p array)) (width_of_count f count is_count (var_at f.vars p).size (size_kept f h p array.0) (is_count.arrays p array.0 array.1))
+
       pub slot_width : (p b : ℕ) → IsCells f p b → IsWidth (count * size_of_slot f.vars (slot_of f.vars p))
-      slot_width p b is =
-          subst (λ n. IsWidth (count * n)) (sym (slot_there p b is).size)
-          (width_of_count f count is_count (var_at f.vars p).size (size_kept f h p is.inside) (is_count.arrays p is.inside is.array))
+      slot_width p b is = array_width p (is.inside, is.array)
 
       -- plans of functions are small
       pub small_with : (target : CodeTarget) (seats : Seats) (actions : List Action) → Each (IsMovable count (size_of_slot f.vars)) actions → AreActions target seats count (steps_of f) actions → Small count (plan_with f actions)

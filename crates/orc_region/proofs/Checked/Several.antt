@@ -1,9 +1,9 @@
 -- How many elements a turn can do at once: a power of two, of which the elements of each array and of each operand fill at most a register.
-use Rattle.std.proofs.Common.{◌≡◌, ℕ, zero, suc, ◌^◌, ◌*◌, ◌/◌, ◌<◌, ◌≤◌, ◌==◌, ◌&&◌, true, false, List, [], ◌∷◌, ◌++◌, length, refl, sym, ap, subst, arith, ◌⊎◌, inl, inr, ⊎_elim}
+use Rattle.std.proofs.Common.{◌≡◌, ℕ, zero, suc, ◌^◌, ◌*◌, ◌/◌, ◌<◌, ◌≤◌, ◌==◌, ◌&&◌, true, false, List, [], ◌∷◌, ◌++◌, length, le_refl, refl, sym, ap, subst, arith, ◌⊎◌, inl, inr, ⊎_elim}
 use Rattle.std.proofs.lemmas.Bool.{true≢false, cases_lt, eqb-true}
 use Rattle.std.proofs.lemmas.List.{get_or_past}
 use Rattle.std.proofs.lemmas.Nat.{pow_below}
-use Rattle.std.proofs.Math.Nat.{mul-le-mul_right}
+use Rattle.std.proofs.Math.Nat.{mul-le-mul_right, mul-le-mul, le_trans}
 use Rattle.orc_program.proofs.Lanes.{lanes_is, declared_fits, insn_fits}
 use Rattle.orc_ops.specs.declared.opcode.Op.{Op}
 use Rattle.orc_ops.specs.declared.opcode.Op.TheVariants as op
@@ -12,7 +12,7 @@ use Rattle.orc_program.specs.declared.program.Var.{Var}
 use Rattle.orc_program.specs.declared.program.Insn.{Insn}
 use Rattle.orc_program.specs.declared.program.VarKind.{VarKind}
 use Rattle.orc_program.specs.declared.program.VarKind.TheVariants as kind
-use Rattle.orc_program.specs.Program.{FunctionValue, var_at, no_var, is_array, is_array_kind, is_of, same_kind, has_far}
+use Rattle.orc_program.specs.Program.{FunctionValue, var_at, no_var, is_array, is_array_kind, is_of, same_kind}
 use Rattle.orc_program.specs.Checks.{insn_fault, operand_sizes}
 use Rattle.orc_program.specs.Kept.{is_function, all_pass, is_shaped, has_no_fault}
 use Rattle.orc_program.specs.Need.{largest, lanes}
@@ -21,9 +21,10 @@ use Rattle.orc_program.proofs.Sizes.{both, kept_of, size_kept}
 use Rattle.x86_ins.specs.Way.{Each}
 use Rattle.x86_flow.specs.Moves.{IsWidth}
 use Rattle.sse_laws.specs.Meets.{is_sum, widest}
-use Rattle.orc_region.specs.Code.{IsShare}
+use Rattle.orc_region.specs.Code.{IsShare, computed_op}
 use Rattle.orc_region.proofs.Checked.Passing.{checked}
 use Rattle.orc_region.proofs.Checked.Sized.{prefix_ok}
+use Rattle.orc_region.proofs.Checked.Copies.{computed_widest}
 
 -- the operands of so many elements fill at most a register
 abbrev pub FitsIn : ℕ → Insn → Type 0
@@ -33,11 +34,17 @@ FitsIn count insn = count * (widest insn.op * insn.prefix) ≤ 16
 abbrev pub IsPower : ℕ → Type 0
 IsPower count = (count ≡ 1) ⊎ ((count ≡ 2) ⊎ ((count ≡ 4) ⊎ ((count ≡ 8) ⊎ (count ≡ 16))))
 
+-- what fits for an opcode fits for the copy that stands for it
+pub fits_computed : (count : ℕ) (insn : Insn) → FitsIn count insn → count * (widest (computed_op insn.op) * insn.prefix) ≤ 16
+fits_computed count insn h =
+    let same : count ≤ count = le_refl count in
+    le_trans (mul-le-mul same (mul-le-mul_right insn.prefix (computed_widest insn.op))) h
+
 -- what is asked of how many elements a turn does at once
 pub record IsCount (f : FunctionValue) (count : ℕ) : Type 0 where
-  pub near : has_far f ≡ false
   pub some : 0 < count
   pub most : count ≤ 16
+  pub within : count ≤ lanes f
   pub power : IsPower count
   -- elements of each array, and of each operand of an instruction, fit into a register
   pub arrays : (p : ℕ) → p < length f.vars → is_array (var_at f.vars p) ≡ true → count * (var_at f.vars p).size ≤ 16
@@ -112,6 +119,20 @@ sum_fits op.Accl count h l = (let k : count * 4 ≤ 16 = l in omega (arith, k))
 sum_fits op.Accsadubl count h l = (let k : count * 4 ≤ 16 = l in omega (arith, k))
 sum_fits other count h l = absurd (true≢false (sym h))
 
+pub some_of : (count : ℕ) → IsPower count → 0 < count
+some_of count (inl e) = omega (arith, e)
+some_of count (inr (inl e)) = omega (arith, e)
+some_of count (inr (inr (inl e))) = omega (arith, e)
+some_of count (inr (inr (inr (inl e)))) = omega (arith, e)
+some_of count (inr (inr (inr (inr e)))) = omega (arith, e)
+
+pub most_of : (count : ℕ) → IsPower count → count ≤ 16
+most_of count (inl e) = omega (arith, e)
+most_of count (inr (inl e)) = omega (arith, e)
+most_of count (inr (inr (inl e))) = omega (arith, e)
+most_of count (inr (inr (inr (inl e)))) = omega (arith, e)
+most_of count (inr (inr (inr (inr e)))) = omega (arith, e)
+
 -- ---- one element
 
 one_fits : (f : FunctionValue) (earlier insns : List Insn) → all_pass f.vars earlier insns ≡ true → Each (FitsIn 1) insns
@@ -122,11 +143,11 @@ one_fits f earlier (insn ∷ insns) h =
     let few = (prefix_ok insn.op insn.prefix (checked f.vars earlier insn b.0).prefix).few in
     (omega (arith, few), one_fits f (earlier ++ insn ∷ []) insns b.1)
 
-pub one_count : (f : FunctionValue) → is_function f ≡ true → has_far f ≡ false → IsCount f 1
-one_count f h near = record {
-  near = near;
+pub one_count : (f : FunctionValue) → is_function f ≡ true → IsCount f 1
+one_count f h = record {
   some = omega arith;
   most = omega arith;
+  within = (let l = some_of (lanes f) (inr (lanes_is f h)) in omega (arith, l));
   power = inl refl;
   arrays = λ p l a. (let few = any_size f h p in omega (arith, few));
   operands = one_fits f [] f.insns (kept_of f h).insns;
@@ -147,20 +168,6 @@ array_declared kind.Param a = absurd (true≢false (sym a))
 array_declared kind.Const a = absurd (true≢false (sym a))
 array_declared kind.Accumulator a = absurd (true≢false (sym a))
 
-pub some_of : (count : ℕ) → IsPower count → 0 < count
-some_of count (inl e) = omega (arith, e)
-some_of count (inr (inl e)) = omega (arith, e)
-some_of count (inr (inr (inl e))) = omega (arith, e)
-some_of count (inr (inr (inr (inl e)))) = omega (arith, e)
-some_of count (inr (inr (inr (inr e)))) = omega (arith, e)
-
-pub most_of : (count : ℕ) → IsPower count → count ≤ 16
-most_of count (inl e) = omega (arith, e)
-most_of count (inr (inl e)) = omega (arith, e)
-most_of count (inr (inr (inl e))) = omega (arith, e)
-most_of count (inr (inr (inr (inl e)))) = omega (arith, e)
-most_of count (inr (inr (inr (inr e)))) = omega (arith, e)
-
 -- the operands of each instruction fit, where its size under its prefix does
 all_fit_in : (count : ℕ) (insns : List Insn) → ((earlier : List Insn) (insn : Insn) (rest : List Insn) → insns ≡ earlier ++ insn ∷ rest → count * (largest (operand_sizes insn.op) * insn.prefix) ≤ 16) → Each (FitsIn count) insns
 all_fit_in count [] h = tt
@@ -170,22 +177,22 @@ all_fit_in count (insn ∷ insns) h = (
 )
 
 -- so many elements, where those of the variables' and of the instructions' sizes fit
-pub several_count : (f : FunctionValue) → has_far f ≡ false → (count : ℕ) → (count ≡ 2) ⊎ ((count ≡ 4) ⊎ ((count ≡ 8) ⊎ (count ≡ 16)))
+pub several_count : (f : FunctionValue) → (count : ℕ) → count ≤ lanes f → (count ≡ 2) ⊎ ((count ≡ 4) ⊎ ((count ≡ 8) ⊎ (count ≡ 16)))
     → ((p : ℕ) → p < length f.vars → is_of kind.Param (var_at f.vars p) ≡ false → is_of kind.Const (var_at f.vars p) ≡ false → count * (var_at f.vars p).size ≤ 16)
     → ((earlier : List Insn) (insn : Insn) (rest : List Insn) → f.insns ≡ earlier ++ insn ∷ rest → count * (largest (operand_sizes insn.op) * insn.prefix) ≤ 16)
     → IsCount f count
-several_count f near count power declared insns = record {
-  near = near;
+several_count f count within power declared insns = record {
   some = some_of count (inr power);
   most = most_of count (inr power);
+  within = within;
   power = inr power;
   arrays = λ p l a. (let k = array_declared (var_at f.vars p).kind a in declared p l k.0 k.1);
   operands = all_fit_in count f.insns insns;
 }
 
 -- the lanes of a function
-pub lanes_count : (f : FunctionValue) → is_function f ≡ true → has_far f ≡ false → IsCount f (lanes f)
-lanes_count f h near = several_count f near (lanes f) (lanes_is f h) (declared_fits f h) (insn_fits f h)
+pub lanes_count : (f : FunctionValue) → is_function f ≡ true → IsCount f (lanes f)
+lanes_count f h = several_count f (lanes f) (le_refl (lanes f)) (lanes_is f h) (declared_fits f h) (insn_fits f h)
 
 -- ---- a share of the lanes
 
@@ -199,9 +206,9 @@ fewer_operands count more few (insn ∷ insns) h =
 
 pub fewer_count : (f : FunctionValue) (count more : ℕ) → IsPower count → count ≤ more → IsCount f more → IsCount f count
 fewer_count f count more power few is = record {
-  near = is.near;
   some = some_of count power;
   most = most_of count power;
+  within = (let w = is.within in omega (arith, few, w));
   power = power;
   arrays = λ p l a. (let m : count * (var_at f.vars p).size ≤ more * (var_at f.vars p).size = mul-le-mul_right (var_at f.vars p).size few in let most = is.arrays p l a in omega (arith, m, most));
   operands = fewer_operands count more few f.insns is.operands;
@@ -237,5 +244,5 @@ pub share_power : (f : FunctionValue) → is_function f ≡ true → (count : �
 share_power f h count share = halved (lanes f) count share.0 (lanes_is f h) share.1
 
 -- so many elements as a share of the lanes are a count
-pub share_count : (f : FunctionValue) → is_function f ≡ true → has_far f ≡ false → (count : ℕ) → IsShare (lanes f) count → IsCount f count
-share_count f h near count share = (let x = share_power f h count share in fewer_count f count (lanes f) x.0 x.1 (lanes_count f h near))
+pub share_count : (f : FunctionValue) → is_function f ≡ true → (count : ℕ) → IsShare (lanes f) count → IsCount f count
+share_count f h count share = (let x = share_power f h count share in fewer_count f count (lanes f) x.0 x.1 (lanes_count f h))

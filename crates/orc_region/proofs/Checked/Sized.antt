@@ -104,6 +104,7 @@ most_times a b k h g = ⊎_elim
 pub record HasPrefix (o : Op) (prefix : ℕ) : Type 0 where
   pub few : widest o * prefix ≤ 8
   pub one : is_sum (row o).kind ≡ true → prefix ≡ 1
+  pub alone : takes_no_prefix (row o).kind ≡ true → prefix ≡ 1
 
 pub prefix_ok : (o : Op) (prefix : ℕ) → is_bad_prefix o prefix ≡ false → HasPrefix o prefix
 prefix_ok o prefix h = go (prefix == 1) refl h
@@ -111,7 +112,7 @@ prefix_ok o prefix h = go (prefix == 1) refl h
     go : (b : Bool) → (prefix == 1) ≡ b → (not b && (takes_no_prefix (row o).kind || list_any (λ size. nat_lt 8 (size * prefix)) (operand_sizes o))) ≡ false → HasPrefix o prefix
     go true e h =
         let one : prefix ≡ 1 = eqb-true prefix 1 e in
-        record { few = subst (λ p. widest o * p ≤ 8) (sym one) (let l : widest o ≤ 8 = leb-true (widest o) 8 (widest_table o) in omega (arith, l)); one = λ s. one }
+        record { few = subst (λ p. widest o * p ≤ 8) (sym one) (let l : widest o ≤ 8 = leb-true (widest o) 8 (widest_table o) in omega (arith, l)); one = λ s. one; alone = λ s. one }
     go false e h =
         let a = or_parts (takes_no_prefix (row o).kind) _ h in
         let r0 = or_parts (nat_lt 8 (size_of_result o 0 * prefix)) _ a.1 in
@@ -123,6 +124,7 @@ prefix_ok o prefix h = go (prefix == 1) refl h
               (most_times (size_of_result o 0) (size_of_result o 1) prefix (ltb-false 8 (size_of_result o 0 * prefix) r0.0) (ltb-false 8 (size_of_result o 1 * prefix) r1.0))
               (most_times (size_of_source o 0) (size_beside o) prefix (ltb-false 8 (size_of_source o 0 * prefix) s0.0) (subst (λ n. n * prefix ≤ 8) (beside_is o) (ltb-false 8 ((if is_count o 1 then 0 else size_of_source o 1) * prefix) s1.0)));
           one = λ s. absurd (true≢false (sym (sum_alone (row o).kind s) ∙ a.0));
+          alone = λ s. absurd (true≢false (sym s ∙ a.0));
         }
 
 -- ---- ways and periods

@@ -18,13 +18,15 @@ use Rattle.x86_flow.specs.Moves.{IsWidth, away, store_either_code}
 use Rattle.x86_flow.proofs.Spelled.{IsFine, fine_alu_imm, fits_up, each_both, fine_vec, fine_from_gpr, fine_to_gpr, fine_load_far, fine_store_far, fine_aligned_store, fine_vec_load, fine_vec_store}
 use Rattle.orc_frame.specs.Layout.{pattern_slot, sum_slot, spill_slot}
 use Rattle.orc_region.proofs.Block.Meeting.{meeting}
-use Rattle.orc_region.specs.Code.{Action, spares_second, IsRule, Source, FromArray, FromPattern, FromResident, FromPlace, FromSlot, FromFar, Target, ToArray, ToSum, ToResident, ToPlace, ToSlot, Plan, pointer, place_register, resident_register, made_in, sum_home, first_register, second_register, third_register, rule_register, rule_code, AreBlocks, IsBlocksTurn, far_by, source_far_code, brought, sources_far_code, sum_code, result_far_code, results_far_code, own_names, action_names, action_far_code, named_code, actions_far_code, advance_code}
+use Rattle.orc_resample.specs.Code.{bring_code}
+use Rattle.orc_region.specs.Code.{far_source, from_zero_code, Action, spares_second, IsRule, Source, FromArray, FromPattern, FromResident, FromPlace, FromSlot, FromFar, Target, ToArray, ToSum, ToResident, ToPlace, ToSlot, Plan, pointer, place_register, resident_register, made_in, sum_home, first_register, second_register, third_register, rule_register, rule_code, AreBlocks, IsBlocksTurn, far_by, source_far_code, brought, sources_far_code, sum_code, result_far_code, results_far_code, own_names, action_names, action_far_code, named_code, actions_far_code, advance_code}
 use Rattle.orc_frame.proofs.Counted.{fine_vec_imm, fine_shuffle}
 use Rattle.orc_region.proofs.Block.Keeping.{ins_of}
 use Rattle.orc_region.proofs.Block.Names.{IsSmall, own_permutes, source_permutes}
 use Rattle.orc_region.proofs.Block.RuleRegisters.{register_small}
-use Rattle.orc_region.proofs.Sizes.Cost.{from_weights, to_weights, weights}
+use Rattle.orc_region.proofs.Sizes.Cost.{weight, weights}
 use Rattle.orc_region.proofs.Block.Registers.{pointer_small}
+use Rattle.orc_region.proofs.Sizes.Fars.{far_fine, zero_fine}
 use Rattle.orc_region.proofs.Sizes.Vectored.{fine_rule}
 use Rattle.orc_region.proofs.Sizes.Counts.{IsFromSlot, IsToSlot, IsMovable}
 
@@ -81,7 +83,9 @@ module _ (count : ℕ) (size far : ℕ → ℕ) (aligned : ℕ → Bool) (near :
   fine_source x (FromPattern j) l h = (fine_vec_load Movdqu x (away 4 (pattern_slot j)) l (omega arith) (fits_up (pattern_slot j) (omega (arith, h))), tt)
   fine_source x (FromResident j g) l h = fine_rule (Vec Movdqa x (resident_register g) ∷ []) refl ((l, omega arith), tt)
   fine_source x (FromPlace p) l h = fine_rule (Vec Movdqa x (place_register p) ∷ []) refl ((l, omega (arith, h)), tt)
-  fine_source x (FromFar load array js) l h = absurd h
+  fine_source x (FromFar load array js) l h =
+      let code = bring_code (far_source (far array) load array js) count in
+      each_both IsFine code (from_zero_code x) (far_fine (far array) load array js h.0 h.3 h.4 count h.1 h.2 (near array)) (zero_fine x l)
   fine_source x (FromSlot k) l h = (fine_vec_load Movdqu x (away 4 (spill_slot k)) l (omega arith) (fits_up (spill_slot k) (omega (arith, h))), tt)
 
   fine_sources : (one two : Bool) (x y : ℕ) (ss : List Source) → x < 16 → y < 16 → Each (IsFromSlot count size) ss → Each IsFine (sources_far_code one two count size far x y ss)
@@ -160,7 +164,7 @@ module _ (count : ℕ) (size far : ℕ → ℕ) (aligned : ℕ → Bool) (near :
   small_sources (FromPattern j ∷ ss) h = (tt, small_sources ss h.1)
   small_sources (FromResident j g ∷ ss) h = (tt, small_sources ss h.1)
   small_sources (FromPlace p ∷ ss) h = (h.0, small_sources ss h.1)
-  small_sources (FromFar load array js ∷ ss) h = absurd h.0
+  small_sources (FromFar load array js ∷ ss) h = (tt, small_sources ss h.1)
   small_sources (FromSlot k ∷ ss) h = (tt, small_sources ss h.1)
 
   fine_named : (names : List ℕ) → IsPermutation names → (actions : List Action) → Each (IsMovable count size) actions → Each IsFine (named_code names count size far aligned actions)
@@ -179,30 +183,21 @@ module _ (count : ℕ) (size far : ℕ → ℕ) (aligned : ℕ → Bool) (near :
   ins_actions [] h = tt
   ins_actions (a ∷ rest) h = (ins_of (action_far_code count size far aligned a) (fine_action a h.0), ins_actions rest h.1)
 
--- the instructions of an action
-from_few : (ss : List Source) → from_weights ss ≤ 2 * length ss
-from_few [] = omega arith
-from_few (FromArray k ∷ ss) = omega (arith, from_few ss)
-from_few (FromPattern j ∷ ss) = omega (arith, from_few ss)
-from_few (FromResident j g ∷ ss) = omega (arith, from_few ss)
-from_few (FromPlace p ∷ ss) = omega (arith, from_few ss)
-from_few (FromFar load array js ∷ ss) = omega (arith, from_few ss)
-from_few (FromSlot k ∷ ss) = omega (arith, from_few ss)
-
-to_few : (ts : List Target) → to_weights ts ≤ 2 * length ts
-to_few [] = omega arith
-to_few (ToArray k ∷ ts) = omega (arith, to_few ts)
-to_few (ToSum g ∷ ts) = omega (arith, to_few ts)
-to_few (ToResident g ∷ ts) = omega (arith, to_few ts)
-to_few (ToPlace p ∷ ts) = omega (arith, to_few ts)
-to_few (ToSlot k ∷ ts) = omega (arith, to_few ts)
-
-weight_few : (count : ℕ) (size : ℕ → ℕ) (actions : List Action) → Each (IsMovable count size) actions → weights actions ≤ 108 * length actions
+-- the instructions of actions
+weight_few : (count : ℕ) (size : ℕ → ℕ) (actions : List Action) → Each (IsMovable count size) actions → weights count actions ≤ 317 * length actions
 weight_few count size [] h = omega arith
-weight_few count size (a ∷ rest) h = omega (arith, h.0.few, h.0.few_to, h.0.rule.short, from_few a.sources, to_few a.to, weight_few count size rest h.1)
+weight_few count size (a ∷ rest) h = omega (arith, h.0.few, weight_few count size rest h.1)
 
-pub weights_most : (count : ℕ) (p : Plan) → Small count p → weights p.actions ≤ 10800
+weight_light : (count : ℕ) (actions : List Action) → Each (λ a. weight count a ≤ 108) actions → weights count actions ≤ 108 * length actions
+weight_light count [] h = omega arith
+weight_light count (a ∷ rest) h = omega (arith, h.0, weight_light count rest h.1)
+
+pub weights_most : (count : ℕ) (p : Plan) → Small count p → weights count p.actions ≤ 31700
 weights_most count p h = omega (arith, weight_few count p.size p.actions h.actions, h.few)
+
+-- where each action has few
+pub weights_light : (count : ℕ) (p : Plan) → Small count p → Each (λ a. weight count a ≤ 108) p.actions → weights count p.actions ≤ 10800
+weights_light count p h light = omega (arith, weight_light count p.actions light, h.few)
 
 -- ---- turns of blocks of actions of which Are holds
 

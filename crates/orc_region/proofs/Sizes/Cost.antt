@@ -1,18 +1,28 @@
--- The steps of actions: two instructions for each array that is read or written and for each sum of the frame, one for each other source and for a result that goes to a spill slot, none for one that goes to a register of its own, and a rule.
-use Rattle.std.proofs.Common.{ℕ, ◌+◌, List, [], ◌∷◌, length}
+-- The steps of actions: two instructions for each array that is read or written and for each sum of the frame, the instructions that bring a far load's values, one for each other source and for a result that goes to a spill slot, none for one that goes to a register of its own, and a rule.
+use Rattle.std.proofs.Common.{ℕ, ◌+◌, ◌*◌, List, [], ◌∷◌, length}
+use Rattle.orc_ops.specs.declared.far.Far.{Far}
+use Rattle.orc_ops.specs.declared.far.Far.TheVariants.{Loadupdb, Loadupib}
+use Rattle.orc_ops.specs.Far.{far_weight}
 use Rattle.orc_region.specs.Code.{Action, Source, FromArray, FromPattern, FromResident, FromPlace, FromSlot, FromFar, Target, ToArray, ToSum, ToResident, ToPlace, ToSlot}
 
-abbrev pub from_weight : Source → ℕ
-from_weight (FromArray k) = 2
-from_weight (FromPattern j) = 1
-from_weight (FromResident j g) = 1
-from_weight (FromPlace p) = 1
-from_weight (FromFar load array js) = 1
-from_weight (FromSlot k) = 1
+-- how many instructions at most bring a far load's values for so many elements to their register
+abbrev pub far_length : Far → ℕ → ℕ
+far_length Loadupdb n = 9 + 9 * n
+far_length Loadupib n = 9 + 19 * n
+far_length load n = far_weight load n + 2
 
-abbrev pub from_weights : List Source → ℕ
-from_weights [] = 0
-from_weights (s ∷ rest) = from_weight s + from_weights rest
+-- where so many elements are done at once
+abbrev pub from_weight : ℕ → Source → ℕ
+from_weight count (FromArray k) = 2
+from_weight count (FromPattern j) = 1
+from_weight count (FromResident j g) = 1
+from_weight count (FromPlace p) = 1
+from_weight count (FromFar load array js) = far_length load count
+from_weight count (FromSlot k) = 1
+
+abbrev pub from_weights : ℕ → List Source → ℕ
+from_weights count [] = 0
+from_weights count (s ∷ rest) = from_weight count s + from_weights count rest
 
 abbrev pub to_weight : Target → ℕ
 to_weight (ToArray k) = 2
@@ -26,9 +36,9 @@ to_weights [] = 0
 to_weights (t ∷ rest) = to_weight t + to_weights rest
 
 -- what an action's code weighs at most
-abbrev pub weight : Action → ℕ
-weight a = from_weights a.sources + length a.rule + to_weights a.to
+abbrev pub weight : ℕ → Action → ℕ
+weight count a = from_weights count a.sources + length a.rule + to_weights a.to
 
-abbrev pub weights : List Action → ℕ
-weights [] = 0
-weights (a ∷ rest) = weight a + weights rest
+abbrev pub weights : ℕ → List Action → ℕ
+weights count [] = 0
+weights count (a ∷ rest) = weight count a + weights count rest

@@ -52,7 +52,12 @@ module _ (f : FunctionValue) (h : is_function f ≡ true) (at : List ℕ) (good 
     pub block_few : length list ≤ cost_for f target
     block_few = omega (arith, ap length x.2, actions_count count size (far_by 0 size) (aligned_first aligned) x.0 (small_plan f h at good count is_count target x.0 x.1).actions, weights_few f h at good count is_count target x.0 x.1)
 
-    -- the instructions that go by some registers, of which RSP is none, are at most as many as the function's operands that are arrays
-    pub block_light : (by : ℕ → Bool) → by 4 ≡ false → weigh (touch_weight by) list ≤ (subject_of f).operands
-    block_light by by_stack =
-        omega (arith, ap (weigh (touch_weight by)) x.2, actions_few by by_stack count size (far_by 0 size) (aligned_first aligned) x.0 (fit_actions f h at good count is_count target x.0 x.1), arrays_few target f h is_count.near at (stand_is f h at good) count x.0 x.1)
+    -- the instructions that go by some registers, of which RSP and RDI are none, are at most as many as the function's operands that are arrays, with those of far loads
+    pub block_light : (by : ℕ → Bool) → by 4 ≡ false → by 7 ≡ false → weigh (touch_weight by) list ≤ (subject_of f).operands
+    block_light by by_stack by_block =
+        omega (
+          arith,
+          ap (weigh (touch_weight by)) x.2,
+          actions_few by by_stack by_block count size (far_by 0 size) (aligned_first aligned) x.0 (fit_actions f h at good count is_count target x.0 x.1),
+          arrays_few target f h at (stand_is f h at good) count is_count.within x.0 x.1,
+        )

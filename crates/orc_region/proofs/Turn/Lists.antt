@@ -24,13 +24,13 @@ use Rattle.orc_region.proofs.Sizes.Cost.{weights}
 use Rattle.orc_region.proofs.Sizes.Counts.{IsMovable, turn_count}
 use Rattle.orc_region.proofs.Checked.Acts.{AllPlaced}
 use Rattle.orc_region.proofs.Checked.Several.{IsCount}
-use Rattle.orc_region.proofs.Sizes.Bytes.{Small, weights_most, ins_block, fine_turn}
+use Rattle.orc_region.proofs.Sizes.Bytes.{Small, weights_most, weights_light, ins_block, fine_turn}
 use Rattle.orc_region.proofs.Block.Keeping.{ins_of}
 use Rattle.orc_region.proofs.Block.Actions.{IsFit}
 use Rattle.orc_region.proofs.Checked.Fits.{small_with, slot_size, slot_sized}
 use Rattle.orc_region.proofs.Checked.Slots.{Limits, limits}
 use Rattle.orc_region.proofs.Turn.SameSizes.{same_actions, same_advance}
-use Rattle.orc_region.proofs.Checked.Knows.{all_movable, all_fit, all_ready, all_same, weights_within}
+use Rattle.orc_region.proofs.Checked.Knows.{IsLight, all_light, all_movable, all_fit, all_ready, all_same, weights_within}
 
 -- turns of actions of which more is known
 module _ (A B : List Action → Type 0) (count : ℕ) (size : ℕ → ℕ) (aligned : ℕ → Bool) (more : (actions : List Action) → A actions → B actions) where
@@ -106,7 +106,7 @@ module _ (f : FunctionValue) (h : is_function f ≡ true) (at : List ℕ) (good 
       pub small_plan : Small count (plan_with f actions)
       small_plan = small_with f h count is_count target (seats_of f at) actions (all_movable f h at stand_is count is_count target actions is) is
 
-      pub weights_few : weights actions ≤ cost_for f target
+      pub weights_few : weights count actions ≤ cost_for f target
       weights_few = weights_within f h at stand_is count is_count target actions is
 
       pub fit_actions : Each (IsFit count (size_of_slot f.vars)) actions
@@ -137,7 +137,14 @@ module _ (f : FunctionValue) (h : is_function f ≡ true) (at : List ℕ) (good 
       pub turn_few : length list ≤ b * cost_for f target + (count_of kind.Dest f.vars + count_of kind.Source f.vars) + 1
       turn_few = turn_count count (size_of_slot f.vars) (aligned_first aligned) (Acts target) (movable target) (cost_for f target) (weights_few target) dests sources b list x
 
-      pub turn_size : size list ≤ 143 + b * 118800
+      pub turn_size : size list ≤ 143 + b * 348700
       turn_size =
-          let n = turn_count count (size_of_slot f.vars) (aligned_first aligned) (Acts target) (movable target) 10800 (λ actions is. weights_most count (plan_with f actions) (small_plan target actions is)) dests sources b list x in
+          let n = turn_count count (size_of_slot f.vars) (aligned_first aligned) (Acts target) (movable target) 31700 (λ actions is. weights_most count (plan_with f actions) (small_plan target actions is)) dests sources b list x in
+          omega (arith, size_within list turn_fine, n, few_slots.dests, few_slots.sources)
+
+      -- where no far load has more instructions than other instructions' actions
+      pub light_size : Each (IsLight count) f.insns → size list ≤ 143 + b * 118800
+      light_size light =
+          let few : (actions : List Action) → Acts target actions → weights count actions ≤ 10800 = λ actions is. weights_light count (plan_with f actions) (small_plan target actions is) (all_light f h at stand_is count is_count light target actions is) in
+          let n = turn_count count (size_of_slot f.vars) (aligned_first aligned) (Acts target) (movable target) 10800 few dests sources b list x in
           omega (arith, size_within list turn_fine, n, few_slots.dests, few_slots.sources)

@@ -1,0 +1,189 @@
+-- The code that brings a far load's values: its instructions are allowed and few, and those that go by other registers than RSP and RDI are at most two for each element.
+use Rattle.std.proofs.Common.{◌≡◌, ℕ, zero, suc, ◌+◌, ◌-◌, ◌*◌, ◌^◌, ◌<◌, ◌≤◌, ◌==◌, ◌||◌, not, Bool, true, false, if◌then◌else◌, ℤ, pos, List, [], ◌∷◌, ◌++◌, length, map, get_or, Option, None, Some, true≢false, refl, sym, ap, ◌∙◌, subst, arith, inl, inr, length-append}
+use Rattle.std.proofs.lemmas.Bool.{eqb-true}
+use Rattle.std.proofs.lemmas.List.{length-map}
+use Rattle.x86_ins.specs.declared.ins.Ins.{Ins}
+use Rattle.x86_ins.specs.declared.ins.Ins.TheVariants.{Vec}
+use Rattle.x86_ins.specs.declared.ins.VecOp.TheVariants.{Movdqa}
+use Rattle.x86_ins.specs.Way.{Each}
+use Rattle.x86_flow.specs.Moves.{IsWidth}
+use Rattle.x86_flow.specs.Touching.{weight_by, touch_weight, base_of}
+use Rattle.x86_flow.proofs.Plans.{weigh, weigh_append}
+use Rattle.x86_flow.proofs.Spelled.{IsFine, fits_up, fine_vec}
+use Rattle.orc_ops.specs.declared.far.Far.{Far}
+use Rattle.orc_ops.specs.declared.far.Far.TheVariants.{Loadoffb, Loadoffw, Loadoffl, Loadupdb, Loadupib, Ldresnearb, Ldresnearl, Ldreslinb, Ldreslinl}
+use Rattle.orc_ops.specs.Far.{far_size, far_scalars, far_weight}
+use Rattle.orc_frame.specs.Layout.{pattern_slot}
+use Rattle.orc_resample.specs.declared.plan.FarPlan.{FarPlan}
+use Rattle.orc_resample.specs.declared.turn.FarSource.{FarSource}
+use Rattle.orc_resample.specs.Code.{element_of, elements_code, gather_with, plan_of, enter_code, leave_code, bring_code}
+use Rattle.orc_resample.specs.Bring.{IsFarSource, IsKept, IsSpare, LiesIn, AreApart, is_array, array_count}
+use Rattle.orc_resample.proofs.Touched.{bring_touches, bring_short, bring_allowed}
+use Rattle.orc_resample.proofs.Ranges.{bring_ins}
+use Rattle.orc_region.specs.Code.{far_source, from_zero_code}
+use Rattle.orc_region.proofs.Block.Registers.{pointer_small}
+use Rattle.orc_region.proofs.Sizes.Cost.{far_length}
+use Rattle.orc_region.proofs.Sizes.Allowed.{fine_each}
+
+-- ---- its words lie in the frame
+
+module _ (ahead : ℕ) (load : Far) (array : ℕ) (js : List ℕ) (small : array < 12) (scalars : length js ≡ far_scalars load) (few : Each (λ j. j < 48) js) where
+  abbrev source : FarSource
+  source = far_source ahead load array js
+
+  -- the pattern of a scalar is one of the function's
+  scalar_is : (js : List ℕ) → Each (λ j. j < 48) js → (i : ℕ) → i < length js → (j : ℕ) × (j < 48) × (get_or (map (λ j. pos (pattern_slot j)) js) i (pos 0) ≡ pos (pattern_slot j))
+  scalar_is [] h i l = absurd (omega (arith, l))
+  scalar_is (j ∷ js) h zero l = (j, h.0, refl)
+  scalar_is (j ∷ js) h (suc i) l = scalar_is js h.1 i (omega (arith, l))
+
+  -- what is only read lies below the words that are written
+  abbrev IsLow : ℤ → Type 0
+  IsLow z = (d : ℕ) × (z ≡ pos d) × (d + 8 ≤ 1000)
+
+  kept_low : (z : ℤ) → IsKept source z → IsLow z
+  kept_low z (inl e) = (976, e, omega arith)
+  kept_low z (inr (inl e)) = (880 + 8 * array, e, omega (arith, small))
+  kept_low z (inr (inr (i, l, e))) = (let s = scalar_is js few i (omega (arith, l, scalars)) in (pattern_slot s.0, e ∙ s.2, (let m = s.1 in omega (arith, m))))
+
+  low_apart : (y z : ℤ) → IsSpare source y → IsLow z → AreApart y z
+  low_apart y z (inl e) h = subst (λ y. AreApart y z) (sym e) (subst (AreApart (pos 1000)) (sym h.1) (inr (let l = h.2 in omega (arith, l))))
+  low_apart y z (inr e) h = subst (λ y. AreApart y z) (sym e) (subst (AreApart (pos 1008)) (sym h.1) (inr (let l = h.2 in omega (arith, l))))
+
+  pub is_far_source : IsFarSource source
+  is_far_source = record {
+    scalars = length-map js (λ j. pos (pattern_slot j)) ∙ scalars;
+    kept = λ z k. (let h = kept_low z k in subst LiesIn (sym h.1) (let l = h.2 in omega (arith, l)));
+    spare = spare;
+    apart = λ y z s k. low_apart y z s (kept_low z k);
+    two = inl (omega arith);
+  }
+    where
+      spare : (z : ℤ) → IsSpare source z → LiesIn z
+      spare z (inl e) = subst LiesIn (sym e) (omega arith)
+      spare z (inr e) = subst LiesIn (sym e) (omega arith)
+
+  -- ---- its instructions are allowed, and have few bytes
+
+  pub far_fine : (count : ℕ) → count ≤ 16 → IsWidth (count * far_size load) → ahead < 2 ^ 31 → Each IsFine (bring_code source count)
+  far_fine count most width near = fine_each (bring_code source count) (bring_allowed source count width (bring_ins source count is_far_source (pointer_small array small) (fits_up ahead near) most))
+
+pub zero_fine : (x : ℕ) → x < 16 → Each IsFine (from_zero_code x)
+zero_fine x l = go (x == 0)
+  where
+    go : (b : Bool) → Each IsFine (if b then [] else Vec Movdqa x 0 ∷ [])
+    go true = tt
+    go false = (fine_vec Movdqa x 0 l (omega arith), tt)
+
+-- ---- its length
+
+zero_short : (x : ℕ) → length (from_zero_code x) ≤ 1
+zero_short x = go (x == 0)
+  where
+    go : (b : Bool) → length (if b then [] else Vec Movdqa x 0 ∷ []) ≤ 1
+    go true = omega arith
+    go false = omega arith
+
+-- the instructions of an element, where elements are brought one by one
+elements_long : (far : Far) (plan : FarPlan) (m : ℕ) → ((k : ℕ) → length (element_of far plan k 0 1 7) ≡ m) → (count n : ℕ) → length (elements_code far plan count 0 1 7 n) ≡ n * m
+elements_long far plan m each count zero = omega arith
+elements_long far plan m each count (suc n) =
+    let r : n * m + m ≡ suc n * m = grind arith in
+    length-append (elements_code far plan count 0 1 7 n) (element_of far plan (count - 1 - n) 0 1 7) ∙ ap (λ l. l + length (element_of far plan (count - 1 - n) 0 1 7)) (elements_long far plan m each count n) ∙ ap (λ l. n * m + l) (each (count - 1 - n)) ∙ r
+
+module _ (ahead array : ℕ) (js : List ℕ) (count : ℕ) where
+  abbrev of_load : Far → FarSource
+  of_load load = far_source ahead load array js
+
+  abbrev values : Far → List Ins
+  values load = gather_with load (plan_of (of_load load)) count 0 1 7
+
+  in_parts : (load : Far) → length (bring_code (of_load load) count) ≡ length (enter_code (of_load load)) + (length (values load) + length (leave_code (of_load load)))
+  in_parts load = length-append (enter_code (of_load load)) (values load ++ leave_code (of_load load)) ∙ ap (λ n. length (enter_code (of_load load)) + n) (length-append (values load) (leave_code (of_load load)))
+
+  one_by_one : (load : Far) (m : ℕ) → ((k : ℕ) → length (element_of load (plan_of (of_load load)) k 0 1 7) ≡ m) → length (elements_code load (plan_of (of_load load)) count 0 1 7 count) ≡ count * m
+  one_by_one load m each = elements_long load (plan_of (of_load load)) m each count count
+
+  pub far_short : (load : Far) (x : ℕ) → IsWidth (count * far_size load) → length (bring_code (of_load load) count ++ from_zero_code x) ≤ far_length load count
+  far_short load x width = (let l = short load width in omega (arith, l, zero_short x, length-append (bring_code (of_load load) count) (from_zero_code x)))
+    where
+      short : (load : Far) → IsWidth (count * far_size load) → length (bring_code (of_load load) count) + 1 ≤ far_length load count
+      short Loadoffb w = omega (arith, bring_short (of_load Loadoffb) count w)
+      short Loadoffw w = omega (arith, bring_short (of_load Loadoffw) count w)
+      short Loadoffl w = omega (arith, bring_short (of_load Loadoffl) count w)
+      short Loadupdb w = (let n = one_by_one Loadupdb 9 (λ k. refl) in omega (arith, in_parts Loadupdb, n))
+      short Loadupib w = (let n = one_by_one Loadupib 19 (λ k. refl) in omega (arith, in_parts Loadupib, n))
+      short Ldresnearb w = omega (arith, bring_short (of_load Ldresnearb) count w)
+      short Ldresnearl w = omega (arith, bring_short (of_load Ldresnearl) count w)
+      short Ldreslinb w = omega (arith, bring_short (of_load Ldreslinb) count w)
+      short Ldreslinl w = omega (arith, bring_short (of_load Ldreslinl) count w)
+
+  -- where it has at most 30 instructions, its length is within that of a block without far loads
+  pub far_light : (load : Far) → length (bring_code (of_load load) count) ≤ 30 → far_length load count ≤ 104
+  far_light Loadoffb l = omega arith
+  far_light Loadoffw l = omega arith
+  far_light Loadoffl l = omega arith
+  far_light Loadupdb l = (let n = one_by_one Loadupdb 9 (λ k. refl) in omega (arith, in_parts Loadupdb, n, l))
+  far_light Loadupib l = (let n = one_by_one Loadupib 19 (λ k. refl) in omega (arith, in_parts Loadupib, n, l))
+  far_light Ldresnearb l = (let n = one_by_one Ldresnearb 17 (λ k. refl) in omega (arith, in_parts Ldresnearb, n, l))
+  far_light Ldresnearl l = (let n = one_by_one Ldresnearl 17 (λ k. refl) in omega (arith, in_parts Ldresnearl, n, l))
+  far_light Ldreslinb l = (let n = one_by_one Ldreslinb 26 (λ k. refl) in omega (arith, in_parts Ldreslinb, n, l))
+  far_light Ldreslinl l = (let n = one_by_one Ldreslinl 33 (λ k. refl) in omega (arith, in_parts Ldreslinl, n, l))
+
+-- and for one element it is
+pub far_one : (load : Far) → far_length load 1 ≤ 104
+far_one Loadoffb = omega arith
+far_one Loadoffw = omega arith
+far_one Loadoffl = omega arith
+far_one Loadupdb = omega arith
+far_one Loadupib = omega arith
+far_one Ldresnearb = omega arith
+far_one Ldresnearl = omega arith
+far_one Ldreslinb = omega arith
+far_one Ldreslinl = omega arith
+
+-- a far load weighs no more than two instructions besides its cost, for more elements too
+pub far_cost : (load : Far) (count lanes : ℕ) → count ≤ lanes → far_length load count ≤ far_weight load lanes + 2
+far_cost Loadoffb count lanes l = omega arith
+far_cost Loadoffw count lanes l = omega arith
+far_cost Loadoffl count lanes l = omega arith
+far_cost Loadupdb count lanes l = omega (arith, l)
+far_cost Loadupib count lanes l = omega (arith, l)
+far_cost Ldresnearb count lanes l = omega (arith, l)
+far_cost Ldresnearl count lanes l = omega (arith, l)
+far_cost Ldreslinb count lanes l = omega (arith, l)
+far_cost Ldreslinl count lanes l = omega (arith, l)
+
+-- ---- what it touches
+
+-- by registers of which RSP and RDI are none
+module _ (by : ℕ → Bool) (by_stack : by 4 ≡ false) (by_block : by 7 ≡ false) where
+  fewer : (r : ℕ) → (if by r then 1 else 0) ≤ (if is_array r then 1 else 0)
+  fewer r = go (r == 4) (r == 7) refl refl (by r) refl
+    where
+      go : (s t : Bool) → (r == 4) ≡ s → (r == 7) ≡ t → (b : Bool) → by r ≡ b → (if b then 1 else 0) ≤ (if not (s || t) then 1 else 0)
+      go s t e d false g = omega arith
+      go false false e d true g = omega arith
+      go true t e d true g = absurd (true≢false (sym g ∙ ap by (eqb-true r 4 e) ∙ by_stack))
+      go false true e d true g = absurd (true≢false (sym g ∙ ap by (eqb-true r 7 d) ∙ by_block))
+
+  fewer_at : (i : Ins) → touch_weight by i ≤ touch_weight is_array i
+  fewer_at i = go (base_of i)
+    where
+      go : (o : Option ℕ) → weight_by by o ≤ weight_by is_array o
+      go None = omega arith
+      go (Some r) = fewer r
+
+  fewer_in : (is : List Ins) → weigh (touch_weight by) is ≤ array_count is
+  fewer_in [] = omega arith
+  fewer_in (i ∷ is) = omega (arith, fewer_at i, fewer_in is)
+
+  zero_free : (x : ℕ) → weigh (touch_weight by) (from_zero_code x) ≡ 0
+  zero_free x = go (x == 0)
+    where
+      go : (b : Bool) → weigh (touch_weight by) (if b then [] else Vec Movdqa x 0 ∷ []) ≡ 0
+      go true = refl
+      go false = refl
+
+  pub far_touches : (source : FarSource) (count x : ℕ) → IsWidth (count * far_size source.far) → weigh (touch_weight by) (bring_code source count ++ from_zero_code x) ≤ 2 * count
+  far_touches source count x width = omega (arith, weigh_append (touch_weight by) (bring_code source count) (from_zero_code x), zero_free x, fewer_in (bring_code source count), bring_touches source count width)
