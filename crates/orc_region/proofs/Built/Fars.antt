@@ -1,5 +1,5 @@
 -- A far load among the steps: its value is its source, and from that it is a copy.
-use Rattle.std.proofs.Common.{◌≡◌, ℕ, ◌==◌, Bool, true, false, if◌then◌else◌, List, [], ◌∷◌, map, Option, Some, None, is_some, refl, sym, ap, ◌∙◌, subst}
+use Rattle.std.proofs.Common.{◌≡◌, ℕ, ◌<◌, ◌≤◌, ◌==◌, Bool, true, false, if◌then◌else◌, List, [], ◌∷◌, map, Option, Some, None, is_some, refl, sym, ap, ◌∙◌, subst, arith}
 use Rattle.std.proofs.lemmas.Bool.{false≢true, true≢false}
 use Rattle.orc_ops.specs.declared.far.Far.{Far}
 use Rattle.orc_ops.specs.declared.opcode.Op.{Op}
@@ -8,13 +8,19 @@ use Rattle.orc_ops.specs.Far.{far_of, far_size}
 use Rattle.orc_ops.specs.Table.{row}
 use Rattle.orc_plan.specs.declared.steps.Item.{Item}
 use Rattle.orc_plan.specs.declared.steps.Item.TheVariants as item
+use Rattle.x86_ins.specs.Way.{Each}
+use Rattle.orc_frame.specs.declared.frame.Layout.{Layout}
+use Rattle.orc_frame.specs.Frame.{IsLayout}
+use Rattle.orc_frame.proofs.Facts.{facts}
+use Rattle.orc_resample.specs.Bring.{IsFarSource}
 use Rattle.sse_laws.specs.Meets.{Meets, is_sum}
 use Rattle.sse_acc.specs.Sums.{AddsUp}
 use Rattle.sse_shift.specs.Shifts.{has_shift}
+use Rattle.orc_region.proofs.Block.Far.{is_far_source}
 use Rattle.sse_b.proofs.Meet as bytes
 use Rattle.sse_w.proofs.Meet as words
 use Rattle.sse_l.proofs.Meet as longs
-use Rattle.orc_region.specs.Code.{Seats, Source, FromFar, MeetsBy, computed_by, computed_op, copy_of, count_by, far_sources, known_second, source_of, sources_of}
+use Rattle.orc_region.specs.Code.{Seats, Source, FromFar, MeetsBy, computed_by, computed_op, copy_of, count_by, far_source, far_sources, IsLoaded, known_second, source_of, sources_of}
 
 -- ---- the copy
 
@@ -76,3 +82,12 @@ by_far P none one load (item.Pattern j ∷ rest) = none
 pub by_registers : {A : Type 0} (seats : Seats) (F : List Source → A) → ((load : Far) (slot : ℕ) (js : List ℕ) → F (FromFar load slot js ∷ []) ≡ F []) → (o : Option Far) (items : List Item) → F (map (source_of seats) (if is_some o then [] else items)) ≡ F (sources_of seats o items)
 by_registers seats F h None items = refl
 by_registers seats F h (Some load) items = sym (by_far (λ ss. F ss ≡ F []) refl h load items)
+
+-- ---- the frame's words of its code
+
+below : (n : ℕ) → n ≤ 48 → (js : List ℕ) → Each (λ j. j < n) js → Each (λ j. j < 48) js
+below n few [] h = tt
+below n few (j ∷ js) h = (let l = h.0 in omega (arith, l, few), below n few js h.1)
+
+pub source_fits : (l : Layout) → IsLayout l → (size : ℕ → ℕ) (count ahead : ℕ) (load : Far) (slot : ℕ) (js : List ℕ) → IsLoaded l size count (FromFar load slot js) → IsFarSource (far_source ahead load slot js)
+source_fits l is size count ahead load slot js h = is_far_source ahead load slot js h.0 (below _ (facts l is).few_patterns js h.4) h.3
