@@ -12,7 +12,6 @@ use Rattle.x86_ins.proofs.Renamed.{renamed_alike}
 use Rattle.x86_flow.specs.Moves.{away}
 use Rattle.orc_ops.specs.declared.opcode.Op.{Op}
 use Rattle.orc_ops.specs.declared.target.Target.{Target as CodeTarget}
-use Rattle.orc_ops.specs.declared.far.Far.{Far}
 use Rattle.orc_ops.specs.Far.{far_of}
 use Rattle.orc_ops.specs.Table.{row}
 use Rattle.orc_ops.specs.Targets.{class_for}
@@ -23,7 +22,7 @@ use Rattle.orc_plan.specs.declared.steps.Item.{Item}
 use Rattle.orc_plan.specs.declared.steps.Step.{Step}
 use Rattle.orc_region.specs.declared.span.Span.{Span}
 use Rattle.orc_region.proofs.Built.Fars.{by_registers}
-use Rattle.orc_region.specs.Code.{computed_op, sources_of, Action, MeetsBy, count_by, spares_second, Seats, residents_code, resident_code, Source, FromFar, Target, AreBlocks, IsBlocksTurn, used_from, AddsRule, AddsAction, AddsNamed, is_first_taken, is_second_taken, source_names, action_names, named_code, pointer, far_by, aligned_first, source_of, target_of, first_register, second_register, third_register, exchange, rule_register, rule_code, sources_far_code, sum_code, results_far_code, action_far_code, advance_code}
+use Rattle.orc_region.specs.Code.{computed_op, sources_of, Action, MeetsBy, count_by, spares_second, Seats, residents_code, resident_code, Source, Target, AreBlocks, IsBlocksTurn, used_from, AddsRule, AddsAction, AddsNamed, is_first_taken, is_second_taken, source_names, action_names, named_code, pointer, far_by, aligned_first, source_of, target_of, first_register, second_register, third_register, exchange, rule_register, rule_code, sources_far_code, sum_code, results_far_code, action_far_code, advance_code}
 
 -- what follows from a fact of a success
 pub on_ok : {A E : Type 0} (r : Result A E) (P Q : Type 0) → (P → Q) → OnOk r P → OnOk r Q
@@ -97,12 +96,11 @@ module _ (size : ℕ → ℕ) (span : Span) where
   named_slice seats names mine [] step later one two x y sources results none own slice base c d some is rest es er first second ex ey named empty action same grown after = absurd (omega (arith, some))
   named_slice seats names mine (s ∷ steps) step later one two x y sources results none own slice base c d some is rest es er first second ex ey named empty action same grown after =
       let far = far_of step.op in
-      let own_sources = sources_of seats far step.sources.items in
-      let by : {A : Type 0} (F : List Source → A) → ((load : Far) (slot : ℕ) (js : List ℕ) → F (FromFar load slot js ∷ []) ≡ F []) → F (map (source_of seats) sources) ≡ F own_sources = λ F h. ap (λ xs. F (map (source_of seats) xs)) es ∙ by_registers seats F h far step.sources.items in
+      let items = step.sources.items in
       let whole : step ∷ later ≡ s ∷ steps = ap₂ (λ (a : Step) (b : List Step). a ∷ b) is (rest ∙ take_all (length (s ∷ steps) - 1) steps (omega arith)) in
       subst (λ l. AddsNamed names seats size span l base d) whole
-      (named_more seats names mine step later one two x y own_sources (map (target_of seats.places) results) own base c d refl (ap (map (target_of seats.places)) er) (first ∙ by (is_first_taken seats later) (λ load slot js. refl)) (second ∙ by (is_second_taken seats later) (λ load slot js. refl)) ex ey
-      (named ∙ by (λ ss. source_names one two x y ss names) (λ load slot js. refl)) (subst (λ l. AddsAction seats size span step one two l own) empty action) (grown ∙ ap (λ l. base ++ map (renamed (renaming mine)) l) same) after)
+      (named_more seats names mine step later one two x y (sources_of seats far items) (map (target_of seats.places) results) own base c d refl (ap (map (target_of seats.places)) er) (first ∙ by_registers seats (is_first_taken seats later) (λ load slot js. refl) far items sources es) (second ∙ by_registers seats (is_second_taken seats later) (λ load slot js. refl) far items sources es) ex ey
+      (named ∙ by_registers seats (λ ss. source_names one two x y ss names) (λ load slot js. refl) far items sources es) (subst (λ l. AddsAction seats size span step one two l own) empty action) (grown ∙ ap (λ l. base ++ map (renamed (renaming mine)) l) same) after)
 
   -- four lists at the end of one
   four : (base a b c d c1 c2 c3 c4 : List Ins) → c1 ≡ base ++ a → c2 ≡ c1 ++ b → c3 ≡ c2 ++ c → c4 ≡ c3 ++ d → c4 ≡ base ++ (a ++ (b ++ (c ++ d)))

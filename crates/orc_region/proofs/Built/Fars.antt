@@ -1,6 +1,6 @@
 -- A far load among the steps: its value is its source, and from that it is a copy.
 use Rattle.std.proofs.Common.{◌≡◌, ℕ, ◌<◌, ◌≤◌, ◌==◌, Bool, true, false, if◌then◌else◌, List, [], ◌∷◌, map, Option, Some, None, is_some, refl, sym, ap, ◌∙◌, subst, arith}
-use Rattle.std.proofs.lemmas.Bool.{false≢true, true≢false}
+use Rattle.std.proofs.lemmas.Bool.{false≢true}
 use Rattle.orc_ops.specs.declared.far.Far.{Far}
 use Rattle.orc_ops.specs.declared.opcode.Op.{Op}
 use Rattle.orc_ops.specs.declared.opcode.Op.TheVariants as opcode
@@ -14,7 +14,6 @@ use Rattle.orc_frame.specs.Frame.{IsLayout}
 use Rattle.orc_frame.proofs.Facts.{facts}
 use Rattle.orc_resample.specs.Bring.{IsFarSource}
 use Rattle.sse_laws.specs.Meets.{Meets, is_sum}
-use Rattle.sse_acc.specs.Sums.{AddsUp}
 use Rattle.sse_shift.specs.Shifts.{has_shift}
 use Rattle.orc_region.proofs.Block.Far.{is_far_source}
 use Rattle.sse_b.proofs.Meet as bytes
@@ -32,14 +31,6 @@ copy_meets size = go (size == 1) (size == 2)
     go true two = bytes.meets opcode.Copyb refl
     go false true = words.meets opcode.Copyw refl
     go false false = longs.meets opcode.Copyl refl
-
-copy_no_sum : (size : ℕ) → is_sum (row (copy_of size)).kind ≡ false
-copy_no_sum size = go (size == 1) (size == 2)
-  where
-    go : (one two : Bool) → is_sum (row (if one then opcode.Copyb else (if two then opcode.Copyw else opcode.Copyl))).kind ≡ false
-    go true two = refl
-    go false true = refl
-    go false false = refl
 
 no_shift : (op : Op) → is_some (far_of op) ≡ true → has_shift op ≡ false
 no_shift opcode.Loadoffb t = refl
@@ -61,13 +52,6 @@ pub far_meets : (seats : Seats) (op : Op) (load : Far) (items : List Item) → S
 far_meets seats op load items e s =
     subst (λ o. MeetsBy (count_by seats op items) (computed_by op o) []) e (subst (λ by. MeetsBy by (copy_of (far_size load)) []) (sym (no_count seats op load items e)) (copy_meets (far_size load)))
 
-pub far_never_adds : {A : Type 0} (op : Op) (load : Far) → Some load ≡ far_of op → is_sum (row (computed_op op)).kind ≡ true → A
-far_never_adds op load e s = absurd (true≢false (sym s ∙ sym (ap (λ o. is_sum (row (computed_by op o)).kind) e) ∙ copy_no_sum (far_size load)))
-
--- what is computed by any other step is its own opcode
-pub near_op : (op : Op) → None ≡ far_of op → computed_op op ≡ op
-near_op op e = sym (ap (computed_by op) e)
-
 -- ---- its one source
 
 -- it is none, or one far load
@@ -79,9 +63,9 @@ by_far P none one load (item.Acc slot size ∷ rest) = none
 by_far P none one load (item.Pattern j ∷ rest) = none
 
 -- what is the same of a far load as of no source is the same of the sources that may stand in registers as of all
-pub by_registers : {A : Type 0} (seats : Seats) (F : List Source → A) → ((load : Far) (slot : ℕ) (js : List ℕ) → F (FromFar load slot js ∷ []) ≡ F []) → (o : Option Far) (items : List Item) → F (map (source_of seats) (if is_some o then [] else items)) ≡ F (sources_of seats o items)
-by_registers seats F h None items = refl
-by_registers seats F h (Some load) items = sym (by_far (λ ss. F ss ≡ F []) refl h load items)
+pub by_registers : {A : Type 0} (seats : Seats) (F : List Source → A) → ((load : Far) (slot : ℕ) (js : List ℕ) → F (FromFar load slot js ∷ []) ≡ F []) → (o : Option Far) (items own : List Item) → own ≡ (if is_some o then [] else items) → F (map (source_of seats) own) ≡ F (sources_of seats o items)
+by_registers seats F h None items own e = ap (λ xs. F (map (source_of seats) xs)) e
+by_registers seats F h (Some load) items own e = ap (λ xs. F (map (source_of seats) xs)) e ∙ sym (by_far (λ ss. F ss ≡ F []) refl h load items)
 
 -- ---- the frame's words of its code
 
