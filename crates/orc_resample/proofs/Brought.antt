@@ -1,26 +1,30 @@
 -- The list inside a turn leads from every state with all at hand to the values.
-use Rattle.std.proofs.Common.{◌≡◌, ◌≢◌, ℕ, zero, suc, ◌+◌, ◌-◌, ◌*◌, ◌%◌, ◌^◌, ◌<◌, ◌≤◌, ℤ, pos, negsuc, List, [], ◌∷◌, ◌++◌, Option, Some, None, Ok, refl, sym, ap, ◌∙◌, subst, arith, inl, inr, ⊎_elim}
+use Rattle.std.proofs.Common.{◌≡◌, ◌≢◌, ℕ, zero, suc, ◌+◌, ◌-◌, ◌*◌, ◌%◌, ◌^◌, ◌<◌, ◌≤◌, ◌/◌, ◌==◌, ℤ, pos, negsuc, Bool, true, false, true≢false, if◌then◌else◌, List, [], ◌∷◌, ◌++◌, Option, Some, None, Ok, refl, sym, ap, ◌∙◌, subst, arith, inl, inr, ⊎_elim}
 use Rattle.std.proofs.lemmas.Bool.{cases_eq}
-use Rattle.orc_bits.specs.Lanes.{byte_of}
+use Rattle.orc_bits.specs.Lanes.{lane, byte_of}
 use Rattle.orc_bits.specs.Memory.{Memory, bind, read, number, value, word, fill, IsMapped}
-use Rattle.orc_bits.specs.Numbers.{wrap}
 use Rattle.orc_bits.proofs.LaneLaws.{change_other, change_same}
-use Rattle.orc_bits.proofs.Memories.{fill_other, fill_mapped, store_mapped}
+use Rattle.orc_bits.proofs.Memories.{fill_other, fill_mapped, store_mapped, value_small}
 use Rattle.x86_ins.specs.declared.ins.AluOp.TheVariants.{Sub}
+use Rattle.x86_ins.specs.declared.ins.ShiftOp.TheVariants.{Shr}
 use Rattle.x86_ins.specs.declared.ins.Ins.{Ins}
-use Rattle.x86_ins.specs.declared.ins.Ins.TheVariants.{Load, Store, Alu, AluImm}
+use Rattle.x86_ins.specs.declared.ins.Ins.TheVariants.{Load, Store, Alu, Shift, Lea}
 use Rattle.x86_ins.specs.Spelling.{IsIns}
 use Rattle.x86_ins.specs.Way.{Each}
-use Rattle.x86_ins.specs.Machine.{Core, with_gpr, with_memory, alu_core, moved, access, load, save, work}
+use Rattle.x86_ins.specs.Vectors.{shr, sub_wrap}
+use Rattle.x86_ins.specs.Machine.{Core, with_gpr, with_flags, with_memory, alu_core, moved, access, load, save, work}
+use Rattle.x86_ins.proofs.Bounds.{ok_one}
 use Rattle.x86_flow.specs.Does.{Line}
-use Rattle.x86_flow.specs.Moves.{IsWidth, away}
+use Rattle.x86_flow.specs.Moves.{IsWidth}
 use Rattle.x86_flow.proofs.Frame.{word_stored}
 use Rattle.x86_flow.proofs.Moves.{line_append}
 use Rattle.x86_flow.proofs.Touching.{touches_none}
 use Rattle.orc_ops.specs.declared.far.Far.{Far}
+use Rattle.orc_ops.specs.declared.far.Far.TheVariants.{Loadoffb, Loadoffw, Loadoffl, Loadupdb, Loadupib, Ldresnearb, Ldresnearl, Ldreslinb, Ldreslinl}
 use Rattle.orc_ops.specs.Far.{far_size, far_first, far_second, far_part, far_blend, other}
+use Rattle.orc_resample.specs.declared.plan.FarPlan.{FarPlan}
 use Rattle.orc_resample.specs.declared.turn.FarSource.{FarSource}
-use Rattle.orc_resample.specs.Code.{slot, scratch, gather_with, plan_of, enter_code, leave_code, bring_code}
+use Rattle.orc_resample.specs.Code.{slot, scratch, bits_of, narrow_code, is_one_by_one, gather_with, plan_of, enter_code, block_code, leave_code, bring_code}
 use Rattle.orc_resample.specs.Ready.{IsPlan, Source, Ready, IsScratch, Keeps, Gathered, OnTheWay, cell, element, some_or_zero, IsRead, value_at, InWord, InPlan}
 use Rattle.orc_resample.specs.Bring.{pattern_at, IsKept, IsSpare, LiesIn, AreApart, IsFarSource, InWords, AtHand, Stays, Brought, InOwn, OnTurn, Brings}
 use Rattle.orc_resample.proofs.Gathered.{line_bounded, gathers}
@@ -36,14 +40,14 @@ read_alike (suc n) m e a h =
     ap (λ o. bind o (λ b. bind (read n m (a + 1)) (λ bs. Some (b ∷ bs)))) here
     ∙ ap (λ o. bind (e (a % 2 ^ 64)) (λ b. bind o (λ bs. Some (b ∷ bs)))) rest
 
-value_alike : (n : ℕ) (m e : Memory) (a : ℕ) → ((j : ℕ) → j < n → m ((a + j) % 2 ^ 64) ≡ e ((a + j) % 2 ^ 64)) → value n m a ≡ value n e a
+pub value_alike : (n : ℕ) (m e : Memory) (a : ℕ) → ((j : ℕ) → j < n → m ((a + j) % 2 ^ 64) ≡ e ((a + j) % 2 ^ 64)) → value n m a ≡ value n e a
 value_alike n m e a h = ap (λ o. bind o (λ bs. Some (number bs))) (read_alike n m e a h)
 
-word_alike : (m e : Memory) (a : ℕ) → ((x : ℕ) → InWord a x → m x ≡ e x) → word m a ≡ word e a
+pub word_alike : (m e : Memory) (a : ℕ) → ((x : ℕ) → InWord a x → m x ≡ e x) → word m a ≡ word e a
 word_alike m e a h = value_alike 8 m e a (λ j l. h ((a + j) % 2 ^ 64) (j, l, refl))
 
 -- elements that are the same have the same value
-value_same : (far : Far) (s : Source) (m e : Memory) (i : ℕ) → ((k : ℤ) → IsRead far s i k → element far m s.base k ≡ element far e s.base k) → value_at far s m i ≡ value_at far s e i
+pub value_same : (far : Far) (s : Source) (m e : Memory) (i : ℕ) → ((k : ℤ) → IsRead far s i k → element far m s.base k ≡ element far e s.base k) → value_at far s m i ≡ value_at far s e i
 value_same far s m e i h =
     let first = far_first far i s.p s.q in
     let second = other first (far_second far i s.p s.q) in
@@ -74,9 +78,51 @@ words_apart rsp (pos a) (pos b) low ha hb h x v w =
 words_apart rsp (pos a) (negsuc b) low ha hb h x v w = hb
 words_apart rsp (negsuc a) z low ha hb h x v w = ha
 
--- the first element's number, as the code computes it
-first_of : (first left low : ℕ) → first < 2 ^ 64 → left < 2 ^ 64 → (((first + (left + low)) % 2 ^ 64 + (2 ^ 64 - left)) % 2 ^ 64 + (2 ^ 64 - low % 2 ^ 64)) % 2 ^ 64 ≡ first
-first_of first left low f l = omega (arith, f, l)
+-- ---- the first element's number
+
+-- what a register becomes that is divided by 2 ^ bits, where the flag tells that this is 1
+abbrev narrowed_number : Bool → ℕ → ℕ → ℕ
+narrowed_number true bits v = v
+narrowed_number false bits v = shr 64 v bits
+
+bytes : (first base : ℕ) → first < 2 ^ 32 → base < 2 ^ 64 → narrowed_number true 0 (sub_wrap 64 ((base + first * 1) % 2 ^ 64) base) ≡ first
+bytes first base f b = let q : ((base + first * 1) % 2 ^ 64 + (2 ^ 64 - base)) % 2 ^ 64 ≡ first = omega (arith, f, b) in q
+
+longs : (first base : ℕ) → first < 2 ^ 32 → base < 2 ^ 64 → narrowed_number false 2 (sub_wrap 64 ((base + first * 4) % 2 ^ 64) base) ≡ first
+longs first base f b = let q : ((base + first * 4) % 2 ^ 64 + (2 ^ 64 - base)) % 2 ^ 64 / 4 ≡ first = omega (arith, f, b) in q
+
+-- the first element's number, as the code computes it of its address
+number_of : (far : Far) (first base : ℕ) → first < 2 ^ 32 → base < 2 ^ 64 → narrowed_number (bits_of (far_size far) == 0) (bits_of (far_size far)) (sub_wrap 64 ((base + first * far_size far) % 2 ^ 64) base) ≡ first
+number_of Loadoffb first base f b = bytes first base f b
+number_of Loadoffw first base f b = let q : ((base + first * 2) % 2 ^ 64 + (2 ^ 64 - base)) % 2 ^ 64 / 2 ≡ first = omega (arith, f, b) in q
+number_of Loadoffl first base f b = longs first base f b
+number_of Loadupdb first base f b = bytes first base f b
+number_of Loadupib first base f b = bytes first base f b
+number_of Ldresnearb first base f b = bytes first base f b
+number_of Ldresnearl first base f b = longs first base f b
+number_of Ldreslinb first base f b = bytes first base f b
+number_of Ldreslinl first base f b = longs first base f b
+
+-- a state whose RAX is so divided
+abbrev narrowed : Bool → ℕ → Core → Core
+narrowed true bits u = u
+narrowed false bits u = with_flags (with_gpr u 0 (shr 64 (u.gpr 0) bits)) None
+
+narrowed_first : (t : Bool) (bits : ℕ) (u : Core) → (narrowed t bits u).gpr 0 ≡ narrowed_number t bits (u.gpr 0)
+narrowed_first true bits u = refl
+narrowed_first false bits u = refl
+
+narrowed_others : (t : Bool) (bits : ℕ) (u : Core) (r : ℕ) → r ≢ 0 → (narrowed t bits u).gpr r ≡ u.gpr r
+narrowed_others true bits u r h = refl
+narrowed_others false bits u r h = change_other u.gpr 0 (shr 64 (u.gpr 0) bits) r h
+
+narrowed_xmm : (t : Bool) (bits : ℕ) (u : Core) → (narrowed t bits u).xmm ≡ u.xmm
+narrowed_xmm true bits u = refl
+narrowed_xmm false bits u = refl
+
+narrowed_memory : (t : Bool) (bits : ℕ) (u : Core) → (narrowed t bits u).memory ≡ u.memory
+narrowed_memory true bits u = refl
+narrowed_memory false bits u = refl
 
 -- ---- lists in parts
 
@@ -87,6 +133,35 @@ each_front P (i ∷ x) y h = (h.0, each_front P x y h.1)
 each_behind : (P : Ins → Type 0) (x y : List Ins) → Each P (x ++ y) → Each P y
 each_behind P [] y h = h
 each_behind P (i ∷ x) y h = each_behind P x y h.1
+
+-- from a state a list leads to one state
+one_end : (A B : Core → Ins → Type 0) (is : List Ins) (c d e : Core) → Line A is c d → Line B is c e → d ≡ e
+one_end A B [] c d e h k = sym h ∙ k
+one_end A B (i ∷ is) c d e h k = one_end A B is k.1.0 d e (subst (λ u. Line A is u d) (ok_one h.1.0 k.1.0 (sym h.1.1 ∙ k.1.1)) h.1.2) k.1.2
+
+-- ---- elements side by side
+
+-- a plan in which RDX stands for the third register, which elements side by side don't use
+abbrev other_plan : FarSource → FarPlan
+other_plan source = record {
+  array = source.array;
+  scalars = source.scalars;
+  index = source.index;
+  work = source.work;
+  scratch = 0 ∷ 1 ∷ 2 ∷ [];
+  odd = None;
+}
+
+same_code : (far : Far) (source : FarSource) (count : ℕ) → is_one_by_one far ≡ false → gather_with far (plan_of source) count 0 1 7 ≡ gather_with far (other_plan source) count 0 1 2
+same_code Loadoffb source count h = refl
+same_code Loadoffw source count h = refl
+same_code Loadoffl source count h = refl
+same_code Loadupdb source count h = absurd (true≢false h)
+same_code Loadupib source count h = absurd (true≢false h)
+same_code Ldresnearb source count h = absurd (true≢false h)
+same_code Ldresnearl source count h = absurd (true≢false h)
+same_code Ldreslinb source count h = absurd (true≢false h)
+same_code Ldreslinl source count h = absurd (true≢false h)
 
 -- a line under another fact at each step, from what holds of each instruction
 line_each : (P : Ins → Type 0) (A B : Core → Ins → Type 0) → ((u : Core) (i : Ins) → P i → A u i → B u i) → (is : List Ins) (c d : Core) → Each P is → Line A is c d → Line B is c d
@@ -137,7 +212,7 @@ module _ (count : ℕ) (source : FarSource) (is : IsFarSource source) (s : Sourc
   element_kept : (u : Core) → Stays source c u → (i : ℕ) → i < count → (k : ℤ) → IsRead source.far s (s.first + i) k → element source.far u.memory s.base k ≡ element source.far c.memory s.base k
   element_kept u t i l k r =
       let a = cell source.far s.base k in
-      ap some_or_zero (value_alike (far_size source.far) u.memory c.memory a (λ j m. t.memory ((a + j) % 2 ^ 64) (λ h. at.apart ((a + j) % 2 ^ 64) h (inl (i, l, (k, r, (j, m, refl)))))))
+      ap some_or_zero (value_alike (far_size source.far) u.memory c.memory a (λ j m. t.memory ((a + j) % 2 ^ 64) (λ h. at.apart ((a + j) % 2 ^ 64) h (i, l, (k, r, (j, m, refl))))))
 
   -- ---- steps
 
@@ -161,27 +236,33 @@ module _ (count : ℕ) (source : FarSource) (is : IsFarSource source) (s : Sourc
   at_spare u q z spare t = (t, λ x w. inl (refl, inl (z, spare, subst (λ g. InWord (moved g z) x) t.stack w)), refl)
 
   at_kept : (u : Core) (q : ℕ) (z : ℤ) → IsKept source z → Stays source c u → Q u (Load q (slot z))
-  at_kept u q z kept t = (t, λ x w. inl (refl, inr (inl (z, kept, subst (λ g. InWord (moved g z) x) t.stack w))), refl)
+  at_kept u q z kept t = (t, λ x w. inl (refl, inr (z, kept, subst (λ g. InWord (moved g z) x) t.stack w)), refl)
 
   -- ---- before the values' part
 
-  abbrev sum : ℕ
-  sum = (s.first + (c.gpr 1 + source.lowered)) % 2 ^ 64
+  abbrev bits : ℕ
+  bits = bits_of (far_size source.far)
+
+  abbrev whole : Bool
+  whole = bits == 0
 
   abbrev c1 : Core
   c1 = with_memory c (fill 8 c.memory work_at (byte_of 8 (c.gpr 1)))
 
   abbrev c2 : Core
-  c2 = with_gpr c1 0 sum
+  c2 = with_gpr c1 0 (moved (c.gpr source.pointer) source.ahead)
 
   abbrev c3 : Core
-  c3 = alu_core Sub c2 0 (c2.gpr 1)
+  c3 = with_gpr c2 1 s.base
 
   abbrev c4 : Core
-  c4 = alu_core Sub c3 0 (wrap 64 (pos source.lowered))
+  c4 = alu_core Sub c3 0 (c3.gpr 1)
 
   abbrev c5 : Core
-  c5 = with_memory c4 (fill 8 c4.memory index_at (byte_of 8 (c4.gpr 0)))
+  c5 = narrowed whole bits c4
+
+  abbrev c6 : Core
+  c6 = with_memory c5 (fill 8 c5.memory index_at (byte_of 8 (c5.gpr 0)))
 
   stays_0 : Stays source c c
   stays_0 = record { stack = refl; xmm = λ r l. refl; memory = λ x out. refl; mapped = λ x h. h }
@@ -199,44 +280,37 @@ module _ (count : ℕ) (source : FarSource) (is : IsFarSource source) (s : Sourc
   stays_4 = still c1 c4 stays_1 refl refl refl
 
   stays_5 : Stays source c c5
-  stays_5 = written c4 source.index (byte_of 8 (c4.gpr 0)) (inl refl) stays_4
+  stays_5 = still c4 c5 stays_4 (narrowed_others whole bits c4 4 (λ e. omega (arith, e))) (narrowed_xmm whole bits c4) (narrowed_memory whole bits c4)
 
-  at_block : (c.gpr 7 + 0) % 2 ^ 64 ≡ c.gpr 7
-  at_block = let l : c.gpr 7 < 2 ^ 64 = at.bounded.gpr 7 in omega (arith, l)
+  stays_6 : Stays source c c6
+  stays_6 = written c5 source.index (byte_of 8 (c5.gpr 0)) (inl refl) stays_5
 
-  loads_sum : work (Load 0 (away 7 0)) c1 ≡ Ok c2
-  loads_sum =
-      ap (λ a. load 8 c1 a (λ w. with_gpr c1 0 w)) at_block
-      ∙ ap (λ o. access 8 c1.memory (c.gpr 7) o (λ w. with_gpr c1 0 w)) (word_kept c1 stays_1 (c.gpr 7) (λ x w h. at.apart x h (inr w)) ∙ at.number)
+  narrow_line : (t : Bool) (u : Core) → Stays source c u → Line Q (if t then [] else Shift Shr 0 bits ∷ []) u (narrowed t bits u)
+  narrow_line true u t = refl
+  narrow_line false u t = ((t, λ x w. absurd (touches_none (Shift Shr 0 bits) u refl x w), refl), (narrowed false bits u, refl, refl))
 
-  at_sum : Q c1 (Load 0 (away 7 0))
-  at_sum = (stays_1, λ x w. inl (refl, inr (inr (w.0, w.1, w.2 ∙ ap (λ a. (a + w.0) % 2 ^ 64) at_block))), refl)
-
-  entered : Line Q (enter_code source) c c5
+  entered : Line Q (enter_code source) c c6
   entered = (
     at_store c 1 source.work (inr refl) stays_0,
     (
       c1,
       stores c 1 source.work (inr refl) stays_0,
       (
-        at_sum,
+        (stays_1, λ x w. absurd (touches_none (Lea 0 (record { base = source.pointer; disp = source.ahead })) c1 refl x w), refl),
         (
           c2,
-          loads_sum,
+          refl,
           (
-            (stays_2, λ x w. absurd (touches_none (Alu Sub 0 1) c2 refl x w), refl),
+            at_kept c2 1 source.array (inr (inl refl)) stays_2,
             (
               c3,
-              refl,
+              loads c2 1 source.array s.base stays_2 (kept_word c2 stays_2 source.array (inr (inl refl)) ∙ at.array),
               (
-                (stays_3, λ x w. absurd (touches_none (AluImm Sub 0 (pos source.lowered)) c3 refl x w), refl),
+                (stays_3, λ x w. absurd (touches_none (Alu Sub 0 1) c3 refl x w), refl),
                 (
                   c4,
                   refl,
-                  (
-                    at_store c4 0 source.index (inl refl) stays_4,
-                    (c5, stores c4 0 source.index (inl refl) stays_4, refl),
-                  ),
+                  line_append Q (narrow_code bits 0) (Store 0 (slot source.index) ∷ []) c4 c5 c6 (narrow_line whole c4 stays_4) (at_store c5 0 source.index (inl refl) stays_5, (c6, stores c5 0 source.index (inl refl) stays_5, refl)),
                 ),
               ),
             ),
@@ -246,18 +320,24 @@ module _ (count : ℕ) (source : FarSource) (is : IsFarSource source) (s : Sourc
     ),
   )
 
-  first_is : c4.gpr 0 ≡ s.first
-  first_is = first_of s.first (c.gpr 1) source.lowered (let l : s.first + count ≤ 2 ^ 31 = at.last in omega (arith, l)) (at.bounded.gpr 1)
+  first_is : c5.gpr 0 ≡ s.first
+  first_is =
+      narrowed_first whole bits c4 ∙ ap (λ x. narrowed_number whole bits (sub_wrap 64 x s.base)) at.pointer
+      ∙ number_of source.far s.first s.base (let l : s.first + count ≤ 2 ^ 31 = at.last in omega (arith, l)) (value_small 8 c.memory (moved (c.gpr 4) source.array) s.base at.bounded.memory at.array)
 
-  ready : Each IsIns (enter_code source) → Ready source.far count (plan_of source) s c5
+  -- a word at a displacement from the same RSP
+  at_stack : (z : ℤ) (v : ℕ) → word c6.memory (moved (c.gpr 4) z) ≡ Some v → word c6.memory (moved (c6.gpr 4) z) ≡ Some v
+  at_stack z v h = subst (λ g. word c6.memory (moved g z) ≡ Some v) (sym stays_6.stack) h
+
+  ready : Each IsIns (enter_code source) → Ready source.far count (plan_of source) s c6
   ready ranges = record {
-    bounded = line_bounded Q (enter_code source) c c5 ranges at.bounded entered;
-    index = word_stored c4.memory index_at (c4.gpr 0) (moved_in (c.gpr 4) source.index at.frame (is.spare source.index (inl refl))) (let l : s.first + count ≤ 2 ^ 31 = at.last in omega (arith, l, first_is)) ∙ ap Some first_is;
+    bounded = line_bounded Q (enter_code source) c c6 ranges at.bounded entered;
+    index = at_stack source.index s.first (word_stored c5.memory index_at (c5.gpr 0) (moved_in (c.gpr 4) source.index at.frame (is.spare source.index (inl refl))) (let l : s.first + count ≤ 2 ^ 31 = at.last in omega (arith, l, first_is)) ∙ ap Some first_is);
     last = at.last;
-    array = kept_word c5 stays_5 source.array (inr (inl refl)) ∙ at.array;
-    first_scalar = λ l. kept_word c5 stays_5 (pattern_at source 0) (inr (inr (0, l, refl))) ∙ at.first_scalar l;
-    second_scalar = λ l. kept_word c5 stays_5 (pattern_at source 1) (inr (inr (1, l, refl))) ∙ at.second_scalar l;
-    mapped = λ x h. stays_5.mapped x (at.mapped x h);
+    array = at_stack source.array s.base (kept_word c6 stays_6 source.array (inr (inl refl)) ∙ at.array);
+    first_scalar = λ l. at_stack (pattern_at source 0) s.p (kept_word c6 stays_6 (pattern_at source 0) (inr (inr (0, l, refl))) ∙ at.first_scalar l);
+    second_scalar = λ l. at_stack (pattern_at source 1) s.q (kept_word c6 stays_6 (pattern_at source 1) (inr (inr (1, l, refl))) ∙ at.second_scalar l);
+    mapped = λ x h. stays_6.mapped x (at.mapped x h);
   }
 
   -- ---- the values' part
@@ -271,91 +351,146 @@ module _ (count : ℕ) (source : FarSource) (is : IsFarSource source) (s : Sourc
       registers (suc (suc zero)) l = (omega arith, λ e. omega (arith, e))
       registers (suc (suc (suc j))) l = absurd (omega (arith, l))
 
+  -- the same for the other plan
+  is_other : IsPlan source.far (other_plan source)
+  is_other = record { registers = registers; different = (λ e. omega (arith, e), (λ e. omega (arith, e), λ e. omega (arith, e))); scalars = is.scalars }
+    where
+      registers : (j : ℕ) → j < 3 → (scratch (other_plan source) j < 16) × (scratch (other_plan source) j ≢ 4)
+      registers zero l = (omega arith, λ e. omega (arith, e))
+      registers (suc zero) l = (omega arith, λ e. omega (arith, e))
+      registers (suc (suc zero)) l = (omega arith, λ e. omega (arith, e))
+      registers (suc (suc (suc j))) l = absurd (omega (arith, l))
+
+  other_ready : Ready source.far count (plan_of source) s c6 → Ready source.far count (other_plan source) s c6
+  other_ready r = record { bounded = r.bounded; index = r.index; last = r.last; array = r.array; first_scalar = r.first_scalar; second_scalar = r.second_scalar; mapped = r.mapped }
+
+  not_other : (r : ℕ) → r ≢ 0 → r ≢ 1 → r ≢ 2 → IsScratch (other_plan source) r → ⊥
+  not_other r a b e (zero, l, q) = a q
+  not_other r a b e (suc zero, l, q) = b q
+  not_other r a b e (suc (suc zero), l, q) = e q
+  not_other r a b e (suc (suc (suc j)), l, q) = omega (arith, l)
+
+  -- all registers but RAX and RCX are as at the beginning
+  before : (r : ℕ) → r ≢ 0 → r ≢ 1 → c6.gpr r ≡ c.gpr r
+  before r zero_not one_not = narrowed_others whole bits c4 r zero_not ∙ change_other c3.gpr 0 (c4.gpr 0) r zero_not ∙ change_other c2.gpr 1 s.base r one_not ∙ change_other c1.gpr 0 (moved (c.gpr source.pointer) source.ahead) r zero_not
+
+  -- RDI is so behind elements side by side
+  seven : (d : Core) → is_one_by_one source.far ≡ false → IsWidth (count * far_size source.far) → Ready source.far count (plan_of source) s c6 → Each IsIns (gather_with source.far (plan_of source) count 0 1 7)
+      → Line (OnTheWay source.far count (plan_of source) s c6) (gather_with source.far (plan_of source) count 0 1 7) c6 d → d.gpr 7 ≡ c.gpr 7
+  seven d side width r ranges line =
+      let list = gather_with source.far (plan_of source) count 0 1 7 in
+      let e : list ≡ gather_with source.far (other_plan source) count 0 1 2 = same_code source.far source count side in
+      let o = gathers source.far count (other_plan source) is_other width (subst (Each IsIns) e ranges) s c6 (other_ready r) in
+      let P = OnTheWay source.far count (plan_of source) s c6 in
+      let P' = OnTheWay source.far count (other_plan source) s c6 in
+      ap (λ u. u.gpr 7) (one_end P P' list c6 d o.0 line (subst (λ l. Line P' l c6 o.0) (sym e) o.1)) ∙ o.2.keeps.gpr 7 (not_other 7 (λ x. omega (arith, x)) (λ x. omega (arith, x)) (λ x. omega (arith, x))) ∙ before 7 (λ x. omega (arith, x)) (λ x. omega (arith, x))
+
   not_scratch : (r : ℕ) → r ≢ 0 → r ≢ 1 → r ≢ 7 → IsScratch (plan_of source) r → ⊥
   not_scratch r a b e (zero, l, q) = a q
   not_scratch r a b e (suc zero, l, q) = b q
   not_scratch r a b e (suc (suc zero), l, q) = e q
   not_scratch r a b e (suc (suc (suc j)), l, q) = omega (arith, l)
 
-  stays_on : (u : Core) → Keeps (plan_of source) c5 u → Stays source c u
+  stays_on : (u : Core) → Keeps (plan_of source) c6 u → Stays source c u
   stays_on u k = record {
-    stack = k.gpr 4 (not_scratch 4 (λ e. omega (arith, e)) (λ e. omega (arith, e)) (λ e. omega (arith, e)));
-    xmm = k.xmm;
-    memory = λ x out. ap (λ m. m x) k.memory ∙ stays_5.memory x out;
-    mapped = λ x h. subst (λ m. IsMapped m x) (sym k.memory) (stays_5.mapped x h);
+    stack = k.gpr 4 (not_scratch 4 (λ e. omega (arith, e)) (λ e. omega (arith, e)) (λ e. omega (arith, e))) ∙ stays_6.stack;
+    xmm = λ r l. k.xmm r l ∙ stays_6.xmm r l;
+    memory = λ x out. ap (λ m. m x) k.memory ∙ stays_6.memory x out;
+    mapped = λ x h. subst (λ m. IsMapped m x) (sym k.memory) (stays_6.mapped x h);
   }
 
   in_own : (x : ℕ) → InPlan source.far (plan_of source) (c.gpr 4) x → InOwn source c x
   in_own x (inl w) = inl (source.index, inl refl, w)
-  in_own x (inr (inl w)) = inr (inl (source.array, inr (inl refl), w))
-  in_own x (inr (inr (j, l, w))) = inr (inl (pattern_at source j, inr (inr (j, l, refl)), w))
+  in_own x (inr (inl w)) = inr (source.array, inr (inl refl), w)
+  in_own x (inr (inr (j, l, w))) = inr (pattern_at source j, inr (inr (j, l, refl)), w)
 
-  on_turn : (u : Core) (i : Ins) → Agrees i → OnTheWay source.far count (plan_of source) s c5 u i → Q u i
-  on_turn u i agrees h = (stays_on u h.0, λ x t. ⊎_elim (λ n. inl (agrees.0 ∙ n.0, in_own x n.1)) (λ f. inr (agrees.0 ∙ f.0, f.1)) (h.1 x t), agrees.1)
+  on_turn : (u : Core) (i : Ins) → Agrees i → OnTheWay source.far count (plan_of source) s c6 u i → Q u i
+  on_turn u i agrees h = (stays_on u h.0, λ x t. ⊎_elim (λ n. inl (agrees.0 ∙ n.0, in_own x (subst (λ g. InPlan source.far (plan_of source) g x) stays_6.stack n.1))) (λ f. inr (agrees.0 ∙ f.0, f.1)) (h.1 x t), agrees.1)
 
   -- ---- behind it
 
-  module _ (d : Core) (g : Gathered source.far count (plan_of source) s c5 d) where
+  module _ (d : Core) (g : Gathered source.far count (plan_of source) s c6 d) (side : is_one_by_one source.far ≡ false → d.gpr 7 ≡ c.gpr 7) where
+    -- RDI is loaded again, or stands
+    abbrev back : Bool → Core
+    back true = with_gpr d 7 (c.gpr 7)
+    back false = d
+
     abbrev d1 : Core
-    d1 = with_gpr d 7 (c.gpr 7)
+    d1 = back (is_one_by_one source.far)
 
     abbrev d2 : Core
     d2 = with_gpr d1 1 (c.gpr 1)
 
-    stays_6 : Stays source c d
-    stays_6 = stays_on d g.keeps
+    stays_7 : Stays source c d
+    stays_7 = stays_on d g.keeps
 
-    stays_7 : Stays source c d1
-    stays_7 = still d d1 stays_6 refl refl refl
+    back_memory : (t : Bool) → (back t).memory ≡ d.memory
+    back_memory true = refl
+    back_memory false = refl
+
+    back_xmm : (t : Bool) → (back t).xmm ≡ d.xmm
+    back_xmm true = refl
+    back_xmm false = refl
+
+    back_others : (t : Bool) (r : ℕ) → r ≢ 7 → (back t).gpr r ≡ d.gpr r
+    back_others true r h = change_other d.gpr 7 (c.gpr 7) r h
+    back_others false r h = refl
+
+    back_block : (t : Bool) → t ≡ is_one_by_one source.far → (back t).gpr 7 ≡ c.gpr 7
+    back_block true e = change_same d.gpr 7 (c.gpr 7)
+    back_block false e = side (sym e)
+
+    back_line : (t : Bool) → Line Q (if t then Load 7 (slot source.block) ∷ [] else []) d (back t)
+    back_line true = (at_kept d 7 source.block (inl refl) stays_7, (back true, loads d 7 source.block (c.gpr 7) stays_7 (kept_word d stays_7 source.block (inl refl) ∙ at.block), refl))
+    back_line false = refl
+
+    stays_8 : Stays source c d1
+    stays_8 = still d d1 stays_7 (back_others (is_one_by_one source.far) 4 (λ e. omega (arith, e))) (back_xmm (is_one_by_one source.far)) (back_memory (is_one_by_one source.far))
 
     waits : word d1.memory work_at ≡ Some (c.gpr 1)
     waits =
-        let f = byte_of 8 (c4.gpr 0) in
-        ap (λ m. word m work_at) g.keeps.memory
-        ∙ word_alike c5.memory c4.memory work_at
-        (λ x w. fill_other 8 c4.memory index_at f x (λ j l e. words_apart (c.gpr 4) source.index source.work at.frame (is.spare source.index (inl refl)) (is.spare source.work (inr refl)) is.two x (j, l, e) w))
-        ∙ word_stored c.memory work_at (c.gpr 1) (moved_in (c.gpr 4) source.work at.frame (is.spare source.work (inr refl))) (at.bounded.gpr 1)
+        let f = byte_of 8 (c5.gpr 0) in
+        ap (λ m. word m work_at) (back_memory (is_one_by_one source.far) ∙ g.keeps.memory)
+        ∙ word_alike c6.memory c5.memory work_at
+        (λ x w. fill_other 8 c5.memory index_at f x (λ j l e. words_apart (c.gpr 4) source.index source.work at.frame (is.spare source.index (inl refl)) (is.spare source.work (inr refl)) is.two x (j, l, e) w))
+        ∙ ap (λ m. word m work_at) (narrowed_memory whole bits c4) ∙ word_stored c.memory work_at (c.gpr 1) (moved_in (c.gpr 4) source.work at.frame (is.spare source.work (inr refl))) (at.bounded.gpr 1)
 
     left : Line Q (leave_code source) d d2
-    left = (
-      at_kept d 7 source.block (inl refl) stays_6,
-      (
-        d1,
-        loads d 7 source.block (c.gpr 7) stays_6 (kept_word d stays_6 source.block (inl refl) ∙ at.block),
-        (
-          at_spare d1 1 source.work (inr refl) stays_7,
-          (d2, loads d1 1 source.work (c.gpr 1) stays_7 waits, refl),
-        ),
-      ),
-    )
+    left = line_append Q (block_code source) (Load 1 (slot source.work) ∷ []) d d1 d2 (back_line (is_one_by_one source.far)) (at_spare d1 1 source.work (inr refl) stays_8, (d2, loads d1 1 source.work (c.gpr 1) stays_8 waits, refl))
 
     as_before : (r : ℕ) → r ≢ 0 → d2.gpr r ≡ c.gpr r
     as_before r zero_not = ⊎_elim
         (λ e. subst (λ i. d2.gpr i ≡ c.gpr i) (sym e) (change_same d1.gpr 1 (c.gpr 1)))
         (λ one_not. change_other d1.gpr 1 (c.gpr 1) r one_not
         ∙ ⊎_elim
-        (λ e. subst (λ i. d1.gpr i ≡ c.gpr i) (sym e) (change_same d.gpr 7 (c.gpr 7)))
-        (λ seven_not. change_other d.gpr 7 (c.gpr 7) r seven_not
-        ∙ g.keeps.gpr r (not_scratch r zero_not one_not seven_not)
-        ∙ change_other c3.gpr 0 (c4.gpr 0) r zero_not ∙ change_other c2.gpr 0 (c3.gpr 0) r zero_not ∙ change_other c1.gpr 0 sum r zero_not)
+        (λ e. subst (λ i. d1.gpr i ≡ c.gpr i) (sym e) (back_block (is_one_by_one source.far) refl))
+        (λ seven_not. back_others (is_one_by_one source.far) r seven_not ∙ g.keeps.gpr r (not_scratch r zero_not one_not seven_not) ∙ before r zero_not one_not)
         (cases_eq r 7))
         (cases_eq r 1)
+
+    stays_9 : Stays source c d2
+    stays_9 = still d1 d2 stays_8 refl refl refl
+
+    as_gathered : d2.xmm ≡ d.xmm
+    as_gathered = back_xmm (is_one_by_one source.far)
 
   brought : IsWidth (count * far_size source.far) → Each IsIns (bring_code source count) → (d : Core) × Line Q (bring_code source count) c d × Brought count source s c d
   brought width ranges =
       let list = gather_with source.far (plan_of source) count 0 1 7 in
-      let rest = each_behind IsIns (enter_code source) (list ++ leave_code source) ranges in
-      let r = gathers source.far count (plan_of source) is_plan width (each_front IsIns list (leave_code source) rest) s c5 (ready (each_front IsIns (enter_code source) (list ++ leave_code source) ranges)) in
+      let middles = each_front IsIns list (leave_code source) (each_behind IsIns (enter_code source) (list ++ leave_code source) ranges) in
+      let start = ready (each_front IsIns (enter_code source) (list ++ leave_code source) ranges) in
+      let r = gathers source.far count (plan_of source) is_plan width middles s c6 start in
       let d = r.0 in
-      let e = d2 d r.2 in
-      let middle : Line Q list c5 d = line_each Agrees (OnTheWay source.far count (plan_of source) s c5) Q on_turn list c5 d (agree_each list (gather_agrees source.far (plan_of source) count width)) r.1 in
-      let line : Line Q (bring_code source count) c e = line_append Q (enter_code source) (list ++ leave_code source) c c5 e entered (line_append Q list (leave_code source) c5 d e middle (left d r.2)) in (
+      let side : is_one_by_one source.far ≡ false → d.gpr 7 ≡ c.gpr 7 = λ f. seven d f width start middles r.1 in
+      let e = d2 d r.2 side in
+      let middle : Line Q list c6 d = line_each Agrees (OnTheWay source.far count (plan_of source) s c6) Q on_turn list c6 d (agree_each list (gather_agrees source.far (plan_of source) count width)) r.1 in
+      let line : Line Q (bring_code source count) c e = line_append Q (enter_code source) (list ++ leave_code source) c c6 e entered (line_append Q list (leave_code source) c6 d e middle (left d r.2 side)) in (
         e,
         line,
         record {
-          values = λ j l. r.2.values j l ∙ value_same source.far s c5.memory c.memory (s.first + j) (λ k h. element_kept c5 stays_5 j l k h);
-          gpr = as_before d r.2;
-          stays = still d e (stays_6 d r.2) refl refl refl;
+          values = λ j l. ap (λ x. lane (far_size source.far) j (x 0)) (as_gathered d r.2 side) ∙ r.2.values j l ∙ value_same source.far s c6.memory c.memory (s.first + j) (λ k h. element_kept c6 stays_6 j l k h);
+          gpr = as_before d r.2 side;
+          stays = stays_9 d r.2 side;
           bounded = line_bounded Q (bring_code source count) c e ranges at.bounded line;
         },
       )

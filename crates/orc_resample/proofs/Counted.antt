@@ -10,7 +10,7 @@ use Rattle.orc_ops.specs.declared.far.Far.{Far}
 use Rattle.orc_ops.specs.declared.far.Far.TheVariants.{Loadoffb, Loadoffw, Loadoffl, Loadupdb, Loadupib, Ldresnearb, Ldresnearl, Ldreslinb, Ldreslinl}
 use Rattle.orc_ops.specs.Far.{far_size, far_weight}
 use Rattle.orc_resample.specs.declared.plan.FarPlan.{FarPlan}
-use Rattle.orc_resample.specs.Code.{element_of, elements_code, row_code, gather_code, scratch}
+use Rattle.orc_resample.specs.Code.{element_of, elements_code, row_code, is_one_by_one, gather_code, scratch}
 use Rattle.orc_resample.specs.Ready.{is_pointer, far_count}
 
 -- the instructions of one element
@@ -43,8 +43,8 @@ elements_size far plan count a b e (suc n) =
 row_size : (width a : ℕ) → IsWidth width → length (row_code width a) ≤ 2
 row_size width a is = each_width (λ w. length (row_code w a) ≤ 2) (omega arith) (omega arith) (omega arith) (omega arith) (omega arith) width is
 
--- six instructions of the weight are never needed: an offset load has at most ten
-pub gather_length : (far : Far) (count : ℕ) (plan : FarPlan) → IsWidth (count * far_size far) → length (gather_code far count plan) + 6 ≤ far_weight far count
+-- six instructions of the weight are never needed: an offset load has at most ten; element by element a seventh isn't
+pub gather_length : (far : Far) (count : ℕ) (plan : FarPlan) → IsWidth (count * far_size far) → length (gather_code far count plan) + (if is_one_by_one far then 7 else 6) ≤ far_weight far count
 gather_length Loadoffb count plan is = omega (arith, row_size (count * 1) (scratch plan 0) is)
 gather_length Loadoffw count plan is = omega (arith, row_size (count * 2) (scratch plan 0) is)
 gather_length Loadoffl count plan is = omega (arith, row_size (count * 4) (scratch plan 0) is)
@@ -77,7 +77,7 @@ at_most_one : (t : Bool) → (if t then 1 else 0) ≤ 1
 at_most_one true = omega arith
 at_most_one false = omega arith
 
-far_append : (x y : List Ins) → far_count (x ++ y) ≡ far_count x + far_count y
+pub far_append : (x y : List Ins) → far_count (x ++ y) ≡ far_count x + far_count y
 far_append [] y = let q : far_count y ≡ 0 + far_count y = omega arith in q
 far_append (i ∷ x) y = let h = far_append x y in let q : touch_weight is_pointer i + far_count (x ++ y) ≡ touch_weight is_pointer i + far_count x + far_count y = omega (arith, h) in q
 

@@ -12,3 +12,5 @@ pub mod Rows
 pub mod Gathered
 pub mod Touched
 pub mod Brought
+pub mod Ranges
+pub mod Values

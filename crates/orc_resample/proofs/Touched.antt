@@ -1,6 +1,8 @@
--- By which registers the code inside a turn touches memory, how long it is, and that its instructions are allowed.
-use Rattle.std.proofs.Common.{◌≡◌, ℕ, zero, suc, ◌+◌, ◌-◌, ◌*◌, ◌≤◌, ◌==◌, ◌&&◌, Bool, true, false, not, true≢false, length, List, [], ◌∷◌, ◌++◌, refl, sym, ap, ◌∙◌, arith, length-append}
+-- By which registers the code inside a turn touches memory, that none of its instructions stores a vector register, how long it is, and that its instructions are allowed.
+use Rattle.std.proofs.Common.{◌≡◌, ℕ, zero, suc, ◌+◌, ◌-◌, ◌*◌, ◌≤◌, ◌==◌, ◌&&◌, Bool, true, false, not, true≢false, if◌then◌else◌, length, List, [], ◌∷◌, ◌++◌, refl, sym, ap, ◌∙◌, arith, length-append}
+use Rattle.x86_ins.specs.declared.ins.ShiftOp.TheVariants.{Shr}
 use Rattle.x86_ins.specs.declared.ins.Ins.{Ins}
+use Rattle.x86_ins.specs.declared.ins.Ins.TheVariants.{Load, Store, Shift}
 use Rattle.x86_ins.specs.Spelling.{IsIns, IsAllowed}
 use Rattle.x86_ins.specs.Way.{Each}
 use Rattle.x86_flow.specs.Moves.{IsWidth}
@@ -11,7 +13,7 @@ use Rattle.orc_ops.specs.declared.far.Far.TheVariants.{Loadoffb, Loadoffw, Loado
 use Rattle.orc_ops.specs.Far.{far_size, far_weight}
 use Rattle.orc_resample.specs.declared.plan.FarPlan.{FarPlan}
 use Rattle.orc_resample.specs.declared.turn.FarSource.{FarSource}
-use Rattle.orc_resample.specs.Code.{element_of, elements_code, row_code, gather_with, plan_of, enter_code, leave_code, bring_code}
+use Rattle.orc_resample.specs.Code.{slot, element_of, elements_code, row_code, bits_of, narrow_code, is_one_by_one, gather_with, plan_of, enter_code, leave_code, bring_code}
 use Rattle.orc_resample.specs.Ready.{is_pointer, far_count}
 use Rattle.orc_resample.specs.Bring.{is_array, array_count, is_vector_store}
 use Rattle.orc_resample.proofs.Counted.{both, all_spelled, spelled_append, allowed, gather_length, gather_far, gather_spelled}
@@ -84,6 +86,71 @@ array_append : (x y : List Ins) → array_count (x ++ y) ≡ array_count x + arr
 array_append [] y = let q : array_count y ≡ 0 + array_count y = omega arith in q
 array_append (i ∷ x) y = let h = array_append x y in let q : touch_weight is_array i + array_count (x ++ y) ≡ touch_weight is_array i + array_count x + array_count y = omega (arith, h) in q
 
+-- ---- what stands around it
+
+narrow_length : (bits : ℕ) → length (narrow_code bits 0) ≤ 1
+narrow_length bits = go (bits == 0)
+  where
+    go : (t : Bool) → length (if t then [] else Shift Shr 0 bits ∷ []) ≤ 1
+    go true = omega arith
+    go false = omega arith
+
+narrow_array : (bits : ℕ) → array_count (narrow_code bits 0) ≡ 0
+narrow_array bits = go (bits == 0)
+  where
+    go : (t : Bool) → array_count (if t then [] else Shift Shr 0 bits ∷ []) ≡ 0
+    go true = refl
+    go false = refl
+
+narrow_spelled : (far : Far) → all_spelled (narrow_code (bits_of (far_size far)) 0) ≡ true
+narrow_spelled Loadoffb = refl
+narrow_spelled Loadoffw = refl
+narrow_spelled Loadoffl = refl
+narrow_spelled Loadupdb = refl
+narrow_spelled Loadupib = refl
+narrow_spelled Ldresnearb = refl
+narrow_spelled Ldresnearl = refl
+narrow_spelled Ldreslinb = refl
+narrow_spelled Ldreslinl = refl
+
+enter_length : (source : FarSource) → length (enter_code source) ≤ 6
+enter_length source =
+    let narrow = narrow_code (bits_of (far_size source.far)) 0 in
+    let front : length (enter_code source) ≡ 4 + length (narrow ++ Store 0 (slot source.index) ∷ []) = omega arith in
+    let behind : length (narrow ++ Store 0 (slot source.index) ∷ []) ≡ length narrow + 1 = length-append narrow (Store 0 (slot source.index) ∷ []) in
+    omega (arith, front, behind, narrow_length (bits_of (far_size source.far)))
+
+enter_array : (source : FarSource) → array_count (enter_code source) ≡ 0
+enter_array source =
+    let narrow = narrow_code (bits_of (far_size source.far)) 0 in
+    let front : array_count (enter_code source) ≡ array_count (narrow ++ Store 0 (slot source.index) ∷ []) = omega arith in
+    let behind : array_count (narrow ++ Store 0 (slot source.index) ∷ []) ≡ array_count narrow + 0 = array_append narrow (Store 0 (slot source.index) ∷ []) in
+    omega (arith, front, behind, narrow_array (bits_of (far_size source.far)))
+
+enter_spelled : (source : FarSource) → all_spelled (enter_code source) ≡ true
+enter_spelled source = spelled_append (narrow_code (bits_of (far_size source.far)) 0) (Store 0 (slot source.index) ∷ []) (narrow_spelled source.far) refl
+
+leave_length : (source : FarSource) → length (leave_code source) ≡ (if is_one_by_one source.far then 2 else 1)
+leave_length source = go (is_one_by_one source.far)
+  where
+    go : (t : Bool) → length ((if t then Load 7 (slot source.block) ∷ [] else []) ++ Load 1 (slot source.work) ∷ []) ≡ (if t then 2 else 1)
+    go true = refl
+    go false = refl
+
+leave_array : (source : FarSource) → array_count (leave_code source) ≡ 0
+leave_array source = go (is_one_by_one source.far)
+  where
+    go : (t : Bool) → array_count ((if t then Load 7 (slot source.block) ∷ [] else []) ++ Load 1 (slot source.work) ∷ []) ≡ 0
+    go true = refl
+    go false = refl
+
+leave_spelled : (source : FarSource) → all_spelled (leave_code source) ≡ true
+leave_spelled source = go (is_one_by_one source.far)
+  where
+    go : (t : Bool) → all_spelled ((if t then Load 7 (slot source.block) ∷ [] else []) ++ Load 1 (slot source.work) ∷ []) ≡ true
+    go true = refl
+    go false = refl
+
 -- ---- the whole list
 
 pub bring_touches : (source : FarSource) (count : ℕ) → IsWidth (count * far_size source.far) → array_count (bring_code source count) ≤ 2 * count
@@ -91,21 +158,22 @@ bring_touches source count is =
     let list = gather_with source.far (plan_of source) count 0 1 7 in
     let some : far_count list ≤ 2 * count = gather_far source.far count (plan_of source) is in
     let same : array_count list ≡ far_count list = agree_count list (agree_each list (gather_agrees source.far (plan_of source) count is)) in
-    let front : array_count (enter_code source ++ (list ++ leave_code source)) ≡ array_count (list ++ leave_code source) = omega arith in
-    let behind : array_count (list ++ leave_code source) ≡ array_count list + 0 = array_append list (leave_code source) in
-    omega (arith, some, same, front, behind)
+    omega (arith, some, same, array_append (enter_code source) (list ++ leave_code source), enter_array source, array_append list (leave_code source), leave_array source)
 
 pub bring_short : (source : FarSource) (count : ℕ) → IsWidth (count * far_size source.far) → length (bring_code source count) ≤ far_weight source.far count + 1
 bring_short source count is =
     let list = gather_with source.far (plan_of source) count 0 1 7 in
-    let some : length list + 6 ≤ far_weight source.far count = gather_length source.far count (plan_of source) is in
-    let front : length (enter_code source ++ (list ++ leave_code source)) ≡ 5 + length (list ++ leave_code source) = omega arith in
-    let behind : length (list ++ leave_code source) ≡ length list + 2 = length-append list (leave_code source) in
-    omega (arith, some, front, behind)
+    let some : length list + (if is_one_by_one source.far then 7 else 6) ≤ far_weight source.far count = gather_length source.far count (plan_of source) is in
+    let more : (if is_one_by_one source.far then 7 else 6) ≡ (if is_one_by_one source.far then 2 else 1) + 5 = go (is_one_by_one source.far) in
+    omega (arith, some, more, length-append (enter_code source) (list ++ leave_code source), enter_length source, length-append list (leave_code source), leave_length source)
+  where
+    go : (t : Bool) → (if t then 7 else 6) ≡ (if t then 2 else 1) + 5
+    go true = refl
+    go false = refl
 
 pub bring_allowed : (source : FarSource) (count : ℕ) → IsWidth (count * far_size source.far) → Each IsIns (bring_code source count) → Each IsAllowed (bring_code source count)
 bring_allowed source count is =
     let list = gather_with source.far (plan_of source) count 0 1 7 in
     let some : all_spelled list ≡ true = gather_spelled source.far count (plan_of source) is in
-    let behind : all_spelled (list ++ leave_code source) ≡ true = spelled_append list (leave_code source) some refl in
-    allowed (bring_code source count) behind
+    let behind : all_spelled (list ++ leave_code source) ≡ true = spelled_append list (leave_code source) some (leave_spelled source) in
+    allowed (bring_code source count) (spelled_append (enter_code source) (list ++ leave_code source) (enter_spelled source) behind)

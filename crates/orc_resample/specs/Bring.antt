@@ -1,5 +1,5 @@
 -- What a far load's code needs of a state inside a turn of a function's loop, and what it leaves.
-use Rattle.std.specs.Prelude.{◌≡◌, ◌≢◌, ℕ, ◌+◌, ◌%◌, ◌^◌, ◌<◌, ◌≤◌, ◌⊎◌, ◌*◌, ℤ, pos, negsuc, Bool, true, false, List, length, get_or, Some}
+use Rattle.std.specs.Prelude.{◌≡◌, ◌≢◌, ℕ, ◌+◌, ◌%◌, ◌^◌, ◌<◌, ◌≤◌, ◌⊎◌, ◌==◌, ◌||◌, ◌*◌, ℤ, pos, negsuc, Bool, true, false, not, List, [], ◌∷◌, length, get_or, Some}
 use Rattle.orc_bits.specs.Lanes.{lane}
 use Rattle.orc_bits.specs.Memory.{word, IsMapped}
 use Rattle.x86_ins.specs.declared.ins.Ins.{Ins}
@@ -9,7 +9,7 @@ use Rattle.x86_flow.specs.Does.{Line}
 use Rattle.x86_flow.specs.Touching.{touch_weight}
 use Rattle.orc_ops.specs.Far.{far_size, far_scalars}
 use Rattle.orc_resample.specs.declared.turn.FarSource.{FarSource}
-use Rattle.orc_resample.specs.Ready.{Source, AmongCells, InWord, is_pointer, value_at}
+use Rattle.orc_resample.specs.Ready.{Source, AmongCells, InWord, value_at}
 
 -- ---- the words of the frame
 
@@ -79,13 +79,22 @@ pub record Brought (count : ℕ) (source : FarSource) (s : Source) (c d : Core) 
 
 -- ---- what is touched
 
+-- a register that holds the address of elements: any but RSP and RDI
+abbrev pub is_array : ℕ → Bool
+is_array r = not (r == 4 || r == 7)
+
+-- how many instructions of a list read or write memory by such a register
+abbrev pub array_count : List Ins → ℕ
+array_count [] = 0
+array_count (i ∷ is) = touch_weight is_array i + array_count is
+
 -- an address is a byte of the source's words
 abbrev pub InOwn : FarSource → Core → ℕ → Type 0
 InOwn source c x = InWords (IsSpare source) (c.gpr 4) x ⊎ InWords (IsKept source) (c.gpr 4) x
 
--- by RSP an instruction touches those words alone, and by another register the elements that are read
+-- by RSP and RDI an instruction touches those words alone, and by another register the elements that are read
 abbrev pub Reaches : ℕ → FarSource → Source → Core → Core → Ins → Type 0
-Reaches count source s c u i = (x : ℕ) → Touches i u x → ((touch_weight is_pointer i ≡ 0) × InOwn source c x) ⊎ ((touch_weight is_pointer i ≡ 1) × AmongCells source.far count s x)
+Reaches count source s c u i = (x : ℕ) → Touches i u x → ((touch_weight is_array i ≡ 0) × InOwn source c x) ⊎ ((touch_weight is_array i ≡ 1) × AmongCells source.far count s x)
 
 -- an instruction that stores a vector register
 abbrev pub is_vector_store : Ins → Bool

@@ -172,9 +172,16 @@ plan_of source = record {
   odd = None;
 }
 
--- RCX waits in the frame, and the first element's number is its address less that of element 0, by the size
+-- RCX waits in the frame, and RAX becomes the first element's address less that of element 0
+abbrev pub distance_code : FarSource → List Ins
+distance_code source = Store 1 (slot source.work) ∷ Lea 0 (record { base = source.pointer; disp = source.ahead }) ∷ Load 1 (slot source.array) ∷ Alu Sub 0 1 ∷ []
+
+-- RAX, which is the first element's number times the size, becomes that number, which is put in its word
+abbrev pub number_code : FarSource → List Ins
+number_code source = narrow_code (bits_of (far_size source.far)) 0 ++ Store 0 (slot source.index) ∷ []
+
 abbrev pub enter_code : FarSource → List Ins
-enter_code source = Store 1 (slot source.work) ∷ Lea 0 (record { base = source.pointer; disp = source.ahead }) ∷ Load 1 (slot source.array) ∷ Alu Sub 0 1 ∷ (narrow_code (bits_of (far_size source.far)) 0 ++ Store 0 (slot source.index) ∷ [])
+enter_code source = distance_code source ++ number_code source
 
 -- RDI, which elements side by side don't use, and RCX are as before
 abbrev pub block_code : FarSource → List Ins

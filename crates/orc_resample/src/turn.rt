@@ -6,9 +6,8 @@ ghost use Rattle.x86_ins.specs.Spelling.{IsIns, IsAllowed};
 ghost use Rattle.x86_ins.specs.Way.{Each};
 ghost use Rattle.x86_flow.specs.Moves.{IsWidth};
 ghost use Rattle.orc_ops.specs.Far.{far_size, far_scalars, far_weight};
-ghost use Rattle.orc_resample.specs.Code.{slot, plan_of, enter_code, block_code, leave_code, bring_code};
-ghost use Rattle.orc_resample.specs.Ready.{far_count};
-ghost use Rattle.orc_resample.specs.Bring.{IsFarSource, Brings};
+ghost use Rattle.orc_resample.specs.Code.{slot, plan_of, distance_code, number_code, enter_code, block_code, leave_code, bring_code};
+ghost use Rattle.orc_resample.specs.Bring.{IsFarSource, Brings, array_count};
 
 use crate::assembly::{is_single, push_values};
 use crate::pieces::{alu, bits_of, load, look_through, push_each, push_narrow, slot};
@@ -92,10 +91,9 @@ fn plan_of(source: &FarSource) -> FarPlan
     }
 }
 
-/// Adds what puts the first element's number in its word.
-#[tactic(auto, using(crate::proofs::Appends::extended_3))]
-fn push_enter(list: &mut InsList, source: &FarSource) -> Result<(), AllocError>
-    ensures { OnOk result (list.new ≡ list.old ++ enter_code source.now) }
+/// Adds what makes the distance from the array's element 0 to the first element, in bytes.
+fn push_distance(list: &mut InsList, source: &FarSource) -> Result<(), AllocError>
+    ensures { OnOk result (list.new ≡ list.old ++ distance_code source.now) }
 {
     push_each(
         list,
@@ -105,9 +103,25 @@ fn push_enter(list: &mut InsList, source: &FarSource) -> Result<(), AllocError>
             load(COUNTER, source.array),
             alu(AluOp::Sub, RESULT, COUNTER),
         ],
-    )?;
+    )
+}
+
+/// Adds what puts the first element's number in its word.
+#[tactic(auto, using(crate::proofs::Appends::extended))]
+fn push_number(list: &mut InsList, source: &FarSource) -> Result<(), AllocError>
+    ensures { OnOk result (list.new ≡ list.old ++ number_code source.now) }
+{
     push_narrow(list, bits_of(usize::from(far_size(source.far))), RESULT)?;
     push_each(list, &[store(RESULT, source.index)])
+}
+
+/// Adds both.
+#[tactic(auto, using(crate::proofs::Appends::extended))]
+fn push_enter(list: &mut InsList, source: &FarSource) -> Result<(), AllocError>
+    ensures { OnOk result (list.new ≡ list.old ++ enter_code source.now) }
+{
+    push_distance(list, source)?;
+    push_number(list, source)
 }
 
 /// Adds what loads RDI again, where the values' part used it.
@@ -185,9 +199,12 @@ pub fn bring(alloc: Global, source: &FarSource, count: u8) -> Result<InsList, Al
     ensures values { IfOk result (λ list. Brings count source.now list) }
     ensures short { IfOk result (λ list. length list ≤ far_weight source.now.far count + 1) }
 
-    // By another register than RSP.
-    ensures touches { IfOk result (λ list. far_count list ≤ 2 * count) }
+    // By a register that is neither RSP nor RDI.
+    ensures touches { IfOk result (λ list. array_count list ≤ 2 * count) }
     ensures allowed { IfOk result (λ list. Each IsAllowed list) }
+
+    // It is the list that the specification states.
+    ensures is { IfOk result (λ list. list ≡ bring_code source.now count) }
 {
     bring_list(alloc, source, count)
 }

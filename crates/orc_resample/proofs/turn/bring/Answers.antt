@@ -2,7 +2,7 @@ use Rattle.std.proofs.Common.{◌≤◌, ◌+◌, ◌*◌, length, subst, sym}
 use Rattle.x86_ins.specs.Spelling.{IsIns, IsAllowed}
 use Rattle.x86_ins.specs.Way.{Each}
 use Rattle.orc_ops.specs.Far.{far_weight}
-use Rattle.orc_resample.specs.Bring.{array_count, Brings}
+use Rattle.orc_resample.specs.Bring.{Brings, array_count}
 use Rattle.orc_resample.proofs.Counted.{ok_map, ok_both}
 use Rattle.orc_resample.proofs.Touched.{bring_short, bring_touches, bring_allowed}
 use Rattle.orc_resample.proofs.Brought.{brings}
