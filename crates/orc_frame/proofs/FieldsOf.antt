@@ -5,7 +5,7 @@ use Rattle.std.specs.List.{range_with_len}
 use Rattle.std.proofs.lemmas.List.FromFn.{length-range_with_len, get_or-map-range_with_len}
 use Rattle.std.proofs.lemmas.List.{length-map}
 use Rattle.orc_frame.specs.declared.frame.Layout.{Layout}
-use Rattle.orc_frame.specs.Layout.{displacements, frame_size, pattern_slot, sum_slot, row_slot, rows_slot, spill_slots, spill_slot, layout_of}
+use Rattle.orc_frame.specs.Layout.{displacements, frame_size, pattern_slot, sum_slot, row_slot, block_slot, rows_slot, spill_slots, spill_slot, layout_of}
 use Rattle.orc_frame.specs.Frame.{IsLayout}
 use Rattle.orc_frame.proofs.Facts.{facts}
 use Rattle.std.proofs.Math.Facts.{to_z_pos, Fits-of_lt}
@@ -56,6 +56,10 @@ unfolding layout_of
 row_is l k h lk =
     read (row_slot k) (slice_index_or l.row_at k (pos 0)) (omega (arith, lk))
     (subst (λ (y : Layout). slice_index_or y.row_at k (pos 0) ≡ pos (row_slot k)) (sym h.2) (there row_slot 12 k (pos 0) lk))
+
+pub block_is : (l : Layout) → IsLayout l → to_z w32 (of_z w32 l.block_at) ≡ pos block_slot
+unfolding layout_of
+block_is l h = read block_slot l.block_at (omega arith) (ap (λ (y : Layout). y.block_at) h.2)
 
 pub rows_is : (l : Layout) → IsLayout l → to_z w32 (of_z w32 l.rows_at) ≡ pos rows_slot
 unfolding layout_of

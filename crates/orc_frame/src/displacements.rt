@@ -2,7 +2,7 @@
 
 ghost use Rattle.std.specs.Prelude.{◌≡◌, ◌<◌, length, pos};
 ghost use Rattle.orc_frame.specs.Frame.{IsLayout};
-ghost use Rattle.orc_frame.specs.Layout.{pattern_slot, sum_slot, row_slot, rows_slot, spill_slots, spill_slot};
+ghost use Rattle.orc_frame.specs.Layout.{pattern_slot, sum_slot, row_slot, block_slot, rows_slot, spill_slots, spill_slot};
 
 use crate::frame::Layout;
 
@@ -31,6 +31,14 @@ pub fn row_at(layout: &Layout, slot: usize) -> i32
     ensures { result ≡ pos (row_slot slot) }
 {
     layout.row_at[slot]
+}
+
+/// Where the word of the block's address is.
+pub fn block_at(layout: &Layout) -> i32
+    requires { IsLayout layout.now }
+    ensures { result ≡ pos block_slot }
+{
+    layout.block_at
 }
 
 /// Where the word of the rows left is.

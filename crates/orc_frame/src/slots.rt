@@ -15,6 +15,12 @@ pub const FRAME_SIZE: usize = 2048;
 /// The displacement of the word in which the elements that are left in a row's body wait while its head is done.
 pub const LEFT_AT: i32 = 992;
 
+/// The displacement of the word in which a far load's code puts the number of its first element.
+pub const INDEX_AT: i32 = 1000;
+
+/// The displacement of the word in which RCX waits while a far load's code gathers.
+pub const WORK_AT: i32 = 1008;
+
 /// Gives each number of a function its slot in the frame.
 #[tactic(auto, using(crate::proofs::Places::limits))]
 pub fn layout(f: &Function) -> Layout

@@ -3,3 +3,4 @@ pub mod Actions
 pub mod Turns
 pub mod Loops
 pub mod Slots
+pub mod Fars

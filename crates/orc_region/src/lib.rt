@@ -5,6 +5,7 @@
 //! blocks and rows do in a good call. `specs/Code` has what blocks and turns are made of, and `specs/Regions` what the loops are.
 #![tactic(auto)]
 
+mod fars;
 mod homes;
 mod lists;
 mod loops;

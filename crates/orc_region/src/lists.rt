@@ -10,17 +10,20 @@ ghost use Rattle.x86_ins.specs.Way.{Each};
 ghost use Rattle.x86_flow.specs.Moves.{IsWidth, away, load_far_code, store_either_code};
 ghost use Rattle.orc_frame.specs.Frame.{IsLayout};
 ghost use Rattle.orc_frame.specs.Layout.{pattern_slot, sum_slot, spill_slot};
+ghost use Rattle.orc_ops.specs.Far.{far_of};
 ghost use Rattle.orc_program.specs.Need.{places, registers};
-ghost use Rattle.orc_region.specs.Code.{HasRule, pointer, place_register, aligned_first, far_by, source_of, target_of, source_far_code, brought, sources_far_code, sum_code, result_far_code, results_far_code, advance_code, first_register, second_register, third_register, AddsRule, AddsAction, AddsNamed, AddsActions, IsMoved, IsLoaded, IsStored, IsReady, seats_in, from_pattern, count_by};
+ghost use Rattle.orc_region.specs.Code.{HasRule, pointer, place_register, aligned_first, far_by, source_of, target_of, source_far_code, brought, sources_far_code, sum_code, result_far_code, results_far_code, advance_code, first_register, second_register, third_register, AddsRule, AddsAction, AddsNamed, AddsActions, IsMoved, IsLoaded, IsStored, IsReady, seats_in, from_pattern, count_by, sources_of};
 
+use crate::fars::push_far;
 use crate::homes::{
     Homes, REGISTERS, SUM, homes_of, names_of, own_names, place_register, source_names,
 };
 use crate::residents::{Seats, is_resident, pattern_number, resident_register};
 use crate::rules::{has_count, rule_of};
 use crate::span::Setting;
-use crate::taking::{Takes, takes_of};
+use crate::taking::{Takes, register_sources, takes_of};
 use orc_frame::{Layout, STACK, pattern_at, spill_slot_at, sum_at};
+use orc_ops::far_of;
 use orc_plan::{Item, Step, place_of};
 use std::alloc::{AllocError, Global};
 use x86_flow::{push_aligned_store, push_load_far, push_store_far};
@@ -198,8 +201,8 @@ fn push_brought(
     }
 }
 
-/// Adds what brings sources to registers, but for those that nothing has to bring.
-fn push_sources(
+/// Adds what brings sources one by one to registers, but for those that nothing has to bring.
+fn push_near(
     list: &mut InsList,
     setting: &Setting<'_>,
     sources: &[Item],
@@ -219,6 +222,35 @@ fn push_sources(
             push_brought(list, setting, *first, one, homes.first)?;
             push_brought(list, setting, *second, two, homes.second)
         }
+    }
+}
+
+/// Adds what brings a step's sources to registers, but for those that nothing has to bring.
+fn push_sources(
+    alloc: Global,
+    list: &mut InsList,
+    setting: &Setting<'_>,
+    step: &Step,
+    takes: Takes,
+    homes: &Homes,
+) -> Result<(), AllocError>
+    requires layout { IsLayout setting.now.layout.now }
+    requires loaded { Each (IsLoaded setting.now.layout.now (slice_index setting.now.sizes.now) setting.now.span.count) (sources_of (seats_in setting.now.seats) (far_of step.now.op) step.now.sources.items) }
+    requires near { setting.now.span.first ≤ 64 }
+    ensures { OnOk result (list.new ≡ list.old ++ sources_far_code takes.first takes.second setting.now.span.count (slice_index setting.now.sizes.now) (far_by setting.now.span.first (slice_index setting.now.sizes.now)) homes.now.first homes.now.second (sources_of (seats_in setting.now.seats) (far_of step.now.op) step.now.sources.items)) }
+{
+    let sources = step.sources.as_slice();
+    match far_of(step.op) {
+        None => push_near(list, setting, sources, takes, homes),
+        Some(far) => push_far(
+            alloc,
+            list,
+            setting,
+            far,
+            sources,
+            takes.first,
+            homes.first,
+        ),
     }
 }
 
@@ -348,6 +380,7 @@ fn spared_by(seats: &Seats<'_>, step: &Step, takes: Takes) -> Takes
 
 /// Adds what does an instruction on elements, of whose sources some are taken over.
 fn push_action(
+    alloc: Global,
     list: &mut InsList,
     setting: &Setting<'_>,
     step: &Step,
@@ -361,7 +394,7 @@ fn push_action(
     let results = step.results.as_slice();
     let homes = homes_of(setting.seats.places, results);
     let spared = spared_by(&setting.seats, step, takes);
-    push_sources(list, setting, step.sources.as_slice(), spared, &homes)?;
+    push_sources(alloc, list, setting, step, spared, &homes)?;
     push_sum(list, setting, results)?;
     push_rule(list, setting, step, results, &homes)?;
     push_results(list, setting, results)
@@ -384,12 +417,12 @@ fn push_named(
     let [step, later @ ..] = steps else {
         return Ok(());
     };
-    let sources = step.sources.as_slice();
+    let sources = register_sources(step);
     let takes = takes_of(&setting.seats, later, sources);
     let homes = homes_of(setting.seats.places, step.results.as_slice());
     let names = source_names(takes, &homes, &setting.seats, sources, names);
     let mut own = InsList::new(alloc);
-    push_action(&mut own, setting, step, takes)?;
+    push_action(alloc, &mut own, setting, step, takes)?;
     push_renamed(list, own.as_slice(), &names)?;
     push_named(alloc, list, setting, &names, later)
 }

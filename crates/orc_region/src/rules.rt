@@ -7,11 +7,11 @@ ghost use Rattle.orc_ops.specs.Targets.{class_for};
 ghost use Rattle.sse_laws.specs.Meets.{Meets, is_sum};
 ghost use Rattle.sse_laws.specs.Targets.{IsCodeFor};
 ghost use Rattle.sse_acc.specs.Sums.{AddsUp};
-ghost use Rattle.orc_region.specs.Code.{HasRule, MeetsBy, count_by, known_number, known_second, seats_in};
+ghost use Rattle.orc_region.specs.Code.{HasRule, MeetsBy, computed_op, count_by, known_number, known_second, seats_in};
 
 use crate::residents::Seats;
 use arrayvec::ArrayVec;
-use orc_ops::{Op, Target};
+use orc_ops::{Op, Target, far_of};
 use orc_plan::{Item, Step};
 use orc_program::{Operand, Pattern};
 use sse_shift::shift_by;
@@ -55,8 +55,23 @@ pub fn has_count(seats: &Seats<'_>, step: &Step) -> bool
     shift_of(seats, step).is_some()
 }
 
-/// Instructions of a target that do what a step's opcode says. A known count is in the instruction, where there is one for it.
+/// Instructions of a target that compute a step's opcode from its sources. A known count is in the instruction, where there is one for it.
+/// The value of a far load is its source, from which nothing is left to compute.
 pub fn rule_of(seats: &Seats<'_>, step: &Step, target: Target, count: usize) -> ArrayVec<Ins, 100>
+    requires { HasRule count step.now.op }
+    ensures meets { is_sum (row (computed_op step.now.op)).kind ≡ false → MeetsBy (count_by (seats_in seats.now) step.now.op step.now.sources.items) (computed_op step.now.op) result.items }
+    ensures adds { is_sum (row (computed_op step.now.op)).kind ≡ true → (count_by (seats_in seats.now) step.now.op step.now.sources.items ≡ None) × AddsUp (computed_op step.now.op) count result.items }
+    ensures few { length result.items ≤ class_for step.now.op target }
+    ensures target { IsCodeFor target result.items }
+{
+    match far_of(step.op) {
+        Some(_) => ArrayVec::new(),
+        None => rule_by_op(seats, step, target, count),
+    }
+}
+
+/// The same of a step that is no far load.
+fn rule_by_op(seats: &Seats<'_>, step: &Step, target: Target, count: usize) -> ArrayVec<Ins, 100>
     requires { HasRule count step.now.op }
     ensures meets { is_sum (row step.now.op).kind ≡ false → MeetsBy (count_by (seats_in seats.now) step.now.op step.now.sources.items) step.now.op result.items }
     ensures adds { is_sum (row step.now.op).kind ≡ true → (count_by (seats_in seats.now) step.now.op step.now.sources.items ≡ None) × AddsUp step.now.op count result.items }

@@ -3,11 +3,13 @@
 //! A value that nothing reads again is worked on where it stands: its register changes names with the one that the rule has for the
 //! source, and stands for it in all that follows in the block. So nothing is copied.
 
-ghost use Rattle.std.specs.Prelude.{◌≡◌, ◌∷◌, ℕ, map};
+ghost use Rattle.std.specs.Prelude.{◌≡◌, ◌∷◌, [], ℕ, if◌then◌else◌, is_some, map};
+ghost use Rattle.orc_ops.specs.Far.{far_of};
 ghost use Rattle.orc_region.specs.Code.{seats_in, source_of, target_of, is_from, is_to, some_from, some_to, is_free, is_last, is_beside, is_first_taken, is_second_taken};
 
 use crate::homes::REGISTERS;
 use crate::residents::Seats;
+use orc_ops::far_of;
 use orc_plan::{Item, Step, place_of};
 
 /// Which sources of an instruction are taken over.
@@ -110,6 +112,16 @@ fn is_beside(seats: &Seats<'_>, one: Item, other: Item) -> bool
             }
         }
         Item::Array(_) | Item::Acc { .. } | Item::Pattern(_) => false,
+    }
+}
+
+/// The sources of a step that may stand in registers: a far load has none, since it loads its values.
+pub fn register_sources(step: &Step) -> &[Item]
+    ensures { result.now ≡ (if is_some (far_of step.now.op) then [] else step.now.sources.items) }
+{
+    match far_of(step.op) {
+        None => step.sources.as_slice(),
+        Some(_) => &[],
     }
 }
 

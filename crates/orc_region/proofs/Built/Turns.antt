@@ -15,7 +15,7 @@ use Rattle.x86_flow.proofs.Shapes.{loop_size, loop_fine}
 use Rattle.x86_flow.proofs.Spelled.{all_allowed}
 use Rattle.orc_ops.specs.declared.target.Target.{Target as CodeTarget}
 use Rattle.orc_program.specs.declared.program.VarKind.TheVariants as kind
-use Rattle.orc_program.specs.Program.{FunctionValue, count_of, has_far}
+use Rattle.orc_program.specs.Program.{FunctionValue, count_of}
 use Rattle.orc_program.specs.Kept.{is_function}
 use Rattle.orc_program.specs.declared.known.Facts.{Facts}
 use Rattle.orc_program.specs.Facts.{facts_of}
@@ -104,13 +104,12 @@ some_factor count (suc s) e = omega arith
 -- what is known of a function where its turns are built
 pub record Lowered (f : FunctionValue) (at sizes : List ℕ) (steps : List Step) : Type 0 where
   pub kept : is_function f ≡ true
-  pub near : has_far f ≡ false
   pub sizes_are : sizes ≡ sizes_of f
   pub steps_are : steps ≡ steps_of f
   pub places : GoodPlaces steps at
 
 pub lowered : (f : FunctionValue) (p : PlacedValue) (l : Layout) → AreOf f p l → GoodPlaces p.core.steps p.places → Lowered f p.places p.core.sizes p.core.steps
-lowered f p l are good = record { kept = are.kept; near = are.near; sizes_are = are.sizes; steps_are = are.steps; places = good }
+lowered f p l are good = record { kept = are.kept; sizes_are = are.sizes; steps_are = are.steps; places = good }
 
 -- a layout is that of the function
 pub layout_is : (f : FunctionValue) (p : PlacedValue) (l : Layout) → AreOf f p l → IsLayout l
@@ -126,7 +125,7 @@ module _ (f : FunctionValue) (at sizes : List ℕ) (steps : List Step) (x : Lowe
 
   module _ (count : ℕ) (which : IsShare (lanes f) count) where
     several : IsCount f count
-    several = share_count f x.kept x.near count which
+    several = share_count f x.kept count which
 
     pub count_few : count ≤ 16
     count_few = several.most
@@ -319,7 +318,7 @@ module _ (target : CodeTarget) (f : FunctionValue) (at sizes : List ℕ) (steps 
           turn,
           [],
           w.0,
-          record { good = good f at sizes steps x; near = x.near; fewer = a.1; more = more_is; stored = λ y. absurd (true≢false (sym y ∙ empty)); many = λ l. subst (λ k. IsTurnOf f target at (lanes f) k (blocks_of (length turn)) w.0) (sym empty) (w.1 l) },
+          record { good = good f at sizes steps x; fewer = a.1; more = more_is; stored = λ y. absurd (true≢false (sym y ∙ empty)); many = λ l. subst (λ k. IsTurnOf f target at (lanes f) k (blocks_of (length turn)) w.0) (sym empty) (w.1 l) },
           a.2
               ∙ ap (λ z. flat (from_first whole (lanes f) a.0 (Plain z))) w.2
               ∙ flat_first whole (lanes f) a.0 (turns_flow (lanes f) (blocks_of (length turn)) w.0 turn)
@@ -339,7 +338,6 @@ module _ (target : CodeTarget) (f : FunctionValue) (at sizes : List ℕ) (steps 
       these : (parts : TurnParts) → ArePartsOf f target at parts → Turns f target at parts turn list w.0
       these parts fewer = record {
         good = good f at sizes steps x;
-        near = x.near;
         fewer = fewer;
         more = more_is;
         stored = λ y. subst (λ k. IsTurnOf f target at k true 1 list) n_is stored;
@@ -401,7 +399,7 @@ pub fits_elements : {target : CodeTarget} (f : FunctionValue) → is_function f 
 fits_elements {target} f h at parts wide aligned large t = go (fills f) (begins_aligned f) refl
   where
     count : IsCount f (lanes f)
-    count = lanes_count f h t.near
+    count = lanes_count f h
 
     most : lanes f ≤ 64
     most = lanes_few f h (lanes f) refl
@@ -414,7 +412,7 @@ fits_elements {target} f h at parts wide aligned large t = go (fills f) (begins_
 
     fits_piece : (count : ℕ) (turn : List Ins) → 2 * count ≤ lanes f → IsPart f target at count turn → FitsPart count turn
     fits_piece count turn half x =
-        let is_count = share_count f h t.near count x.share in
+        let is_count = share_count f h count x.share in
         let near = blocks_near count 1 is_count.most (omega arith) in
         let fine = turn_fine f h at t.good count is_count target false 1 near turn x.is in
         record { some = is_count.some; one = fits_turn count is_count false 1 118943 (omega arith) (omega arith) turn x.is; several = λ l. fits_list turn 100 (x.short l) fine }

@@ -1,8 +1,9 @@
 -- Blocks and turns have instructions of their target alone: those of the rules are the target's, and all others are of SSE2.
 use Rattle.std.proofs.Common.{ℕ, zero, suc, ◌+◌, ◌-◌, ◌*◌, ◌==◌, Bool, true, false, if◌then◌else◌, pos, List, [], ◌∷◌, ◌++◌, map, refl, sym, subst}
 use Rattle.x86_ins.specs.declared.ins.AluOp.TheVariants.{Add, Sub}
+use Rattle.x86_ins.specs.declared.ins.ShiftOp.TheVariants.{Shr}
 use Rattle.x86_ins.specs.declared.ins.Ins.{Ins}
-use Rattle.x86_ins.specs.declared.ins.Ins.TheVariants.{Vec, VecLoad, VecStore, FromGpr, ToGpr, Load8, Load16, Store8, Store16, AluImm}
+use Rattle.x86_ins.specs.declared.ins.Ins.TheVariants.{Vec, VecLoad, VecStore, FromGpr, ToGpr, Load, Store, Load8, Load16, Store8, Store16, Shift, AluImm}
 use Rattle.x86_ins.specs.declared.ins.MoveOp.TheVariants.{Movdqu, Movq, Movd}
 use Rattle.x86_ins.specs.declared.ins.VecOp.TheVariants.{Movdqa}
 use Rattle.x86_ins.specs.Renaming.{renamed, renaming}
@@ -10,9 +11,10 @@ use Rattle.x86_ins.specs.Way.{Each}
 use Rattle.x86_flow.specs.Moves.{away, load_far_code, store_far_code, aligned_store_far_code}
 use Rattle.orc_ops.specs.declared.far.Far.{Far}
 use Rattle.orc_ops.specs.declared.far.Far.TheVariants.{Loadoffb, Loadoffw, Loadoffl, Loadupdb, Loadupib, Ldresnearb, Ldresnearl, Ldreslinb, Ldreslinl}
+use Rattle.orc_ops.specs.Far.{far_size}
 use Rattle.orc_resample.specs.declared.plan.FarPlan.{FarPlan}
 use Rattle.orc_resample.specs.declared.turn.FarSource.{FarSource}
-use Rattle.orc_resample.specs.Code.{plan_of, row_code, start_code, element_of, elements_code, gather_with, enter_code, leave_code, bring_code}
+use Rattle.orc_resample.specs.Code.{slot, bits_of, narrow_code, is_one_by_one, plan_of, row_code, start_code, element_of, elements_code, gather_with, distance_code, enter_code, block_code, leave_code, bring_code}
 use Rattle.orc_ops.specs.declared.target.Target.{Target as CodeTarget}
 use Rattle.orc_plan.specs.declared.steps.Step.{Step}
 use Rattle.orc_plan.specs.Lowered.{steps_of}
@@ -85,10 +87,22 @@ module _ (t : CodeTarget) where
   gather_for Ldreslinb plan count = elements_for Ldreslinb plan count count
   gather_for Ldreslinl plan count = elements_for Ldreslinl plan count count
 
+  narrow_for : (bits a : ℕ) → IsCodeFor t (narrow_code bits a)
+  narrow_for bits a = either_for t (bits == 0) [] (Shift Shr a bits ∷ []) refl refl
+
+  enter_for : (source : FarSource) → IsCodeFor t (enter_code source)
+  enter_for source =
+      let narrow = narrow_code (bits_of (far_size source.far)) 0 in
+      let last = Store 0 (slot source.index) ∷ [] in
+      behind_for t (distance_code source) (narrow ++ last) refl (behind_for t narrow last (narrow_for (bits_of (far_size source.far)) 0) refl)
+
+  leave_for : (source : FarSource) → IsCodeFor t (leave_code source)
+  leave_for source = behind_for t (block_code source) (Load 1 (slot source.work) ∷ []) (either_for t (is_one_by_one source.far) (Load 7 (slot source.block) ∷ []) [] refl refl) refl
+
   bring_for : (source : FarSource) (count : ℕ) → IsCodeFor t (bring_code source count)
   bring_for source count =
-      behind_for t (enter_code source) (gather_with source.far (plan_of source) count 0 1 7 ++ leave_code source) refl
-      (behind_for t (gather_with source.far (plan_of source) count 0 1 7) (leave_code source) (gather_for source.far (plan_of source) count) refl)
+      behind_for t (enter_code source) (gather_with source.far (plan_of source) count 0 1 7 ++ leave_code source) (enter_for source)
+      (behind_for t (gather_with source.far (plan_of source) count 0 1 7) (leave_code source) (gather_for source.far (plan_of source) count) (leave_for source))
 
   from_zero_for : (x : ℕ) → IsCodeFor t (from_zero_code x)
   from_zero_for x = go (x == 0)
@@ -169,10 +183,10 @@ module _ (t : CodeTarget) where
 
     -- ---- turns
 
-    blocks_for : (total b : ℕ) (list : List Ins) → AreBlocks (AreActions t seats count steps) total count size aligned b list → IsCodeFor t list
-    blocks_for total zero list x = subst (IsCodeFor t) (sym x) refl
-    blocks_for total (suc b) list x =
-        subst (IsCodeFor t) (sym x.4) (behind_for t x.0 (actions_far_code count size (far_by (b * count) size) aligned x.1) (blocks_for total b x.0 x.2) (actions_for (far_by (b * count) size) x.1 x.3))
+    blocks_for : (b : ℕ) (list : List Ins) → AreBlocks (AreActions t seats count steps) count size aligned b list → IsCodeFor t list
+    blocks_for zero list x = subst (IsCodeFor t) (sym x) refl
+    blocks_for (suc b) list x =
+        subst (IsCodeFor t) (sym x.4) (behind_for t x.0 (actions_far_code count size (far_by (b * count) size) aligned x.1) (blocks_for b x.0 x.2) (actions_for (far_by (b * count) size) x.1 x.3))
 
     advance_for : (by first n : ℕ) → IsCodeFor t (advance_code size by first n)
     advance_for by first zero = refl
@@ -185,7 +199,7 @@ module _ (t : CodeTarget) where
         let second = advance_code size by 4 sources in
         let last = AluImm Sub 1 (pos by) ∷ [] in
         subst (IsCodeFor t) (sym x.2)
-        (behind_for t x.0 (first ++ (second ++ last)) (blocks_for b b x.0 x.1)
+        (behind_for t x.0 (first ++ (second ++ last)) (blocks_for b x.0 x.1)
         (behind_for t first (second ++ last) (advance_for by 0 dests) (behind_for t second last (advance_for by 4 sources) refl)))
 
 -- ---- of a function

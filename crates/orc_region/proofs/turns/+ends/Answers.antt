@@ -20,7 +20,7 @@ pub ends-requires : goal.ends-requires
 ends-requires t c =
     let f = c.requires.of.0 in
     let are = c.requires.of.1.are in
-    let some = (share_count f are.kept are.near c.args.count (subst (λ n. IsShare n c.args.count) are.lanes c.requires.count)).some in
+    let some = (share_count f are.kept c.args.count (subst (λ n. IsShare n c.args.count) are.lanes c.requires.count)).some in
     let same = c.decreases in
     let half = c.requires.half in
     (omega (arith, some, same), (c.requires.of, (share_half f are.kept c.args.making.now.core.now.lanes are.lanes c.args.count c.requires.count c.if-count-eq1.false, (omega (arith, half), c.requires.most))))
@@ -29,7 +29,7 @@ pub ends-requires-2 : goal.ends-requires-2
 ends-requires-2 t c =
     let f = c.requires.of.0 in
     let are = c.requires.of.1.are in
-    let some = (share_count f are.kept are.near c.args.count (subst (λ n. IsShare n c.args.count) are.lanes c.requires.count)).some in
+    let some = (share_count f are.kept c.args.count (subst (λ n. IsShare n c.args.count) are.lanes c.requires.count)).some in
     let same = c.decreases in
     let half = c.requires.half in
     let most = c.requires.most in

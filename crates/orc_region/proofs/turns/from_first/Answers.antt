@@ -6,7 +6,7 @@ use Rattle.orc_region.proofs.Built.Turns.{lanes_few, half_in_lanes, whole_is, wh
 use Rattle.orc_region.proofs.turns.from_first.Goals as goal
 
 pub divides_each-requires : goal.divides_each-requires
-divides_each-requires c = subst (λ n. 0 < n) (sym (ap (λ (x : CoreValue). x.lanes) c.core.view_is ∙ c.requires.of.1.are.lanes)) (lanes_count c.requires.of.0 c.requires.of.1.are.kept c.requires.of.1.are.near).some
+divides_each-requires c = subst (λ n. 0 < n) (sym (ap (λ (x : CoreValue). x.lanes) c.core.view_is ∙ c.requires.of.1.are.lanes)) (lanes_count c.requires.of.0 c.requires.of.1.are.kept).some
 
 pub whole_loops-requires : goal.whole_loops-requires
 whole_loops-requires c = lanes_few c.requires.of.0 c.requires.of.1.are.kept c.core.inside.lanes (ap (λ (x : CoreValue). x.lanes) c.core.view_is ∙ c.requires.of.1.are.lanes)
