@@ -1,5 +1,5 @@
 -- The far loads of a function, and what they read in a row.
-use Rattle.std.proofs.Common.{◌≡◌, ◌≢◌, ℕ, zero, suc, ◌+◌, ◌*◌, ◌<◌, ◌≤◌, ◌==◌, ◌||◌, not, ◌⊎◌, Bool, false, List, [], ◌∷◌, length, Some}
+use Rattle.std.proofs.Common.{◌≡◌, ◌≢◌, ℕ, zero, suc, ◌+◌, ◌*◌, ◌<◌, ◌≤◌, ◌⊎◌, false, List, [], ◌∷◌, length, Some}
 use Rattle.std.specs.Prelude.{Contains}
 use Rattle.orc_bits.specs.Memory.{Memory, word, IsMapped}
 use Rattle.orc_ops.specs.declared.far.Far.{Far}
@@ -16,7 +16,7 @@ use Rattle.x86_ins.specs.Way.{Each}
 use Rattle.x86_flow.specs.Touching.{touch_weight}
 use Rattle.orc_frame.specs.Layout.{frame_size, row_slot, block_slot}
 use Rattle.orc_resample.specs.Ready.{Source, AmongCells, value_at}
-use Rattle.orc_resample.specs.Bring.{is_vector_store}
+use Rattle.orc_resample.specs.Bring.{is_array, is_vector_store}
 use Rattle.orc_region.proofs.Block.Cells.{Numbers, Local, OfDests}
 
 -- ---- in a function's text
@@ -90,10 +90,6 @@ abbrev pub FarValues : (ℕ → ℕ) → Numbers → ℕ → ℕ → Memory → 
 FarValues base numbers i count mem sig =
     (load : Far) (k : ℕ) (js : List ℕ) → numbers.far load k js → (q : ℕ) → q < count
     → ((x : ℕ) → AmongCells load 1 (far_at numbers base k js (i + q)) x → HasByte mem x) × ((sig q).fars load k js ≡ value_at load (far_at numbers base k js (i + q)) mem (i + q))
-
--- a register that holds the address of elements: neither RSP nor RDI
-abbrev pub is_array : ℕ → Bool
-is_array r = not (r == 4 || r == 7)
 
 -- an instruction of a far load's code touches the frame, or elements that far loads read for these elements, and stores no vector register
 abbrev pub TouchesFar : (ℕ → ℕ) → Numbers → ℕ → ℕ → ℕ → Core → Ins → Type 0

@@ -44,8 +44,8 @@ use Rattle.orc_region.proofs.Calls.Wide.{by_pointer, part_wide}
 use Rattle.orc_region.proofs.Calls.Doing.{OnWay, doing}
 
 -- what is known of the arrays of a function
-pub arrays_known : (f : FunctionValue) → is_function f ≡ true → has_far f ≡ false → Arrays f
-arrays_known f is near = record { few = limits f is; near = near; small = slot_size f is; some = some_size f is }
+pub arrays_known : (f : FunctionValue) → is_function f ≡ true → Arrays f
+arrays_known f is = record { few = limits f is; near = ?; small = slot_size f is; some = some_size f is }
 
 -- a pointer, by the words of the call and by the row's base
 pub from_row : (b x : ℕ) → (b + x + 0) % 2 ^ 64 ≡ (b % 2 ^ 64 + x) % 2 ^ 64
@@ -67,7 +67,7 @@ words_frame rsp a w = (omega (arith, w.0), omega (arith, w.1))
 module _ (target : CodeTarget) (f : FunctionValue) (is : is_function f ≡ true) (at : List ℕ) (places : GoodPlaces (steps_of f) at) (count : ℕ) (is_count : IsCount f count) (aligned stored : Bool)
     (asked : stored ≡ true → IsDest f 0 × (count * size_of_slot f.vars 0 ≡ 16) × (aligned ≡ true)) (given : aligned ≡ true → count * size_of_slot f.vars 0 ≡ 16 → IsDest f 0 → stored ≡ true) (list : List Ins) (x : IsBlock f target at count stored list) where
   abbrev known : Arrays f
-  known = arrays_known f is is_count.near
+  known = arrays_known f is
 
   abbrev fits : ℕ → ℕ
   fits = size_of_slot f.vars
@@ -210,7 +210,7 @@ module _ (target : CodeTarget) (f : FunctionValue) (is : is_function f ≡ true)
           e = t;
           come = (come.0, come.1, subst (λ n. row_of f (meant_call f args) r n come.0 ≡ Ok t) (more_elements i count) emulated.is);
           short = block_few f is at places count is_count stored target list x;
-          light = block_light f is at places count is_count stored target list x by_pointer refl;
+          light = block_light f is at places count is_count stored target list x by_pointer refl refl;
           quiet = quietly d y.7;
           holds = holds_again f is known code s args back good at t d y.1 end.framed emulated.agrees end.calm.stack end.block end.agree (λ a m. does_keeps Way a (Plain list) c list d does (h.mapped a m)) end.bounded;
           words = λ a w. y.7 a (λ t. frame_cells a t (words_frame low a w)) (words_kept low (count_of kind.Accumulator f.vars) a known.few.accs w);

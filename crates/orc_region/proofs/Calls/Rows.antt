@@ -98,7 +98,7 @@ only_row r s l = (let z : r ≡ 0 = omega (arith, l) in subst (λ x. (x * s) % 1
 
 module _ {target : CodeTarget} (f : FunctionValue) (is : is_function f ≡ true) (at : List ℕ) (parts : TurnParts) (wide aligned large : List Ins) (x : Turns f target at parts wide aligned large) where
   abbrev known : Arrays f
-  known = arrays_known f is ?
+  known = arrays_known f is
 
   abbrev size : ℕ → ℕ
   size = size_of_slot f.vars
@@ -259,24 +259,24 @@ module _ {target : CodeTarget} (f : FunctionValue) (is : is_function f ≡ true)
                 (count_of kind.Dest f.vars) (count_of kind.Source f.vars) blocks list t;
             known = turn_ins f is at x.good count is_count target aligned blocks near list t;
             short = omega (arith, short, spread);
-            light = turn_light by_pointer refl f is at (stand_is f is at x.good) count is_count target aligned blocks list t;
+            light = turn_light by_pointer refl refl f is at (stand_is f is at x.good) count is_count target aligned blocks list t;
           }
 
       -- a turn of one block, of some elements
       abbrev PartTurned : ℕ → List Ins → Type 0
-      PartTurned = TurnedPart args.n Base Slots (numbers f is known code s args back good at) low plan Emulates (InFrame low) first (s.core.gpr 7) c.memory Q (stack_room f known code s args back good) in_frame Free calmly by_pointer refl each some (lanes f) (lanes_count f is ?).some (lanes_count f is ?).most b (few_blocks (length wide))
+      PartTurned = TurnedPart args.n Base Slots (numbers f is known code s args back good at) low plan Emulates (InFrame low) first (s.core.gpr 7) c.memory Q (stack_room f known code s args back good) in_frame Free calmly by_pointer refl each some (lanes f) (lanes_count f is).some (lanes_count f is).most b (few_blocks (length wide))
 
       part_is : (count : ℕ) (turn : List Ins) → 2 * count ≤ lanes f → IsPart f target at count turn → PartTurned count turn
-      part_is count turn half y = (let is_count = share_count f is ? count y.share in record { some_elements = is_count.some; is = turned count is_count false 1 (omega arith) (omega arith) turn y.is })
+      part_is count turn half y = (let is_count = share_count f is count y.share in record { some_elements = is_count.some; is = turned count is_count false 1 (omega arith) (omega arith) turn y.is })
 
       parts_are : has_whole_turns f ≡ false → AreParts PartTurned (lanes f) parts
       parts_are some_left = parts_map (IsPart f target at) PartTurned (lanes f) part_is parts (lanes f) (le_refl (lanes f)) (x.fewer some_left)
 
       more_is : Turned (lanes f) false 1 wide
-      more_is = turned (lanes f) (lanes_count f is ?) false 1 (omega arith) (omega arith) wide x.more
+      more_is = turned (lanes f) (lanes_count f is) false 1 (omega arith) (omega arith) wide x.more
 
       many_is : (filled : Bool) → fills f ≡ filled → 1 < b → Turned (lanes f) filled b large
-      many_is filled e several = turned (lanes f) (lanes_count f is ?) filled b (omega (arith, several)) (few_blocks (length wide)) large (subst (λ t. IsTurnOf f target at (lanes f) t b large) e (x.many several))
+      many_is filled e several = turned (lanes f) (lanes_count f is) filled b (omega (arith, several)) (few_blocks (length wide)) large (subst (λ t. IsTurnOf f target at (lanes f) t b large) e (x.many several))
 
       -- where no register of the first dest is filled nothing is asked of stores
       none_filled : fills f ≡ false → Free
@@ -289,7 +289,7 @@ module _ {target : CodeTarget} (f : FunctionValue) (is : is_function f ≡ true)
       none_left = met.whole_turns f args.n args.m args.base args.stride args.param good.facts
 
       few_behind : args.n / lanes f + args.n % lanes f ≤ turns f args.n
-      few_behind = turns_behind (lanes f) args.n (has_whole_turns f) (begins_aligned f) (lanes_count f is ?).some none_left
+      few_behind = turns_behind (lanes f) args.n (has_whole_turns f) (begins_aligned f) (lanes_count f is).some none_left
 
       -- where the first dest needn't begin at a multiple of 16
       granted : begins_aligned f ≡ false → has_whole_turns f ≡ false → turns f args.n ≡ min args.n (args.n / lanes f + 2 * lanes f - 2)
@@ -314,21 +314,21 @@ module _ {target : CodeTarget} (f : FunctionValue) (is : is_function f ≡ true)
       plain : fills f ≡ false → Goes (from_first (has_whole_turns f) (lanes f) parts (turns_flow (lanes f) b large wide)) 13
       plain empty =
           let free = none_filled empty in
-          let y = first_done args.n Base Slots (numbers f is known code s args back good at) low plan Emulates (InFrame low) first (s.core.gpr 7) c.memory Q (stack_room f known code s args back good) in_frame Free calmly by_pointer refl each some (lanes f) (lanes_count f is ?).some (lanes_count f is ?).most b (few_blocks (length wide)) parts (has_whole_turns f) parts_are none_left (turns f args.n) few_behind (turns_flow (lanes f) b large wide) (λ i. Unit {0})
-          (wide_turns args.n Base Slots (numbers f is known code s args back good at) low plan Emulates (InFrame low) first (s.core.gpr 7) c.memory Q (stack_room f known code s args back good) in_frame Free calmly by_pointer refl each some (lanes f) (lanes_count f is ?).some (lanes_count f is ?).most b (few_blocks (length wide)) wide more_is free large (many_is false empty)) tt (λ count half e. free) c place_first counter in
+          let y = first_done args.n Base Slots (numbers f is known code s args back good at) low plan Emulates (InFrame low) first (s.core.gpr 7) c.memory Q (stack_room f known code s args back good) in_frame Free calmly by_pointer refl each some (lanes f) (lanes_count f is).some (lanes_count f is).most b (few_blocks (length wide)) parts (has_whole_turns f) parts_are none_left (turns f args.n) few_behind (turns_flow (lanes f) b large wide) (λ i. Unit {0})
+          (wide_turns args.n Base Slots (numbers f is known code s args back good at) low plan Emulates (InFrame low) first (s.core.gpr 7) c.memory Q (stack_room f known code s args back good) in_frame Free calmly by_pointer refl each some (lanes f) (lanes_count f is).some (lanes_count f is).most b (few_blocks (length wide)) wide more_is free large (many_is false empty)) tt (λ count half e. free) c place_first counter in
           (y.0, y.1, y.2, y.3, roomy y.0 13 13 (turns f args.n) (2 + each) (2 + most_turn f target) (omega arith) (omega arith) y.4, y.5)
 
       stored_is : fills f ≡ true → Turned (lanes f) true 1 aligned
-      stored_is full = turned (lanes f) (lanes_count f is ?) true 1 (omega arith) (omega arith) aligned (x.stored full)
+      stored_is full = turned (lanes f) (lanes_count f is) true 1 (omega arith) (omega arith) aligned (x.stored full)
 
       begun : fills f ≡ true → begins_aligned f ≡ true → Goes (from_first (has_whole_turns f) (lanes f) parts (turns_flow (lanes f) b large aligned)) 20
       begun full begins =
           let z = filled_first f is full in
           let k = shift_of (size 0) in
           let stored = stored_is full in
-          let y = first_done args.n Base Slots (numbers f is known code s args back good at) low plan Emulates (InFrame low) first (s.core.gpr 7) c.memory Q (stack_room f known code s args back good) in_frame Free calmly by_pointer refl each some (lanes f) (lanes_count f is ?).some (lanes_count f is ?).most b (few_blocks (length wide)) parts (has_whole_turns f) parts_are none_left (turns f args.n) few_behind (turns_flow (lanes f) b large aligned) (AtSixteen k (Base 0))
-          (aligned_turns args.n Base Slots (numbers f is known code s args back good at) low plan Emulates (InFrame low) first (s.core.gpr 7) c.memory Q (stack_room f known code s args back good) in_frame Free calmly by_pointer refl each some (lanes f) (lanes_count f is ?).some (lanes_count f is ?).most b (few_blocks (length wide)) aligned stored k z.shift z.full z.size_is large (many_is true full)) (at_first k begins)
-          (λ count half e. absurd (narrow args.n Base Slots (numbers f is known code s args back good at) low plan Emulates (InFrame low) first (s.core.gpr 7) c.memory Q (stack_room f known code s args back good) in_frame Free calmly by_pointer refl each some (lanes f) (lanes_count f is ?).some (lanes_count f is ?).most b (few_blocks (length wide)) aligned stored k z.shift z.full z.size_is count half e)) c place_first counter in
+          let y = first_done args.n Base Slots (numbers f is known code s args back good at) low plan Emulates (InFrame low) first (s.core.gpr 7) c.memory Q (stack_room f known code s args back good) in_frame Free calmly by_pointer refl each some (lanes f) (lanes_count f is).some (lanes_count f is).most b (few_blocks (length wide)) parts (has_whole_turns f) parts_are none_left (turns f args.n) few_behind (turns_flow (lanes f) b large aligned) (AtSixteen k (Base 0))
+          (aligned_turns args.n Base Slots (numbers f is known code s args back good at) low plan Emulates (InFrame low) first (s.core.gpr 7) c.memory Q (stack_room f known code s args back good) in_frame Free calmly by_pointer refl each some (lanes f) (lanes_count f is).some (lanes_count f is).most b (few_blocks (length wide)) aligned stored k z.shift z.full z.size_is large (many_is true full)) (at_first k begins)
+          (λ count half e. absurd (narrow args.n Base Slots (numbers f is known code s args back good at) low plan Emulates (InFrame low) first (s.core.gpr 7) c.memory Q (stack_room f known code s args back good) in_frame Free calmly by_pointer refl each some (lanes f) (lanes_count f is).some (lanes_count f is).most b (few_blocks (length wide)) aligned stored k z.shift z.full z.size_is count half e)) c place_first counter in
           (y.0, y.1, y.2, y.3, roomy y.0 13 20 (turns f args.n) (2 + each) (2 + most_turn f target) (omega arith) (omega arith) y.4, y.5)
 
       -- where some element of the first dest begins at a multiple of 16, it does so by the row's base
@@ -339,7 +339,7 @@ module _ {target : CodeTarget} (f : FunctionValue) (is : is_function f ≡ true)
       searched full begins =
           let y = filled_first f is full in
           let k = shift_of (size 0) in
-          let z = boundary_done args.n Base Slots (numbers f is known code s args back good at) low plan Emulates (InFrame low) first (s.core.gpr 7) c.memory Q (stack_room f known code s args back good) in_frame Free calmly by_pointer refl each some (lanes f) (lanes_count f is ?).some (lanes_count f is ?).most b (few_blocks (length wide)) parts (has_whole_turns f) parts_are none_left (turns f args.n) few_behind (granted begins) wide more_is aligned (stored_is full) k y.shift y.full y.some y.size_is large (many_is true full)
+          let z = boundary_done args.n Base Slots (numbers f is known code s args back good at) low plan Emulates (InFrame low) first (s.core.gpr 7) c.memory Q (stack_room f known code s args back good) in_frame Free calmly by_pointer refl each some (lanes f) (lanes_count f is).some (lanes_count f is).most b (few_blocks (length wide)) parts (has_whole_turns f) parts_are none_left (turns f args.n) few_behind (granted begins) wide more_is aligned (stored_is full) k y.shift y.full y.some y.size_is large (many_is true full)
           (λ e none w. none w.1.0 w.1.1 (reached_at k y.size_is w.1.0 w.1.2))
           (λ e none w. none (subst (AtSixteen k (Base 0)) (w.1.3 e) (reached_at k y.size_is w.1.0 w.1.2)))
           c place_first counter in

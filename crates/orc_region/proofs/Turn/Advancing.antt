@@ -31,7 +31,7 @@ use Rattle.orc_region.proofs.Block.Keeping.{line_bounded}
 use Rattle.orc_region.proofs.Row.Counters.{Tested}
 use Rattle.orc_region.proofs.Block.Actions.{IsFit, Ground}
 use Rattle.orc_region.proofs.Block.FarActions.{Step, Fetching, fars_wide, fars_one, row_kept}
-use Rattle.orc_region.proofs.Block.Fars.{far_at, InFars, FarGround, FarRow, FarValues}
+use Rattle.orc_region.proofs.Block.Fars.{far_at, InFars, HasByte, FarGround, FarRow, FarValues}
 use Rattle.orc_region.proofs.Block.Named.{named_line}
 use Rattle.orc_region.proofs.Block.Names.{own_permutes, own_name}
 use Rattle.orc_region.proofs.Block.Taken.{AllTaken}
@@ -223,10 +223,11 @@ module _ (n : ℕ) (base : ℕ → ℕ) (P : ℕ → Type 0) (numbers : Numbers)
               ⊎_elim (λ x. inl x) (λ y. ⊎_elim (λ x. inr (inl x)) (λ x. inr (inr (x.0, record { array = x.1.array; some = x.1.some; few = x.1.few; by = x.1.by; stores = x.1.stores }))) y) g in
               let row = row_now c h.calm h.row in
               let read : (load : Far) (k : ℕ) (js : List ℕ) → numbers.far load k js → (q : ℕ) → q < count → (x : ℕ) → AmongCells load 1 (far_at numbers base k js (j + q)) x → InFars base numbers 0 n x = λ load k js f q l x m. fars_wide base numbers j count n w x (fars_one base numbers load k js f j count q l x m) in
+              let byte : (x : ℕ) → InFars base numbers 0 n x → HasByte c.memory x = λ x f. (let v = mapped_value c.memory x (row.mapped x f) in (v.0, v.1, h.bounded.memory x v.0 v.1)) in
               let agreed : (x : ℕ) → InFars base numbers 0 n x → c.memory x ≡ e x = λ x f. h.agree x (set.fars_apart x f) in
               let fetch : Fetching n base p.size P numbers rsp set.ground far aligned count some j c.gpr c.memory sig = record {
                 row = record { bases = row.bases; block = λ load k js f. row.block load k js f ∙ ap Some (sym h.block); mapped = row.mapped };
-                values = λ load k js f q l. (λ x m. row.mapped x (read load k js f q l x m), refl);
+                values = λ load k js f q l. (λ x m. byte x (read load k js f q l x m), refl);
                 pointers = λ load k js f. (let x = h.pointers k (set.far_slots load k js f) in omega (arith, x, far_is k, add-mul lag i (p.size k), ap (λ t. t * p.size k) same));
               } in
               let touch : (u : Core) (ins : Ins) → Step n base p.size P numbers rsp set.ground far aligned count some G j c.gpr c.memory u ins → InBlock j c u ins = λ u ins q. ⊎_elim
@@ -242,7 +243,7 @@ module _ (n : ℕ) (base : ℕ → ℕ) (P : ℕ → Type 0) (numbers : Numbers)
               (λ p l q lq r lr lb. absurd (omega (arith, lr))) h.bounded (λ a m s. refl) fetch touch in
               let line : Line (InBlock j c) (actions_far_code count p.size far aligned p.actions) c b.0 = b.1 in
               let values : FarValues base numbers j count e sig = λ load k js f q l. (
-                λ x m. (let y = read load k js f q l x m in subst (λ o. is_some o ≡ true) (agreed x y) (row.mapped x y)),
+                λ x m. (let y = read load k js f q l x m in let v = byte x y in (v.0, sym (agreed x y) ∙ v.1, v.2)),
                 value_kept load (far_at numbers base k js (j + q)) c.memory e (j + q) (λ x m. agreed x (read load k js f q l x m)),
               ) in
               let m = set.emulates j e totals sig em count w he values in
