@@ -1,5 +1,5 @@
 -- The code of a function has instructions of its target alone.
-use Rattle.std.proofs.Common.{◌≡◌, ℕ, zero, suc, ◌+◌, ◌≤◌, Bool, true, false, if◌then◌else◌, List, [], ◌∷◌, ◌++◌, length, refl, sym, subst}
+use Rattle.std.proofs.Common.{◌≡◌, ℕ, zero, suc, ◌+◌, ◌≤◌, Bool, true, false, List, [], ◌∷◌, ◌++◌, length, refl, sym, subst}
 use Rattle.orc_ops.specs.declared.target.Target.{Target}
 use Rattle.orc_ops.specs.declared.target.Target.TheVariants.{Sse2}
 use Rattle.orc_program.specs.Kept.{is_function}

@@ -127,7 +127,7 @@ TouchesThese f s args r i count m = (a : ℕ) → Touches m.ins m.point.core a �
 abbrev pub IsAlone : FunctionValue → Call → Type 0
 IsAlone f args = IsDest f 0 × ((k : ℕ) → 0 < k → IsDest f k → VerySame (subject_of f) args 0 k → ⊥)
 
--- ---- what is done
+-- ---- what is done: where the function has far loads, from cores whose frame has the row's bases and the block's address
 
 -- a list of instructions stands in the code, behind so many bytes
 abbrev pub Stands : Placed → ℕ → List Ins → Type 0

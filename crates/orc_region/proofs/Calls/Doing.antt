@@ -1,7 +1,9 @@
 -- Structured code that does elements of a row does so wherever its instructions stand in the code of a good call.
-use Rattle.std.proofs.Common.{◌≡◌, ℕ, ◌+◌, ◌≤◌, ◌⊎◌, List, ◌++◌, length, refl, sym, ap, ◌∙◌, subst, arith, length-append}
+use Rattle.std.proofs.Common.{◌≡◌, ℕ, ◌+◌, ◌<◌, ◌≤◌, ◌⊎◌, inr, List, ◌++◌, length, refl, sym, ap, ◌∙◌, subst, arith, length-append}
 use Rattle.orc_program.specs.Program.{FunctionValue}
 use Rattle.orc_program.specs.Meaning.{State}
+use Rattle.orc_program.proofs.Near.{far_array_is}
+use Rattle.orc_program.proofs.Mapped.{in_range}
 use Rattle.x86_ins.specs.declared.ins.Ins.{Ins}
 use Rattle.x86_ins.specs.Machine.{Core, Point, Touches}
 use Rattle.x86_ins.specs.Spelling.{IsAllowed}
@@ -14,12 +16,18 @@ use Rattle.x86_flow.proofs.Plans.{weigh}
 use Rattle.x86_flow.proofs.Returning.{each_map}
 use Rattle.x86_flow.proofs.Counting.{at_most_more, at_most_weigh}
 use Rattle.orc_frame.specs.Parts.{InFrame}
-use Rattle.orc_frame.specs.Subject.{Call as Arguments, IsArray}
+use Rattle.orc_frame.specs.Subject.{Call as Arguments, IsArray, rows}
 use Rattle.orc_frame.specs.GoodCall.{GoodCall, lowered}
-use Rattle.orc_frame.specs.Function.{subject_of}
+use Rattle.orc_frame.specs.Function.{IsCellByte, subject_of}
 use Rattle.orc_region.specs.Stores.{TouchesCell, StoresFirst}
-use Rattle.orc_region.specs.Elements.{HasCome, Holds, InElements, InFarElements, IsQuiet, InWords, Stands, TouchesThese, Done}
+use Rattle.orc_region.specs.Elements.{meant_call, HasCome, Holds, InElements, InFarElements, IsQuiet, InWords, Stands, TouchesThese, Done}
 use Rattle.orc_region.proofs.Calls.Wide.{GoesWide, cell_weight}
+
+-- a byte of an element that a far load reads is a byte of a cell of the call
+pub far_cell : (f : FunctionValue) (args : Arguments) (r i count a : ℕ) → r < rows (subject_of f) args → InFarElements f args r i count a → IsCellByte f (meant_call f args) a
+far_cell f args r i count a row x =
+    let array = far_array_is f.vars x.reached.insn.sources.items x.place x.reached.array in
+    record { place = x.place; row = r; element = x.element; byte = x.byte; cell = record { array = (in_range f.vars x.place array, array); row = row; element = inr x.reached; inside = x.inside }; here = x.here }
 
 -- elements i to i + count - 1 of row r are done from core c; A is where no movdqu stores to the first dest
 module _ (f : FunctionValue) (code : Placed) (s : Point) (args : Arguments) (back : ℕ) (good : GoodCall (subject_of f) code s args back) (r i count : ℕ) (A : Type 0) (c : Core) where
