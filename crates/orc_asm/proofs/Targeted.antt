@@ -19,7 +19,7 @@ use Rattle.orc_frame.specs.declared.frame.Layout.{Layout}
 use Rattle.orc_frame.specs.Layout.{layout_of}
 use Rattle.orc_frame.proofs.Facts.{facts}
 use Rattle.orc_region.specs.Code.{IsElements, resident_loads_code, sum_stores_code}
-use Rattle.orc_region.proofs.Built.Turns.{fits_elements}
+use Rattle.orc_region.proofs.Turn.Fits.{fits_elements}
 use Rattle.orc_region.proofs.Calls.Residents.{fine_loads, fine_stores}
 use Rattle.orc_region.proofs.Sizes.Loops.{Fits}
 use Rattle.orc_region.proofs.Targeted.Blocks.{resident_loads_for, sum_stores_for}

@@ -33,7 +33,7 @@ use Rattle.orc_asm.specs.Rows.{rows_flow, whole_flow}
 use Rattle.orc_region.proofs.Checked.Layouts.{patterns_are, sizes_are}
 use Rattle.orc_region.proofs.Checked.Slots.{Limits, limits}
 use Rattle.orc_region.proofs.Sizes.Loops.{Fits}
-use Rattle.orc_region.proofs.Built.Turns.{fits_elements}
+use Rattle.orc_region.proofs.Turn.Fits.{fits_elements}
 use Rattle.orc_program.specs.Need.{steps}
 use Rattle.orc_region.proofs.Calls.Residents.{fine_loads, fine_stores, loads_few, stores_few, loads_own, stores_own}
 use Rattle.orc_region.proofs.Sizes.Steps.{regions_of}

@@ -1,6 +1,6 @@
 -- The turns over the elements of a row, and the loops around them, as they are built.
-use Rattle.std.proofs.Common.{◌≡◌, ◌≢◌, ℕ, zero, suc, ◌+◌, ◌*◌, ◌/◌, ◌^◌, ◌++◌, ◌∷◌, le_refl, ◌<◌, ◌≤◌, ◌==◌, ◌&&◌, ◌⊎◌, if◌then◌else◌, Bool, true, false, true≢false, All, IsTrue, List, [], length, nat_lt, nat_le, slice_index, sym, ap, ap₂, ◌∙◌, subst, arith, inl, inr, refl}
-use Rattle.std.proofs.lemmas.Bool.{ne_eqb, lt-ltb, ltb-true, eqb-true}
+use Rattle.std.proofs.Common.{◌≡◌, ◌≢◌, ℕ, zero, suc, ◌+◌, ◌*◌, ◌/◌, ◌^◌, ◌++◌, ◌∷◌, ◌<◌, ◌≤◌, ◌==◌, ◌&&◌, ◌⊎◌, if◌then◌else◌, Bool, true, false, true≢false, All, IsTrue, List, [], length, nat_lt, nat_le, slice_index, sym, ap, ap₂, ◌∙◌, subst, arith, inl, inr, refl}
+use Rattle.std.proofs.lemmas.Bool.{ne_eqb, lt-ltb, eqb-true}
 use Rattle.std.proofs.lemmas.Nat.{pow-add}
 use Rattle.std.proofs.Math.Nat.{mul_assoc}
 use Rattle.orc_program.proofs.Lanes.{lanes_is}
@@ -9,10 +9,8 @@ use Rattle.x86_ins.specs.declared.ins.Cond.TheVariants.{Ns}
 use Rattle.x86_ins.specs.declared.ins.Ins.{Ins}
 use Rattle.x86_ins.specs.Spelling.{has_spelling}
 use Rattle.x86_flow.specs.declared.tree.Flow.{Flow as Tree}
-use Rattle.x86_flow.specs.Flow.{Flow, Plain, flat, size, loop_code}
+use Rattle.x86_flow.specs.Flow.{Flow, Plain, flat, loop_code}
 use Rattle.x86_flow.specs.Tree.{flat_of}
-use Rattle.x86_flow.proofs.Shapes.{loop_size, loop_fine}
-use Rattle.x86_flow.proofs.Spelled.{all_allowed}
 use Rattle.orc_ops.specs.declared.target.Target.{Target as CodeTarget}
 use Rattle.orc_program.specs.declared.program.VarKind.TheVariants as kind
 use Rattle.orc_program.specs.Program.{FunctionValue, count_of}
@@ -29,7 +27,7 @@ use Rattle.orc_frame.specs.Frame.{IsLayout}
 use Rattle.orc_frame.specs.Layout.{layout_of}
 use Rattle.orc_program.specs.declared.program.Pattern.{Pattern}
 use Rattle.orc_region.proofs.Checked.Layouts.{patterns_are}
-use Rattle.orc_region.specs.Code.{Seats, seats_with, seats_of, IsShare, IsPart, AreParts, ArePartsOf, AreByParts, IsReady, IsBlock, IsBlockBy, IsTurnBy, IsTurnOf, AreWholeTurns, used_from, Turns, AreFromFirst, AreFromBoundary, IsElements, span_of, shift_of, is_filled, fills, blocks_of, turns_flow, from_first, from_boundary, elements_flow, elements_of}
+use Rattle.orc_region.specs.Code.{Seats, seats_with, seats_of, IsShare, IsPart, AreParts, ArePartsOf, AreByParts, IsReady, IsBlock, IsBlockBy, IsTurnBy, IsTurnOf, AreWholeTurns, used_from, Turns, AreFromFirst, AreFromBoundary, IsElements, span_of, shift_of, is_filled, fills, blocks_of, turns_flow, from_first, from_boundary, elements_flow}
 use Rattle.orc_region.specs.Elements.{AreOf, DoesElements}
 use Rattle.orc_region.specs.Regions.{TurnParts, part_flow, parts_flow, aligned_row, whole_row, plain_row, tested_row, wide_loop, wide_loops}
 use Rattle.orc_region.proofs.Built.Slots.{first_there, used_dests, used_sources}
@@ -37,10 +35,8 @@ use Rattle.orc_region.proofs.Calls.Setting.{sums_count}
 use Rattle.orc_region.proofs.Calls.Blocks.{does_elements}
 use Rattle.orc_region.proofs.Turn.Blocks.{block_is, block_spelled}
 use Rattle.orc_region.proofs.Checked.Fits.{slot_sized}
-use Rattle.orc_region.proofs.Sizes.Loops.{Fits, FitsPart, fits_list, fits_whole, fits_tested, fits_plain, fits_aligned, fits_larges}
-use Rattle.orc_region.proofs.Checked.Several.{IsCount, IsPower, most_of, share_power, share_count, lanes_count}
-use Rattle.orc_region.proofs.Row.Parts.{parts_map}
-use Rattle.orc_region.proofs.Turn.Lists.{few_blocks, blocks_near, ready_is, turn_is, turn_fine, turn_spelled, turn_size}
+use Rattle.orc_region.proofs.Checked.Several.{IsCount, IsPower, most_of, share_power, share_count}
+use Rattle.orc_region.proofs.Turn.Lists.{blocks_near, ready_is, turn_is, turn_spelled}
 
 -- ---- how many elements a turn does
 
@@ -372,82 +368,3 @@ module _ (target : CodeTarget) (f : FunctionValue) (at sizes : List ℕ) (steps 
             ∙ flat_boundary whole (shift_of size_first) (lanes f) a.0 turn (turns_flow (lanes f) (blocks_of (length turn)) w.0 list)
             ∙ sym (ap₂ (λ k q. Elements k q a.0) yes_filled (sym (begins_is f l l_is (some_dest fills)) ∙ begins)),
       )
-
--- ---- their bytes
-
-few_shifts : (a b c : Bool) → (if a then 3 else (if b then 2 else (if c then 1 else 0))) ≤ 3
-few_shifts true b c = omega arith
-few_shifts false true c = omega arith
-few_shifts false false true = omega arith
-few_shifts false false false = omega arith
-
-shift_few : (bytes : ℕ) → shift_of bytes ≤ 3
-shift_few bytes = few_shifts (bytes == 8) (bytes == 4) (bytes == 2)
-
-fits_wide : (n : ℕ) → n ≤ 1000000 → (list : List Ins) → Fits n list → Fits (n + 12) (flat (wide_loop (Plain list)))
-fits_wide n few list h = (let b = h.bytes in record { allowed = loop_fine Ns list (omega (arith, b, few)) h.allowed; bytes = omega (arith, loop_size Ns list, b) })
-
-fits_turns : (lanes b : ℕ) → lanes ≤ 16 → b ≤ 4 → (large turn : List Ins) → Fits 118943 turn → (1 < b → Fits 475343 large) → Fits 594400 (flat (turns_flow lanes b large turn))
-fits_turns lanes b most few large turn h g = go (nat_lt 1 b) refl
-  where
-    go : (t : Bool) → nat_lt 1 b ≡ t → Fits 594400 (flat (if t then wide_loops lanes (b * lanes) (Plain large) (Plain turn) else wide_loop (Plain turn)))
-    go false e = (let x = fits_wide 118943 (omega arith) turn h in record { allowed = x.allowed; bytes = (let b = x.bytes in omega (arith, b)) })
-    go true e = (let near = blocks_near lanes b most few in let x = fits_larges lanes (b * lanes) 475343 118943 near (omega arith) (omega arith) large turn (g (ltb-true 1 b e)) h in record { allowed = x.allowed; bytes = (let b = x.bytes in omega (arith, b)) })
-
--- they are allowed, and are few
-pub fits_elements : {target : CodeTarget} (f : FunctionValue) → is_function f ≡ true → (at : List ℕ) (parts : TurnParts) (wide aligned large : List Ins) → Turns f target at parts wide aligned large → Fits 960000 (flat (elements_of f parts wide aligned large))
-fits_elements {target} f h at parts wide aligned large t = go (fills f) (begins_aligned f) refl
-  where
-    count : IsCount f (lanes f)
-    count = lanes_count f h
-
-    most : lanes f ≤ 64
-    most = lanes_few f h (lanes f) refl
-
-    fits_turn : (count : ℕ) → IsCount f count → (aligned : Bool) (b n : ℕ) → b ≤ 4 → 143 + b * 118800 ≤ n → (list : List Ins) → IsTurnOf f target at count aligned b list → Fits n list
-    fits_turn count is_count aligned b n few room list x =
-        let near = blocks_near count b is_count.most few in
-        let bytes = turn_size f h at t.good count is_count target aligned b near list x in
-        record { allowed = all_allowed list (turn_fine f h at t.good count is_count target aligned b near list x); bytes = omega (arith, bytes, room) }
-
-    fits_piece : (count : ℕ) (turn : List Ins) → 2 * count ≤ lanes f → IsPart f target at count turn → FitsPart count turn
-    fits_piece count turn half x =
-        let is_count = share_count f h count x.share in
-        let near = blocks_near count 1 is_count.most (omega arith) in
-        let fine = turn_fine f h at t.good count is_count target false 1 near turn x.is in
-        record { some = is_count.some; one = fits_turn count is_count false 1 118943 (omega arith) (omega arith) turn x.is; several = λ l. fits_list turn 100 (x.short l) fine }
-
-    fits_pieces : has_whole_turns f ≡ false → AreParts FitsPart (lanes f) parts
-    fits_pieces e = parts_map (IsPart f target at) FitsPart (lanes f) fits_piece parts (lanes f) (le_refl (lanes f)) (t.fewer e)
-
-    fits_more : Fits 118943 wide
-    fits_more = fits_turn (lanes f) count false 1 118943 (omega arith) (omega arith) wide t.more
-
-    fits_stored : fills f ≡ true → Fits 118943 aligned
-    fits_stored e = fits_turn (lanes f) count true 1 118943 (omega arith) (omega arith) aligned (t.stored e)
-
-    -- whole turns of which those of one block are these
-    fits_body : (turn : List Ins) → Fits 118943 turn → Fits 594400 (flat (turns_flow (lanes f) (blocks_of (length wide)) large turn))
-    fits_body turn x = fits_turns (lanes f) (blocks_of (length wide)) count.most (few_blocks (length wide)) large turn x (λ l. let few = few_blocks (length wide) in fits_turn (lanes f) count (fills f) (blocks_of (length wide)) 475343 few (omega (arith, few)) large (t.many l))
-
-    fits_first : (w : Bool) → has_whole_turns f ≡ w → (turns : Flow) → Fits 594400 (flat turns) → Fits 960000 (flat (from_first w (lanes f) parts turns))
-    fits_first true e turns x = (let y = fits_whole turns (lanes f) 594400 most x in record { allowed = y.allowed; bytes = (let b = y.bytes in omega (arith, b)) })
-    fits_first false e turns x =
-        let y = fits_plain parts turns turns (lanes f) 594400 594400 count.most (omega arith) (omega arith) (fits_pieces e) x x in
-        record { allowed = y.allowed; bytes = (let b = y.bytes in omega (arith, b)) }
-
-    fits_boundary : (w : Bool) → has_whole_turns f ≡ w → (turns : Flow) → Fits 594400 (flat turns) → Fits 960000 (flat (from_boundary w (shift_of (size_of_slot f.vars 0)) (lanes f) parts wide turns))
-    fits_boundary true e turns x =
-        let y = fits_tested (wide_loop (Plain wide)) turns (lanes f) 118955 594400 most (omega arith) (omega arith) (fits_wide 118943 (omega arith) wide fits_more) x in
-        record { allowed = y.allowed; bytes = (let b = y.bytes in omega (arith, b)) }
-    fits_boundary false e turns x =
-        let y = fits_aligned parts (wide_loop (Plain wide)) turns (lanes f) 118955 594400 count.most (omega arith) (omega arith) (fits_pieces e) (fits_wide 118943 (omega arith) wide fits_more) x (shift_of (size_of_slot f.vars 0)) (shift_few (size_of_slot f.vars 0)) in
-        record { allowed = y.allowed; bytes = (let b = y.bytes in omega (arith, b)) }
-
-    go : (k q : Bool) → fills f ≡ k → Fits 960000 (flat (elements_flow k q (has_whole_turns f) (shift_of (size_of_slot f.vars 0)) (lanes f) (blocks_of (length wide)) parts wide aligned large))
-    go true true e = fits_first (has_whole_turns f) refl (turns_flow (lanes f) (blocks_of (length wide)) large aligned) (fits_body aligned (fits_stored e))
-    go true false e = fits_boundary (has_whole_turns f) refl (turns_flow (lanes f) (blocks_of (length wide)) large aligned) (fits_body aligned (fits_stored e))
-    go false q e = fits_first (has_whole_turns f) refl (turns_flow (lanes f) (blocks_of (length wide)) large wide) (fits_body wide fits_more)
-
-pub elements_few : (target : CodeTarget) (f : FunctionValue) → is_function f ≡ true → (at : List ℕ) (t : Tree) → IsElements f target at t → size (flat_of t) ≤ 960000
-elements_few target f h at t (parts, wide, aligned, large, turns, e) = (let b = (fits_elements f h at parts wide aligned large turns).bytes in omega (arith, ap size e, b))

@@ -4,7 +4,7 @@ use Rattle.x86_flow.specs.Flow.{Plain, spell_all, with_return}
 use Rattle.x86_flow.specs.Tree.{flat_of}
 use Rattle.orc_frame.specs.declared.frame.Layout.{Layout}
 use Rattle.orc_frame.proofs.Counted.{ok_map}
-use Rattle.orc_region.proofs.Built.Turns.{elements_few}
+use Rattle.orc_region.proofs.Turn.Fits.{elements_few}
 use Rattle.orc_region.proofs.Checked.Layouts.{two_d_is}
 use Rattle.orc_region.specs.Code.{IsElements}
 use Rattle.orc_region.specs.Elements.{AreOf}
