@@ -3,7 +3,7 @@
 ghost use Rattle.std.specs.Prelude.{◌≡◌, ◌≤◌, IfOk, OnOk, IfErr, None, length, true, false};
 ghost use Rattle.orc_ops.specs.declared.target.Target.TheVariants.{Sse2};
 ghost use Rattle.orc_program.specs.declared.program.VarKind.TheVariants as kind;
-ghost use Rattle.orc_program.specs.Program.{count_of, has_far};
+ghost use Rattle.orc_program.specs.Program.{count_of};
 ghost use Rattle.orc_program.specs.Kept.{is_function};
 ghost use Rattle.orc_program.specs.Need.{lanes};
 ghost use Rattle.orc_plan.specs.Lowered.{steps_of, sizes_of};
@@ -20,15 +20,14 @@ use orc_program::{Function, VarKind};
 use orc_region::{resident_loads, row_flow, sum_stores};
 use std::alloc::{AllocError, Global};
 
-/// Code of a function without far loads, which does in every good call what the function means, in at most as many steps as are stated for the target. It does so inside any
+/// Code of a function, which does in every good call what the function means, in at most as many steps as are stated for the target. It does so inside any
 /// larger memory too, and on the way changes no byte but those of dests' cells, of accumulators' words and of the frame. Few of its steps touch cells,
-/// at most one in a turn for each operand that is an array, and where the first dest can be stored by aligned stores in every row, and is no
+/// at most one in a turn for each operand that is an array, but two for each element of a far load, and where the first dest can be stored by aligned stores in every row, and is no
 /// other dest, it is. The code is instructions of the target alone, and has 1 to 1,048,576 bytes.
 /// A function is refused exactly where some instruction needs more values of temps at once than there are places for them: with the first
 /// such instruction's line and need.
 #[tactic(auto, using(crate::proofs::Calls::Weaker::runs_as, crate::proofs::Function::Pressed::none_pressed, crate::proofs::Function::Pressed::first_pressed))]
 pub fn assemble_for(alloc: Global, f: &Function, target: Target) -> Result<Code, AsmError>
-    requires near { has_far f.now ≡ false }
     ensures runs { IfOk result (λ code. RunsAs f.now target code) }
     ensures inside { IfOk result (λ code. RunsFully f.now target code) }
     ensures target { IfOk result (λ code. HasOnly target code) }
@@ -51,7 +50,6 @@ pub fn assemble_for(alloc: Global, f: &Function, target: Target) -> Result<Code,
 
 /// Code for SSE2: [`assemble_for`] of [`Target::Sse2`].
 pub fn assemble(alloc: Global, f: &Function) -> Result<Code, AsmError>
-    requires near { has_far f.now ≡ false }
     ensures runs { IfOk result (λ code. RunsAs f.now Sse2 code) }
     ensures inside { IfOk result (λ code. RunsFully f.now Sse2 code) }
     ensures target { IfOk result (λ code. HasOnly Sse2 code) }
@@ -88,7 +86,6 @@ fn counts_of(f: &Function) -> Counts
 
 /// The code of a function by its placed steps: rows of elements, and before and after them what the frame wants.
 fn code_of(alloc: Global, f: &Function, placed: &Placed, target: Target) -> Result<Code, AllocError>
-    requires near { has_far f.now ≡ false }
     requires steps { placed.now.core.steps ≡ steps_of f.now }
     requires sizes { placed.now.core.sizes ≡ sizes_of f.now }
     requires lanes { placed.now.core.lanes ≡ lanes f.now }

@@ -29,10 +29,9 @@ use Rattle.orc_frame.specs.Subject.{Call, IsArray, VerySame, cell, rows}
 use Rattle.orc_region.specs.Code.{pointer, last_place, is_resident, resident_register}
 use Rattle.orc_region.specs.Stores.{TouchesCell, StoresFirst}
 
--- placed steps and a layout are of this function, which has no far load
+-- placed steps and a layout are of this function
 pub record AreOf (f : FunctionValue) (p : PlacedValue) (l : Layout) : Type 0 where
   pub kept : is_function f ≡ true
-  pub near : has_far f ≡ false
   pub steps : p.core.steps ≡ steps_of f
   pub sizes : p.core.sizes ≡ sizes_of f
   pub lanes : p.core.lanes ≡ lanes f

@@ -78,7 +78,7 @@ is_mapped m e a q h = subst (λ o. is_some o ≡ true) q h
 
 module _ {target : Target} (f : FunctionValue) (is : is_function f ≡ true) (at : List ℕ) (fewer : TurnParts) (wide aligned large : List Ins) (turns_are : Turns f target at fewer wide aligned large) (code : Placed) (s : Point) (args : Arguments) (back : ℕ) (good : GoodCall (subject_of f) code s args back) where
   abbrev known : Arrays f
-  known = arrays_known f is turns_are.near
+  known = arrays_known f is
 
   abbrev Args : Call
   Args = call f known code s args back good

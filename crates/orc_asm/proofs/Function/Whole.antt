@@ -136,7 +136,7 @@ module _ {target : Target} (f : FunctionValue) (h : is_function f ≡ true) (l :
   some = (subject_of f).operands
 
   abbrev known : Arrays f
-  known = arrays_known f h turns.near
+  known = arrays_known f h
 
   fits : Fits 960000 (flat elements)
   fits = fits_elements f h at fewer wide aligned large turns

@@ -17,12 +17,12 @@ use Rattle.orc_asm.proofs.assembly.code_of.Goals.{After-whole_code}
 
 pub row_flow-requires : goal.row_flow-requires
 row_flow-requires c = record {
-  of = (c.args.f.now, record { kept = c.counts_of-counts.ensures.kept; near = c.requires.near; steps = c.requires.steps; sizes = c.requires.sizes; lanes = c.requires.lanes; layout = c.layout-layout.ensures.value });
+  of = (c.args.f.now, record { kept = c.counts_of-counts.ensures.kept; steps = c.requires.steps; sizes = c.requires.sizes; lanes = c.requires.lanes; layout = c.layout-layout.ensures.value });
 }
 
 pub whole_code-requires-clause-few : goal.whole_code-requires-clause-few
 whole_code-requires-clause-few c =
-    let are : AreOf c.args.f.now c.args.placed.now c.layout-layout.result = record { kept = c.counts_of-counts.ensures.kept; near = c.requires.near; steps = c.requires.steps; sizes = c.requires.sizes; lanes = c.requires.lanes; layout = c.layout-layout.ensures.value } in
+    let are : AreOf c.args.f.now c.args.placed.now c.layout-layout.result = record { kept = c.counts_of-counts.ensures.kept; steps = c.requires.steps; sizes = c.requires.sizes; lanes = c.requires.lanes; layout = c.layout-layout.ensures.value } in
     elements_few c.args.target c.args.f.now c.counts_of-counts.ensures.kept c.args.placed.now.places _ (c.in_ok-elements.ensures.is c.args.f.now are)
 
 pub whole_code-requires-clause-first_spelled : goal.whole_code-requires-clause-first_spelled
@@ -35,7 +35,7 @@ whole_code-requires-clause-last_spelled c = behind_spelled c.args.f.now c.counts
 
 -- the tree does the function's elements
 elements_are : (c : After-whole_code) → IsElements c.args.f.now c.args.target c.args.placed.now.places c.in_ok-elements.elements
-elements_are c = c.in_ok-elements.ensures.is c.args.f.now (record { kept = c.counts_of-counts.ensures.kept; near = c.requires.near; steps = c.requires.steps; sizes = c.requires.sizes; lanes = c.requires.lanes; layout = c.layout-layout.ensures.value })
+elements_are c = c.in_ok-elements.ensures.is c.args.f.now (record { kept = c.counts_of-counts.ensures.kept; steps = c.requires.steps; sizes = c.requires.sizes; lanes = c.requires.lanes; layout = c.layout-layout.ensures.value })
 
 -- the bytes of the rows between the frame's lists
 runs : (c : After-whole_code) (code : List ℕ)
