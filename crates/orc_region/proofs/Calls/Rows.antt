@@ -38,7 +38,7 @@ use Rattle.orc_region.proofs.Block.Cells.{OfDests}
 use Rattle.orc_region.proofs.Block.Emulated.{state}
 use Rattle.orc_region.proofs.Block.Fars.{InFars, FarRow}
 use Rattle.orc_region.proofs.Block.Touched.{TouchesTurn}
-use Rattle.orc_region.proofs.Built.Turns.{fits_elements}
+use Rattle.orc_region.proofs.Turn.Fits.{fits_elements}
 use Rattle.orc_region.proofs.Checked.Several.{IsCount, share_count, lanes_count}
 use Rattle.orc_region.proofs.Row.Gaps.{AtSixteen, turns_behind}
 use Rattle.orc_region.proofs.Row.Parts.{parts_map}
