@@ -7,8 +7,7 @@ use Rattle.orc_bits.specs.Lanes.{lane, AreBytes, change}
 use Rattle.orc_bits.specs.Memory.{Memory, word, IsMapped}
 use Rattle.orc_bits.proofs.LaneLaws.{change_other, change_same, lane-lt, lane-same, pow256}
 use Rattle.orc_ops.specs.declared.far.Far.{Far}
-use Rattle.orc_ops.specs.declared.opcode.Op.{Op}
-use Rattle.orc_ops.specs.Far.{far_size, far_scalars}
+use Rattle.orc_ops.specs.Far.{far_size}
 use Rattle.orc_ops.specs.Formula.{formula}
 use Rattle.orc_ops.specs.Table.{size_of_source}
 use Rattle.orc_program.specs.Meaning.{sub_lane}
@@ -28,7 +27,7 @@ use Rattle.x86_flow.proofs.Plans.{line_map}
 use Rattle.orc_frame.specs.Layout.{pattern_slot, row_slot, block_slot, index_slot, work_slot, spill_slot, frame_size}
 use Rattle.orc_frame.specs.Parts.{Between, InChanged, InWorked}
 use Rattle.orc_resample.specs.declared.turn.FarSource.{FarSource}
-use Rattle.orc_resample.specs.Bring.{IsSpare, InWords, InOwn, AtHand, Brought, OnTurn}
+use Rattle.orc_resample.specs.Bring.{IsSpare, InWords, InOwn, AtHand, OnTurn}
 use Rattle.orc_resample.specs.Code.{bring_code}
 use Rattle.orc_resample.specs.Ready.{AmongCells, InWord, IsRead, value_at}
 use Rattle.orc_resample.specs.Ready.{Source as Reading}

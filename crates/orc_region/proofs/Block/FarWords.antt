@@ -1,5 +1,5 @@
 -- A pattern of 4 bytes in the frame is a word whose low 32 bits are the pattern's number's.
-use Rattle.std.proofs.Common.{◌≡◌, ℕ, suc, ◌+◌, ◌*◌, ◌/◌, ◌%◌, ◌^◌, ◌<◌, Some, refl, sym, ap, ◌∙◌, arith}
+use Rattle.std.proofs.Common.{◌≡◌, ℕ, suc, ◌+◌, ◌*◌, ◌/◌, ◌%◌, ◌^◌, ◌<◌, Some, sym, ap, ◌∙◌, arith}
 use Rattle.orc_bits.specs.Memory.{Memory, word}
 use Rattle.orc_bits.specs.Numbers.{cut}
 use Rattle.orc_region.proofs.Arithmetic.Digits.{digit, digit_small, number_of, digit_of, value_digits}

@@ -17,7 +17,7 @@ use Rattle.x86_flow.specs.Does.{Line}
 use Rattle.x86_flow.proofs.Moves.{line_append}
 use Rattle.x86_flow.proofs.Touching.{touches_none}
 use Rattle.x86_flow.proofs.Plans.{line_map}
-use Rattle.orc_frame.specs.Layout.{row_slot, block_slot, frame_size}
+use Rattle.orc_frame.specs.Layout.{frame_size}
 use Rattle.orc_frame.specs.Parts.{InChanged}
 use Rattle.orc_resample.specs.Ready.{AmongCells, value_at}
 use Rattle.orc_resample.proofs.Values.{value_kept}
