@@ -1,8 +1,8 @@
 -- Good arrays by slots, as calls of code see them, are good arrays by variables, as the language sees them.
-use Rattle.std.proofs.Common.{◌≡◌, ℕ, zero, suc, ◌+◌, ◌*◌, ◌-◌, ◌%◌, ◌^◌, ◌<◌, Bool, true, false, cond, if◌then◌else◌, List, [], ◌∷◌, length, take, get_or, map, refl, sym, ap, ◌∙◌, subst, arith, ◌⊎◌, inl, inr, ⊎_elim, ap₂, ◌||◌}
-use Rattle.std.specs.List.{count_by}
+use Rattle.std.proofs.Common.{◌≡◌, ℕ, zero, suc, ◌+◌, ◌*◌, ◌-◌, ◌%◌, ◌^◌, ◌<◌, nat_lt, not, Bool, true, false, cond, if◌then◌else◌, List, [], ◌∷◌, length, take, get_or, slice_index, map, refl, sym, ap, ◌∙◌, subst, arith, ◌⊎◌, inl, inr, ⊎_elim, ap₂, ◌||◌}
+use Rattle.std.specs.List.{count_by, list_any}
 use Rattle.std.specs.Int.{cast_signed, cast_unsigned, w64}
-use Rattle.std.proofs.lemmas.Bool.{cases_eq, true≢false}
+use Rattle.std.proofs.lemmas.Bool.{cases_eq, true≢false, lt-ltb, le-ltb}
 use Rattle.std.proofs.lemmas.Int.{of_z-to_z}
 use Rattle.std.proofs.lemmas.List.Sums.{sum_by-cons}
 use Rattle.orc_bits.specs.Memory.{Memory, IsMapped}
@@ -11,31 +11,41 @@ use Rattle.orc_program.specs.declared.program.VarKind.{VarKind}
 use Rattle.orc_program.specs.declared.program.VarKind.TheVariants as kind
 use Rattle.orc_program.specs.declared.call.Call.{Call}
 use Rattle.orc_program.specs.declared.call.Place.{Place}
-use Rattle.orc_program.specs.Program.{FunctionValue, var_at, is_of, same_kind, is_array_kind, count_before, array_number, has_far}
+use Rattle.orc_program.specs.Program.{FunctionValue, var_at, is_of, same_kind, is_array_kind, count_of, count_before, places_of, array_number, has_far}
 use Rattle.orc_program.specs.Meaning.{place_at, no_place}
 use Rattle.orc_program.specs.Slots.{slot_of, slots, size_of_slot, call_of, place_with}
-use Rattle.orc_program.specs.Good.{IsByte, IsSame, GoodArrays, byte_at}
+use Rattle.orc_program.specs.Good.{IsByte, IsSame, GoodArrays, byte_at, is_near, reads_near, reads_far}
 use Rattle.orc_program.specs.Good.{IsArray as IsArrayVar}
 use Rattle.orc_program.proofs.Apart.{byte_address}
-use Rattle.orc_program.proofs.Near.{has_cell, element_of, none_read}
+use Rattle.orc_program.proofs.Near.{all_near, element_of, none_read}
+use Rattle.orc_program.proofs.Nth.{place_again}
+use Rattle.orc_program.proofs.Places.{before_less}
 use Rattle.orc_frame.specs.Subject.{Subject, IsArray, InArray, VerySame, cell}
 use Rattle.orc_frame.specs.Subject.{Call as Arguments}
 use Rattle.orc_frame.specs.Function.{IsCellByte, subject_of}
 use Rattle.orc_region.proofs.Checked.Slots.{Limits, SlotIs, slot_is}
 
--- ---- cells and good arrays by slots
+-- ---- cells and good arrays by slots: of arrays with a cell for each element
 
-abbrev pub InCells : Subject → Arguments → ℕ → Type 0
-InCells f call a = (k : ℕ) × IsArray f k × InArray f call k a
+-- the place of a slot's variable
+abbrev pub variable_of : FunctionValue → ℕ → ℕ
+variable_of f k = if nat_lt k 4 then slice_index (places_of kind.Dest f.vars) k else slice_index (places_of kind.Source f.vars) (k - 4)
+
+-- the slot's array has a cell for each element
+abbrev pub IsNear : FunctionValue → ℕ → Type 0
+IsNear f k = IsArray (subject_of f) k × (is_near f (variable_of f k) ≡ true)
+
+abbrev pub InCells : FunctionValue → Arguments → ℕ → Type 0
+InCells f call a = (k : ℕ) × IsNear f k × InArray (subject_of f) call k a
 
 abbrev pub Apart : Subject → Arguments → ℕ → ℕ → Type 0
 Apart f call k l = (a : ℕ) → InArray f call k a → InArray f call l a → ⊥
 
-pub record GoodSlots (f : Subject) (call : Arguments) (mem : Memory) : Type 0 where
+pub record GoodSlots (f : FunctionValue) (call : Arguments) (mem : Memory) : Type 0 where
   pub few : call.n < 2 ^ 31
   pub few_rows : f.two_d ≡ true → call.m < 2 ^ 31
   pub low : (a : ℕ) → InCells f call a → a < 2 ^ 47
-  pub separate : (k l : ℕ) → IsArray f k → IsArray f l → Apart f call k l ⊎ VerySame f call k l
+  pub separate : (k l : ℕ) → IsNear f k → IsNear f l → Apart (subject_of f) call k l ⊎ VerySame (subject_of f) call k l
   pub mapped : (a : ℕ) → InCells f call a → IsMapped mem a
 
 -- ---- each slot in use has a variable
@@ -80,6 +90,15 @@ source_is kind.Param h = absurd (true≢false (sym h))
 source_is kind.Const h = absurd (true≢false (sym h))
 source_is kind.Accumulator h = absurd (true≢false (sym h))
 
+-- an array that is no dest is a source
+other_array : (k : VarKind) → is_array_kind k ≡ true → same_kind kind.Dest k ≡ false → same_kind kind.Source k ≡ true
+other_array kind.Source h e = refl
+other_array kind.Dest h e = absurd (true≢false e)
+other_array kind.Temp h e = absurd (true≢false (sym h))
+other_array kind.Param h e = absurd (true≢false (sym h))
+other_array kind.Const h e = absurd (true≢false (sym h))
+other_array kind.Accumulator h e = absurd (true≢false (sym h))
+
 -- the variable of a slot
 pub record HasSlot (f : FunctionValue) (k : ℕ) : Type 0 where
   pub place : ℕ
@@ -103,6 +122,51 @@ has_slot f k (inr l) =
       slot = ap (λ b. if b then count_before kind.Dest f.vars x.place else 4 + count_before kind.Source f.vars x.place) is.1 ∙ omega (arith, x.before, l.0);
     }
 
+-- ---- which slots are near
+
+module _ (f : FunctionValue) (few : Limits f) where
+  variable_of_dest : (p : ℕ) → p < length f.vars → is_of kind.Dest (var_at f.vars p) ≡ true → variable_of f (slot_of f.vars p) ≡ p
+  variable_of_dest p inside e =
+      let j = count_before kind.Dest f.vars p in
+      let below : nat_lt j 4 ≡ true = lt-ltb j 4 (omega (arith, before_less kind.Dest f.vars p inside e, few.dests)) in
+      ap (λ b. let k : ℕ = if b then j else 4 + count_before kind.Source f.vars p in variable_of f k) e
+      ∙ ap (λ b. if b then slice_index (places_of kind.Dest f.vars) j else slice_index (places_of kind.Source f.vars) (j - 4)) below ∙ place_again kind.Dest f.vars p inside e
+
+  variable_of_source : (p : ℕ) → p < length f.vars → is_of kind.Dest (var_at f.vars p) ≡ false → is_of kind.Source (var_at f.vars p) ≡ true → variable_of f (slot_of f.vars p) ≡ p
+  variable_of_source p inside none e =
+      let j = count_before kind.Source f.vars p in
+      let above : nat_lt (4 + j) 4 ≡ false = le-ltb (4 + j) 4 (omega arith) in
+      ap (λ b. let k : ℕ = if b then count_before kind.Dest f.vars p else 4 + j in variable_of f k) none
+      ∙ ap (λ b. if b then slice_index (places_of kind.Dest f.vars) (4 + j) else slice_index (places_of kind.Source f.vars) (4 + j - 4)) above
+      ∙ ap (slice_index (places_of kind.Source f.vars)) (let z : 4 + j - 4 ≡ j = omega arith in z) ∙ place_again kind.Source f.vars p inside e
+
+  -- the variable of a variable's slot is that variable
+  pub variable_again : (p : ℕ) → IsArrayVar f p → variable_of f (slot_of f.vars p) ≡ p
+  variable_again p h = go (is_of kind.Dest (var_at f.vars p)) refl
+    where
+      go : (b : Bool) → is_of kind.Dest (var_at f.vars p) ≡ b → variable_of f (slot_of f.vars p) ≡ p
+      go true e = variable_of_dest p h.0 e
+      go false e = variable_of_source p h.0 e (other_array (var_at f.vars p).kind h.1 e)
+
+  variable_is : (k : ℕ) (h : HasSlot f k) → variable_of f k ≡ h.place
+  variable_is k h = ap (variable_of f) (sym h.slot) ∙ variable_again h.place h.array
+
+  pub near_variable : (k : ℕ) → IsNear f k → (h : HasSlot f k) → is_near f h.place ≡ true
+  near_variable k n h = ap (is_near f) (sym (variable_is k h)) ∙ n.1
+
+  -- an array with a cell for each element has a near slot
+  pub near_slot : (args : Arguments) (p : ℕ) → IsArrayVar f p → is_near f p ≡ true → IsNear f (slot_of f.vars p)
+  near_slot args p h n = ((slot_is f args few p h.0 h.1).slot, ap (is_near f) (variable_again p h) ∙ n)
+
+  -- dests have
+  pub near_dest : (k : ℕ) → k < count_of kind.Dest f.vars → IsNear f k
+  near_dest k l =
+      let x = nth (is_of kind.Dest) f.vars k l in
+      let slot : slot_of f.vars x.place ≡ k = ap (λ b. if b then count_before kind.Dest f.vars x.place else 4 + count_before kind.Source f.vars x.place) x.passes ∙ x.before in
+      let array : IsArrayVar f x.place = (x.inside, dest_is (var_at f.vars x.place).kind x.passes) in
+      let near : is_near f x.place ≡ true = ap (λ b. b || (list_any (reads_near x.place) f.insns || not (list_any (reads_far x.place) f.insns))) x.passes in
+      (inl l, ap (is_near f) (ap (variable_of f) (sym slot) ∙ variable_again x.place array) ∙ near)
+
 -- ---- the place of a slot
 
 -- the base tells which slot stands at a place of the call
@@ -112,7 +176,7 @@ place_found s b k [] (suc i) e = absurd (omega (arith, e))
 place_found s b k (x ∷ xs) zero e = ap (λ x. place_with (b x) (s x)) (let q : x ≡ k = omega (arith, e) in q)
 place_found s b k (x ∷ xs) (suc i) e = place_found s b k xs i e
 
-module _ (f : FunctionValue) (few : Limits f) (near : has_far f ≡ false) (args : Arguments) where
+module _ (f : FunctionValue) (few : Limits f) (args : Arguments) where
   abbrev call : Call
   call = call_of f args.n args.m args.base args.stride args.param
 
@@ -133,55 +197,57 @@ module _ (f : FunctionValue) (few : Limits f) (near : has_far f ≡ false) (args
         ∙ ap (λ n. (args.base k + r * n + i * (var_at f.vars p).size + j) % 2 ^ 64) (of_z-to_z w64 (args.stride k) (words k s.slot))
         ∙ ap (λ z. (args.base k + r * args.stride k + i * z + j) % 2 ^ 64) (sym s.size)
 
-    -- a byte of a cell of a variable is one of the variable's slot
-    pub in_slot : (p r i j : ℕ) → IsByte f call p r i j → InArray (subject_of f) args (slot_of f.vars p) (byte_at f call p r i j)
-    in_slot p r i j h =
+    -- a byte of a cell of an element is one of the variable's slot
+    pub in_slot : (p r i j : ℕ) → IsByte f call p r i j → i < args.n → InArray (subject_of f) args (slot_of f.vars p) (byte_at f call p r i j)
+    in_slot p r i j h l =
         let s = slot_at p h.array in
-        (r, h.row, i, element_of f call near p i h.element, j, subst (λ z. j < z) (sym s.size) h.inside, byte_is p r i j h.array)
+        (r, h.row, i, l, j, subst (λ z. j < z) (sym s.size) h.inside, byte_is p r i j h.array)
 
-    -- and the other way
-    pub of_variable : (p a : ℕ) → IsArrayVar f p → (w : InArray (subject_of f) args (slot_of f.vars p) a) → IsByte f call p w.0 w.2 w.4 × (a ≡ byte_at f call p w.0 w.2 w.4)
-    of_variable p a h w =
+    -- and the other way, where there is a cell for each element
+    pub of_variable : (p a : ℕ) → IsArrayVar f p → is_near f p ≡ true → (w : InArray (subject_of f) args (slot_of f.vars p) a) → IsByte f call p w.0 w.2 w.4 × (a ≡ byte_at f call p w.0 w.2 w.4)
+    of_variable p a h near w =
         let s = slot_at p h in
-        (record { array = h; row = w.1; element = has_cell f call near p w.2 w.3; inside = subst (λ z. w.4 < z) s.size w.5 }, w.6 ∙ sym (byte_is p w.0 w.2 w.4 h))
+        (record { array = h; row = w.1; element = inl (near, w.3); inside = subst (λ z. w.4 < z) s.size w.5 }, w.6 ∙ sym (byte_is p w.0 w.2 w.4 h))
 
     -- a byte of a cell of a slot is one of a cell of a variable
-    pub cells_by_slots : (a : ℕ) → InCells (subject_of f) args a → IsCellByte f call a
+    pub cells_by_slots : (a : ℕ) → InCells f args a → IsCellByte f call a
     cells_by_slots a w =
-        let h = has_slot f w.0 w.1 in
+        let h = has_slot f w.0 w.1.0 in
         let x = subst (λ k. InArray (subject_of f) args k a) (sym h.slot) w.2 in
-        let b = of_variable h.place a h.array x in
+        let b = of_variable h.place a h.array (near_variable f few w.0 w.1 h) x in
         record { place = h.place; row = x.0; element = x.2; byte = x.4; cell = b.0; here = b.1 }
 
-    -- and the other way
-    pub cells_by_variables : (a : ℕ) → IsCellByte f call a → InCells (subject_of f) args a
-    cells_by_variables a w = (
-      slot_of f.vars w.place,
-      (slot_at w.place w.cell.array).slot,
-      subst (InArray (subject_of f) args (slot_of f.vars w.place)) (sym w.here) (in_slot w.place w.row w.element w.byte w.cell),
-    )
+    -- ---- by slots, then by variables, where there is no far load
 
-    -- ---- by slots, then by variables
+    module _ (near : has_far f ≡ false) where
+      in_slots : (p r i j : ℕ) → IsByte f call p r i j → InArray (subject_of f) args (slot_of f.vars p) (byte_at f call p r i j)
+      in_slots p r i j h = in_slot p r i j h (element_of f call near p i h.element)
 
-    same_variables : (p q : ℕ) → IsArrayVar f p → IsArrayVar f q → VerySame (subject_of f) args (slot_of f.vars p) (slot_of f.vars q) → IsSame f call p q
-    same_variables p q hp hq v = record {
-      size = sym (slot_at p hp).size ∙ v.size ∙ (slot_at q hq).size;
-      base = (slot_at p hp).base ∙ v.base ∙ sym (slot_at q hq).base;
-      stride = λ two. ap (λ (x : Place). x.stride) (place_is p hp) ∙ ap (cast_signed w64) (v.stride two) ∙ sym (ap (λ (x : Place). x.stride) (place_is q hq));
-      near = λ d. ap₂ (λ a b. a || b) (none_read f near p) (none_read f near q);
-    }
+      in_cells : (p r i j : ℕ) → IsByte f call p r i j → InCells f args (byte_at f call p r i j)
+      in_cells p r i j h = (slot_of f.vars p, near_slot f few args p h.array (all_near f near p), in_slots p r i j h)
 
-    pub good_by_variables : (mem : Memory) → GoodSlots (subject_of f) args mem → GoodArrays f call mem
-    good_by_variables mem g = record {
-      elements = g.few;
-      rows_few = g.few_rows;
-      low = λ p r i j h. g.low _ (slot_of f.vars p, (slot_at p h.array).slot, in_slot p r i j h);
-      apart = λ p q hp hq ne. ⊎_elim
-          (λ a. inl (λ r i j r2 i2 j2 x y e. a (byte_at f call p r i j) (in_slot p r i j x) (subst (InArray (subject_of f) args (slot_of f.vars q)) (sym e) (in_slot q r2 i2 j2 y))))
-          (λ v. inr (same_variables p q hp hq v))
-          (g.separate (slot_of f.vars p) (slot_of f.vars q) (slot_at p hp).slot (slot_at q hq).slot);
-      mapped = λ p r i j h. g.mapped _ (slot_of f.vars p, (slot_at p h.array).slot, in_slot p r i j h);
-    }
+      pub cells_by_variables : (a : ℕ) → IsCellByte f call a → InCells f args a
+      cells_by_variables a w = subst (InCells f args) (sym w.here) (in_cells w.place w.row w.element w.byte w.cell)
+
+      same_variables : (p q : ℕ) → IsArrayVar f p → IsArrayVar f q → VerySame (subject_of f) args (slot_of f.vars p) (slot_of f.vars q) → IsSame f call p q
+      same_variables p q hp hq v = record {
+        size = sym (slot_at p hp).size ∙ v.size ∙ (slot_at q hq).size;
+        base = (slot_at p hp).base ∙ v.base ∙ sym (slot_at q hq).base;
+        stride = λ two. ap (λ (x : Place). x.stride) (place_is p hp) ∙ ap (cast_signed w64) (v.stride two) ∙ sym (ap (λ (x : Place). x.stride) (place_is q hq));
+        near = λ d. ap₂ (λ a b. a || b) (none_read f near p) (none_read f near q);
+      }
+
+      pub good_by_variables : (mem : Memory) → GoodSlots f args mem → GoodArrays f call mem
+      good_by_variables mem g = record {
+        elements = g.few;
+        rows_few = g.few_rows;
+        low = λ p r i j h. g.low _ (in_cells p r i j h);
+        apart = λ p q hp hq ne. ⊎_elim
+            (λ a. inl (λ r i j r2 i2 j2 x y e. a (byte_at f call p r i j) (in_slots p r i j x) (subst (InArray (subject_of f) args (slot_of f.vars q)) (sym e) (in_slots q r2 i2 j2 y))))
+            (λ v. inr (same_variables p q hp hq v))
+            (g.separate (slot_of f.vars p) (slot_of f.vars q) (near_slot f few args p hp (all_near f near p)) (near_slot f few args q hq (all_near f near q)));
+        mapped = λ p r i j h. g.mapped _ (in_cells p r i j h);
+      }
 
     -- ---- by variables, then by slots
 
@@ -195,24 +261,24 @@ module _ (f : FunctionValue) (few : Limits f) (near : has_far f ≡ false) (args
           ∙ of_z-to_z w64 (args.stride (slot_of f.vars q)) (words _ (slot_at q hq).slot);
     }
 
-    by_variable : (k : ℕ) (h : HasSlot f k) (a : ℕ) → InArray (subject_of f) args k a → InArray (subject_of f) args (slot_of f.vars h.place) a
-    by_variable k h a w = subst (λ k. InArray (subject_of f) args k a) (sym h.slot) w
+    abbrev Separate : ℕ → ℕ → Type 0
+    Separate k l = Apart (subject_of f) args k l ⊎ VerySame (subject_of f) args k l
 
-    separate_variables : (mem : Memory) → GoodArrays f call mem → (p q : ℕ) → IsArrayVar f p → IsArrayVar f q → Apart (subject_of f) args (slot_of f.vars p) (slot_of f.vars q) ⊎ VerySame (subject_of f) args (slot_of f.vars p) (slot_of f.vars q)
-    separate_variables mem g p q hp hq = ⊎_elim
+    separate_variables : (mem : Memory) → GoodArrays f call mem → (p q : ℕ) → IsArrayVar f p → IsArrayVar f q → is_near f p ≡ true → is_near f q ≡ true → Separate (slot_of f.vars p) (slot_of f.vars q)
+    separate_variables mem g p q hp hq np nq = ⊎_elim
         (λ e. inr (record { size = ap (λ p. size_of_slot f.vars (slot_of f.vars p)) e; base = ap (λ p. args.base (slot_of f.vars p)) e; stride = λ two. ap (λ p. args.stride (slot_of f.vars p)) e }))
         (λ ne. ⊎_elim
-        (λ a. inl (λ t x y. let b = of_variable p t hp x in let c = of_variable q t hq y in a x.0 x.2 x.4 y.0 y.2 y.4 b.0 c.0 (sym b.1 ∙ c.1)))
+        (λ a. inl (λ t x y. let b = of_variable p t hp np x in let c = of_variable q t hq nq y in a x.0 x.2 x.4 y.0 y.2 y.4 b.0 c.0 (sym b.1 ∙ c.1)))
         (λ v. inr (same_slots p q hp hq v))
         (g.apart p q hp hq ne))
         (cases_eq p q)
 
-    pub good_by_slots : (mem : Memory) → GoodArrays f call mem → GoodSlots (subject_of f) args mem
+    pub good_by_slots : (mem : Memory) → GoodArrays f call mem → GoodSlots f args mem
     good_by_slots mem g = record {
       few = g.elements;
       few_rows = g.rows_few;
-      low = λ a w. let h = has_slot f w.0 w.1 in let b = of_variable h.place a h.array (by_variable w.0 h a w.2) in subst (λ x. x < 2 ^ 47) (sym b.1) (g.low _ _ _ _ b.0);
-      separate = λ k l hk hl. let x = has_slot f k hk in let y = has_slot f l hl in
-          subst (λ k. Apart (subject_of f) args k l ⊎ VerySame (subject_of f) args k l) x.slot (subst (λ l. Apart (subject_of f) args (slot_of f.vars x.place) l ⊎ VerySame (subject_of f) args (slot_of f.vars x.place) l) y.slot (separate_variables mem g x.place y.place x.array y.array));
-      mapped = λ a w. let h = has_slot f w.0 w.1 in let b = of_variable h.place a h.array (by_variable w.0 h a w.2) in subst (IsMapped mem) (sym b.1) (g.mapped _ _ _ _ b.0);
+      low = λ a w. let b = cells_by_slots a w in subst (λ x. x < 2 ^ 47) (sym b.here) (g.low _ _ _ _ b.cell);
+      separate = λ k l hk hl. let x = has_slot f k hk.0 in let y = has_slot f l hl.0 in
+          subst (λ k. Separate k l) x.slot (subst (Separate (slot_of f.vars x.place)) y.slot (separate_variables mem g x.place y.place x.array y.array (near_variable f few k hk x) (near_variable f few l hl y)));
+      mapped = λ a w. let b = cells_by_slots a w in subst (IsMapped mem) (sym b.here) (g.mapped _ _ _ _ b.cell);
     }

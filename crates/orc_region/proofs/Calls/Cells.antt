@@ -1,14 +1,14 @@
 -- What a good call says of the cells of a row.
-use Rattle.std.proofs.Common.{◌≡◌, ℕ, suc, ◌+◌, ◌*◌, ◌%◌, ◌^◌, ◌<◌, ◌≤◌, Bool, true, false, if◌then◌else◌, length, refl, sym, ap, ap₂, ◌∙◌, subst, arith, suc-mul, mul-le-mul_left, ◌⊎◌, inl, inr, ⊎_elim}
+use Rattle.std.proofs.Common.{◌≡◌, ℕ, suc, ◌+◌, ◌*◌, ◌%◌, ◌^◌, ◌<◌, ◌≤◌, Bool, true, false, true≢false, if◌then◌else◌, length, refl, sym, ap, ap₂, ◌∙◌, subst, arith, suc-mul, mul-le-mul_left, ◌⊎◌, inl, inr, ⊎_elim}
 use Rattle.std.proofs.lemmas.Bool.{cases_lt}
 use Rattle.orc_bits.specs.Memory.{IsMapped}
 use Rattle.orc_bits.proofs.Memories.{value_small}
 use Rattle.orc_program.specs.declared.program.VarKind.TheVariants as kind
 use Rattle.orc_program.specs.declared.call.Call.{Call}
-use Rattle.orc_program.specs.Program.{FunctionValue, var_at, count_of, has_far}
+use Rattle.orc_program.specs.Program.{FunctionValue, var_at, count_of}
 use Rattle.orc_program.specs.Slots.{slot_of, size_of_slot, call_of}
 use Rattle.orc_program.specs.Meaning.{cell}
-use Rattle.orc_program.specs.Good.{IsArray}
+use Rattle.orc_program.specs.Good.{IsArray, is_near}
 use Rattle.x86_ins.specs.Machine.{Point}
 use Rattle.x86_ins.specs.Way.{Placed}
 use Rattle.orc_frame.specs.Subject.{Call as Arguments, InArray, InDests, VerySame, rows}
@@ -18,7 +18,7 @@ use Rattle.orc_frame.specs.Parts.{InBlock, InFrame, base_word, stride_word}
 use Rattle.orc_frame.specs.GoodCall.{GoodCall, lowered}
 use Rattle.orc_frame.specs.Function.{IsCellByte, subject_of}
 use Rattle.orc_region.proofs.Block.Cells.{OfDests, Separate, Low, Decided, elements_or_not}
-use Rattle.orc_region.proofs.Calls.Agree.{GoodSlots, good_by_slots, cells_by_slots, byte_is}
+use Rattle.orc_region.proofs.Calls.Agree.{GoodSlots, IsNear, variable_of, near_dest, near_slot, good_by_slots, cells_by_slots, byte_is}
 use Rattle.orc_region.proofs.Checked.Slots.{Limits, SlotIs, slot_is}
 use Rattle.orc_region.proofs.Turn.Advancing.{IsSlot}
 
@@ -53,10 +53,17 @@ slot_or_not dests sources k = ⊎_elim (λ l. inl (inl l)) (λ g. source g (case
     source g (inr a) (inl b) = inl (inr (a, b))
     source g (inr a) (inr b) = inr (λ s. ⊎_elim (λ l. omega (arith, l, g)) (λ l. omega (arith, l.1, b)) s)
 
+-- and so are those with a cell for each element
+pub near_or_not : (f : FunctionValue) (k : ℕ) → IsNear f k ⊎ (IsNear f k → ⊥)
+near_or_not f k = ⊎_elim (λ s. go s (is_near f (variable_of f k)) refl) (λ m. inr (λ n. m n.0)) (slot_or_not (count_of kind.Dest f.vars) (count_of kind.Source f.vars) k)
+  where
+    go : IsSlot (count_of kind.Dest f.vars) (count_of kind.Source f.vars) k → (b : Bool) → is_near f (variable_of f k) ≡ b → IsNear f k ⊎ (IsNear f k → ⊥)
+    go s true e = inl (s, e)
+    go s false e = inr (λ n. true≢false (sym n.1 ∙ e))
+
 -- what is known of a function's arrays
 pub record Arrays (f : FunctionValue) : Type 0 where
   pub few : Limits f
-  pub near : has_far f ≡ false
   pub small : (k : ℕ) → size_of_slot f.vars k ≤ 8
   pub some : (p : ℕ) → p < length f.vars → 0 < (var_at f.vars p).size
 
@@ -67,29 +74,33 @@ module _ (f : FunctionValue) (known : Arrays f) (code : Placed) (s : Point) (arg
   abbrev pub size : ℕ → ℕ
   size = size_of_slot f.vars
 
+  -- the slots of all arrays, and those with a cell for each element
+  abbrev pub InUse : ℕ → Type 0
+  InUse = IsSlot (count_of kind.Dest f.vars) (count_of kind.Source f.vars)
+
   abbrev pub P : ℕ → Type 0
-  P = IsSlot (count_of kind.Dest f.vars) (count_of kind.Source f.vars)
+  P = IsNear f
 
   -- where the row r of an array begins
   abbrev pub row_base : ℕ → ℕ → ℕ
   row_base r k = (args.base k + r * args.stride k) % 2 ^ 64
 
-  pub base_small : (k : ℕ) → P k → args.base k < 2 ^ 64
+  pub base_small : (k : ℕ) → InUse k → args.base k < 2 ^ 64
   base_small k h = value_small 8 s.core.memory (s.core.gpr 7 + base_word k) (args.base k) good.bounded.memory (good.reads.bases k h)
 
-  pub stride_small : (k : ℕ) → P k → args.stride k < 2 ^ 64
+  pub stride_small : (k : ℕ) → InUse k → args.stride k < 2 ^ 64
   stride_small k h = value_small 8 s.core.memory (s.core.gpr 7 + stride_word k) (args.stride k) good.bounded.memory (good.reads.strides k h)
 
   -- the bases of the first row, and those of one row more
-  pub first_base : (k : ℕ) → P k → row_base 0 k ≡ args.base k
+  pub first_base : (k : ℕ) → InUse k → row_base 0 k ≡ args.base k
   first_base k h = row_none (args.base k) (args.stride k) (base_small k h)
 
   pub next_base : (r k : ℕ) → (row_base r k + args.stride k) % 2 ^ 64 ≡ row_base (suc r) k
   next_base r k = next_row (args.base k) r (args.stride k)
 
   -- its arrays by slots
-  pub arrays : GoodSlots (subject_of f) args s.core.memory
-  arrays = good_by_slots f known.few known.near args stride_small s.core.memory good.arrays
+  pub arrays : GoodSlots f args s.core.memory
+  arrays = good_by_slots f known.few args stride_small s.core.memory good.arrays
 
   pub mapped : (a : ℕ) → IsCellByte f call a → IsMapped s.core.memory a
   mapped a w = subst (IsMapped s.core.memory) (sym w.here) (good.arrays.mapped w.place w.row w.element w.byte w.cell)
@@ -150,25 +161,25 @@ module _ (f : FunctionValue) (known : Arrays f) (code : Placed) (s : Point) (arg
         (arrays.separate k l hk hl)
 
     pub decided : Decided args.n (row_base r) size P
-    decided k = slot_or_not (count_of kind.Dest f.vars) (count_of kind.Source f.vars) k
+    decided k = near_or_not f k
 
     pub slot_at : (p : ℕ) → IsArray f p → SlotIs f args p
     slot_at p h = slot_is f args known.few p h.0 h.1
 
     -- a variable's cells are those of its slot
-    pub cell_is : (p : ℕ) → IsArray f p → (i : ℕ) → i < args.n → cell f call p r i ≡ row_base r (slot_of f.vars p) + i * size (slot_of f.vars p)
-    cell_is p h i l =
+    pub cell_is : (p : ℕ) → IsArray f p → is_near f p ≡ true → (i : ℕ) → i < args.n → cell f call p r i ≡ row_base r (slot_of f.vars p) + i * size (slot_of f.vars p)
+    cell_is p h near i l =
         let k = slot_of f.vars p in
         let s = slot_at p h in
         no_byte _
-        ∙ byte_is f known.few known.near args stride_small p r i 0 h
+        ∙ byte_is f known.few args stride_small p r i 0 h
         ∙ sym (from_base (args.base k + r * args.stride k) (i * size k) 0)
-        ∙ at_cell k s.slot i l 0 (subst (λ n. 0 < n) (sym s.size) (known.some p h.0))
+        ∙ at_cell k (near_slot f known.few args p h near) i l 0 (subst (λ n. 0 < n) (sym s.size) (known.some p h.0))
         ∙ (let q : row_base r k + i * size k + 0 ≡ row_base r k + i * size k = omega arith in q)
 
     -- each is a cell of the call, apart from its other parts
     pub cell_cells : (k : ℕ) → P k → (i : ℕ) → i < args.n → (j : ℕ) → j < size k → IsCellByte f call (row_base r k + i * size k + j)
-    cell_cells k h i l j lj = cells_by_slots f known.few known.near args stride_small (row_base r k + i * size k + j) (k, h, cell_in k h i l j lj)
+    cell_cells k h i l j lj = cells_by_slots f known.few args stride_small (row_base r k + i * size k + j) (k, h, cell_in k h i l j lj)
 
     -- the addresses of the row's cells, and of those of dests
     abbrev pub InRowOf : (ℕ → Type 0) → ℕ → Type 0
@@ -184,14 +195,14 @@ module _ (f : FunctionValue) (known : Arrays f) (code : Placed) (s : Point) (arg
     row_of_dest a w = (w.0, w.1.0, w.2, w.3, w.4, w.5, w.6)
 
     dest_few : (k : ℕ) → OfDests P k → k < count_of kind.Dest f.vars
-    dest_few k h = ⊎_elim (λ l. l) (λ s. absurd (omega (arith, s.0, h.1))) h.0
+    dest_few k h = ⊎_elim (λ l. l) (λ s. absurd (omega (arith, s.0, h.1))) h.0.0
 
     -- they are cells of the call's dests
     pub row_dests : (a : ℕ) → InRowDests a → InDests (subject_of f) args a
     row_dests a w = (w.0, dest_few w.0 w.1, subst (λ a. InArray (subject_of f) args w.0 a) (sym w.6) (cell_in w.0 w.1.0 w.2 w.3 w.4 w.5))
 
     pub slot_few : (k : ℕ) → P k → k < 12
-    slot_few k h = ⊎_elim (λ l. (let a = known.few.dests in omega (arith, l, a))) (λ l. (let a = known.few.sources in omega (arith, l.1, a))) h
+    slot_few k h = ⊎_elim (λ l. (let a = known.few.dests in omega (arith, l, a))) (λ l. (let a = known.few.sources in omega (arith, l.1, a))) h.0
 
     pub row_or_not : (a : ℕ) → InRow a ⊎ (InRow a → ⊥)
     row_or_not a = ⊎_elim
@@ -204,7 +215,7 @@ module _ (f : FunctionValue) (known : Arrays f) (code : Placed) (s : Point) (arg
 
   -- a dest's cell is one of the call
   pub dest_cell : (a : ℕ) → InDests (subject_of f) args a → IsCellByte f call a
-  dest_cell a w = cells_by_slots f known.few known.near args stride_small a (w.0, inl w.1, w.2)
+  dest_cell a w = cells_by_slots f known.few args stride_small a (w.0, near_dest f known.few w.0 w.1, w.2)
 
   -- the frame lies low
   pub stack_room : lowered s.core + (frame_size + 8) ≤ 2 ^ 47

@@ -1,14 +1,15 @@
 -- The elements of a row of a good call are what the laws of blocks, turns and rows ask for.
-use Rattle.std.proofs.Common.{◌≡◌, ℕ, ◌+◌, ◌*◌, ◌<◌, ◌≤◌, true, List, [], length, refl, sym, ap, ◌∙◌, subst, arith, ⊎_elim}
+use Rattle.std.proofs.Common.{◌≡◌, ℕ, ◌+◌, ◌*◌, ◌<◌, ◌≤◌, true, if◌then◌else◌, List, [], length, refl, sym, ap, ◌∙◌, subst, arith, ⊎_elim}
 use Rattle.orc_bits.specs.Memory.{Memory}
 use Rattle.orc_ops.specs.declared.target.Target.{Target as CodeTarget}
 use Rattle.orc_program.specs.declared.program.VarKind.TheVariants as kind
 use Rattle.orc_program.specs.declared.call.Call.{Call}
-use Rattle.orc_program.specs.Program.{FunctionValue, count_of}
+use Rattle.orc_program.specs.Program.{FunctionValue, same_kind, count_of, count_before}
 use Rattle.orc_program.specs.Checks.{patterns_of}
 use Rattle.orc_program.specs.Kept.{is_function}
 use Rattle.orc_program.specs.Meaning.{State, cell}
 use Rattle.orc_program.specs.Slots.{slot_of, size_of_slot}
+use Rattle.orc_program.proofs.Places.{before_less}
 use Rattle.orc_plan.specs.Lowered.{steps_of}
 use Rattle.orc_plan.specs.Places.{GoodPlaces}
 use Rattle.x86_ins.specs.Machine.{Point}
@@ -25,7 +26,7 @@ use Rattle.orc_region.proofs.Block.Cells.{Numbers, IsOf}
 use Rattle.orc_region.proofs.Block.Frames.{IsFrame}
 use Rattle.orc_region.proofs.Block.Sums.{last_below}
 use Rattle.orc_region.proofs.Block.Taken.{all_taken}
-use Rattle.orc_region.proofs.Block.Emulated.{IsCells}
+use Rattle.orc_region.proofs.Block.Emulated.{IsCells, IsDest}
 use Rattle.orc_region.proofs.Block.Elements.{Reached, reaches}
 use Rattle.orc_region.proofs.Checked.Direct.{number_of}
 use Rattle.orc_region.proofs.Checked.Acts.{StandsIn, nothing_stands}
@@ -33,6 +34,8 @@ use Rattle.orc_region.proofs.Checked.Knows.{numbers_of, all_meant, all_known}
 use Rattle.orc_region.proofs.Checked.Layouts.{patterns_are, sizes_are}
 use Rattle.orc_region.proofs.Turn.Advancing.{Setting}
 use Rattle.orc_region.proofs.Turn.Lists.{stand_is}
+use Rattle.orc_region.proofs.Calls.Agree.{near_slot}
+use Rattle.orc_region.proofs.Calls.Fars.{element_is, far_slot, far_frame, fars}
 use Rattle.orc_region.proofs.Calls.Cells.{Arrays, stack_room, arrays, call, P, row_base, low, separate, decided, slot_at, cell_is, cell_cells, cell_frame}
 
 -- the accumulators of a function, by its layout
@@ -76,10 +79,15 @@ module _ (f : FunctionValue) (is : is_function f ≡ true) (known : Arrays f) (c
     Slot = P f known code s args back good
 
     has : (p b : ℕ) → IsCells f p b → IsOf args.n base size Slot (slot_of f.vars p) b
-    has p b h = let x = slot_at f known code s args back good r row p (h.inside, h.array) in record { array = x.slot; bytes_are = x.size ∙ h.size; some = subst (λ n. 0 < n) (sym x.size) (known.some p h.inside) }
+    has p b h = let x = slot_at f known code s args back good r row p (h.inside, h.array) in record { array = near_slot f known.few args p (h.inside, h.array) h.near; bytes_are = x.size ∙ h.size; some = subst (λ n. 0 < n) (sym x.size) (known.some p h.inside) }
 
     cells : (p b : ℕ) → IsCells f p b → (i : ℕ) → i < args.n → cell f meant p r i ≡ base (slot_of f.vars p) + i * size (slot_of f.vars p)
-    cells p b h i l = cell_is f known code s args back good r row p (h.inside, h.array) i l
+    cells p b h i l = cell_is f known code s args back good r row p (h.inside, h.array) h.near i l
+
+    dests : (p b : ℕ) → IsCells f p b → IsDest f p → slot_of f.vars p < 4
+    dests p b h d =
+        let slot : slot_of f.vars p ≡ count_before kind.Dest f.vars p = ap (λ k. if same_kind kind.Dest k then count_before kind.Dest f.vars p else 4 + count_before kind.Source f.vars p) d in
+        (let l = before_less kind.Dest f.vars p h.inside (ap (same_kind kind.Dest) d) in let few = known.few.dests in omega (arith, slot, l, few))
 
     pub apart : (k : ℕ) → Slot k → (i : ℕ) → i < args.n → (j : ℕ) → j < size k → Frame (base k + i * size k + j) → ⊥
     apart k h i l j lj w = cell_frame f known code s args back good (base k + i * size k + j) (cell_cells f known code s args back good r row k h i l j lj) w
@@ -97,13 +105,16 @@ module _ (f : FunctionValue) (is : is_function f ≡ true) (known : Arrays f) (c
         apart = λ k h i l j lj x y. apart k h i l j lj (x, y);
       };
       decided = decided f known code s args back good r row;
-      slots = λ k h. h;
-      known = all_known f at meant args.n base Slot has known.few.dests target is known.near stand count actions are;
+      slots = λ k h. h.0;
+      known = all_known f at meant args.n base Slot has known.few.dests target is stand count actions are;
       taken = all_taken target (seats_of f at) count (steps_of f) actions are;
       few_dests = known.few.dests;
       few_sources = known.few.sources;
       few = (arrays f known code s args back good).few;
-      emulates = reaches f meant r base size Slot (separate f known code s args back good r row) (low f known code s args back good r row) has cells (numbers at) (number_of f) (λ j. refl) (StandsIn at) actions ([], steps_of f) (nothing_stands at (steps_of f)) (all_meant target f is known.near at stand count actions are) e;
+      emulates = reaches f meant r base size Slot (separate f known code s args back good r row) (low f known code s args back good r row) has cells dests (numbers at) (number_of f) (λ j. refl) (fars f is known code s args back good at r row).dests (element_is f is known code s args back good at r row) (StandsIn at) actions ([], steps_of f) (nothing_stands at (steps_of f)) (all_meant target f is at stand count actions are) e;
       apart = apart;
       changed = changed_frame at;
+      fars = fars f is known code s args back good at r row;
+      fars_apart = λ a h w. far_frame f is known code s args back good at r row a h w.0 w.1;
+      far_slots = far_slot f is known code s args back good at r row;
     }
