@@ -4,7 +4,7 @@ ghost use Rattle.std.specs.Prelude.{◌≡◌, ◌<◌, ◌≤◌, ◌++◌, ℕ
 ghost use Rattle.x86_ins.specs.Way.{Each};
 ghost use Rattle.orc_frame.specs.Frame.{IsLayout};
 ghost use Rattle.orc_frame.specs.Layout.{pattern_slot};
-ghost use Rattle.orc_region.specs.Code.{FromFar, IsLoaded, far_by, far_source, far_sources, from_zero_code, scalar_pattern, seats_in, source_far_code, sources_far_code};
+ghost use Rattle.orc_region.specs.Code.{FromFar, IsLoaded, far_by, far_source, far_sources, from_zero_code, scalar_pattern, source_far_code, sources_far_code};
 
 use crate::lists::pointer;
 use crate::span::Setting;

@@ -242,15 +242,7 @@ fn push_sources(
     let sources = step.sources.as_slice();
     match far_of(step.op) {
         None => push_near(list, setting, sources, takes, homes),
-        Some(far) => push_far(
-            alloc,
-            list,
-            setting,
-            far,
-            sources,
-            takes.first,
-            homes.first,
-        ),
+        Some(far) => push_far(alloc, list, setting, far, sources, takes.first, homes.first),
     }
 }
 
