@@ -14,7 +14,7 @@ use Rattle.orc_program.specs.Program.{FunctionValue}
 use Rattle.orc_program.specs.Facts.{facts_of}
 use Rattle.orc_frame.specs.GoodCall.{GoodCall}
 use Rattle.orc_region.proofs.Checked.Slots.{Limits}
-use Rattle.orc_region.proofs.Calls.Agree.{InCells, good_by_variables, cells_by_slots, cells_by_variables}
+use Rattle.orc_region.proofs.Calls.Agree.{InCells, near_dest, good_by_variables, cells_by_slots, cells_by_variables}
 use Rattle.orc_frame.specs.Function.{subject_of}
 
 abbrev pub inside : ℕ → ℕ → ℕ → Bool
@@ -82,17 +82,17 @@ only k (inr h) = absurd (omega (arith, h.0, h.1))
 cell_is : (a : ℕ) → InArray subject call 0 a → a ≡ 65536
 cell_is a w = w.6 ∙ (let z : w.0 * 0 ≡ 0 = omega arith in let q : (65536 + w.0 * 0 + w.2 * 1 + w.4) % 2 ^ 64 ≡ 65536 = omega (arith, z, w.3, w.5) in q)
 
-in_slots : (a : ℕ) → InCells subject call a → a ≡ 65536
-in_slots a w = cell_is a (subst (λ k. InArray subject call k a) (only w.0 w.1) w.2)
+in_slots : (a : ℕ) → InCells doubles call a → a ≡ 65536
+in_slots a w = cell_is a (subst (λ k. InArray subject call k a) (only w.0 w.1.0) w.2)
 
 few : Limits doubles
 few = record { dests = omega arith; sources = omega arith; accs = omega arith }
 
 in_cell : (a : ℕ) → subject.cells call a → a ≡ 65536
-in_cell a w = in_slots a (cells_by_variables doubles few refl call (λ k h. lit< tt) a w)
+in_cell a w = in_slots a (cells_by_variables doubles few call (λ k h. lit< tt) refl a w)
 
 the_cell : (a : ℕ) → a ≡ 65536 → subject.cells call a
-the_cell a e = cells_by_slots doubles few refl call (λ k h. lit< tt) a (0, inl (omega arith), (0, omega arith, 0, omega arith, 0, omega arith, e))
+the_cell a e = cells_by_slots doubles few call (λ k h. lit< tt) a (0, near_dest doubles few 0 (omega arith), (0, omega arith, 0, omega arith, 0, omega arith, e))
 
 -- it states nothing of its calls
 meets_all : subject.facts call ≡ true
@@ -110,11 +110,11 @@ there_is bytes short = record {
     params = λ j h. absurd (omega (arith, h));
   };
   returns = refl;
-  arrays = good_by_variables doubles few refl call (λ k h. lit< tt) memory (record {
+  arrays = good_by_variables doubles few call (λ k h. lit< tt) refl memory (record {
     few = omega arith;
     few_rows = λ h. absurd (let e : ⊥ = cc in e);
     low = λ a w. omega (arith, in_slots a w);
-    separate = λ k l h g. inr (record { size = ap subject.size (only k h ∙ sym (only l g)); base = refl; stride = λ e. refl });
+    separate = λ k l h g. inr (record { size = ap subject.size (only k h.0 ∙ sym (only l g.0)); base = refl; stride = λ e. refl });
     mapped = λ a w. mapped a (inl (in_slots a w));
   });
   facts = meets_all;
