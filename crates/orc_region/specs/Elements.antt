@@ -1,5 +1,5 @@
 -- What the code of a function's elements does in a good call: so many elements of a row, as emulation does them.
-use Rattle.std.specs.Prelude.{◌≡◌, ◌≢◌, ℕ, ◌+◌, ◌*◌, ◌%◌, ◌^◌, ◌<◌, ◌≤◌, ◌⊎◌, Bool, true, false, List, ◌++◌, length, get_or, slice_index, if◌then◌else◌, Option, Some, Ok}
+use Rattle.std.specs.Prelude.{◌≡◌, ◌≢◌, ℕ, ◌+◌, ◌*◌, ◌%◌, ◌^◌, ◌<◌, ◌≤◌, ◌⊎◌, Bool, true, List, ◌++◌, length, get_or, slice_index, if◌then◌else◌, Option, Some, Ok}
 use Rattle.orc_bits.specs.Numbers.{cut}
 use Rattle.orc_bits.specs.Lanes.{AreBytes}
 use Rattle.orc_bits.specs.Memory.{Memory, IsMapped, word}

@@ -37,6 +37,7 @@ use Rattle.orc_region.proofs.Checked.Slots.{limits}
 use Rattle.orc_region.proofs.Turn.Advancing.{Setting, IsCell, Inside, InBlock, base_from, touches_wide, block_steps}
 use Rattle.orc_region.proofs.Turn.Blocks.{ins_of_block, block_fine, block_few, block_light}
 use Rattle.orc_region.proofs.Turn.Lists.{fit_actions}
+use Rattle.orc_region.proofs.Calls.Fars.{far_row as row_for_fars, far_elements as fars_elements}
 use Rattle.orc_region.proofs.Calls.Cells.{Arrays, mapped, cell_cells, cell_at, cell_frame}
 use Rattle.orc_region.proofs.Calls.Setting.{meant, base, numbers, Emul, Slot, setting, apart, changed_frame}
 use Rattle.orc_region.proofs.Calls.Holding.{totals_in, framed_in, agrees_in, holds_again}
@@ -45,7 +46,7 @@ use Rattle.orc_region.proofs.Calls.Doing.{OnWay, doing}
 
 -- what is known of the arrays of a function
 pub arrays_known : (f : FunctionValue) → is_function f ≡ true → Arrays f
-arrays_known f is = record { few = limits f is; near = ?; small = slot_size f is; some = some_size f is }
+arrays_known f is = record { few = limits f is; small = slot_size f is; some = some_size f is }
 
 -- a pointer, by the words of the call and by the row's base
 pub from_row : (b x : ℕ) → (b + x + 0) % 2 ^ 64 ≡ (b % 2 ^ 64 + x) % 2 ^ 64
@@ -118,7 +119,7 @@ module _ (target : CodeTarget) (f : FunctionValue) (is : is_function f ≡ true)
     Within = Inside args.n Base Slots (numbers f is known code s args back good at) low plan Emulates (InFrame low) set (s.core.gpr 7) c.memory
 
     far_row : FarRow args.n Base (numbers f is known code s args back good at) low (s.core.gpr 7) c.memory
-    far_row = ?
+    far_row = row_for_fars f is known code s args back good at r row c stands h.mapped
 
     begins : Within i e.memory (totals_in f is known code s args back good at e c h) c
     begins = record {
@@ -142,14 +143,14 @@ module _ (target : CodeTarget) (f : FunctionValue) (is : is_function f ≡ true)
 
     -- what far loads read for them
     far_elements : (a : ℕ) → InFars Base (numbers f is known code s args back good at) i count a → InFarElements f args r i count a
-    far_elements = ?
+    far_elements = fars_elements f is known code s args back good at r row i count within
 
     abbrev AtThese : ℕ → Type 0
     AtThese = AtElements args.n Base fits (OfDests Slots) i count
 
     dest_few : (k : ℕ) → OfDests Slots k → IsDest f k
-    dest_few k (inl l, few) = l
-    dest_few k (inr l, few) = absurd (omega (arith, l.0, few))
+    dest_few k ((inl l, near), few) = l
+    dest_few k ((inr l, near), few) = absurd (omega (arith, l.0, few))
 
     inside_row : (q : ℕ) → q < count → i + q < args.n
     inside_row q l = omega (arith, l, within)
@@ -161,7 +162,7 @@ module _ (target : CodeTarget) (f : FunctionValue) (is : is_function f ≡ true)
     further b q z y = omega (arith, add-mul i q z)
 
     these_arrays : (k : ℕ) → Slots k → (a : ℕ) → InSlot count (base_from args.n Base Slots (numbers f is known code s args back good at) low plan Emulates (InFrame low) set (s.core.gpr 7) c.memory count i) fits k a → These (IsArray (subject_of f)) a
-    these_arrays k hk a t = (k, hk, i + t.0, omega arith, omega (arith, t.1), t.2, t.3, t.4 ∙ further (Base k) t.0 (fits k) t.2 ∙ cell_at f known code s args back good r row k hk (i + t.0) (inside_row t.0 t.1) t.2 t.3)
+    these_arrays k hk a t = (k, hk.0, i + t.0, omega arith, omega (arith, t.1), t.2, t.3, t.4 ∙ further (Base k) t.0 (fits k) t.2 ∙ cell_at f known code s args back good r row k hk (i + t.0) (inside_row t.0 t.1) t.2 t.3)
 
     frame_cells : (a : ℕ) → AtThese a → InFrame low a → ⊥
     frame_cells a t w = apart f is known code s args back good r row t.0 t.1.0 (i + t.2) (inside_row t.2 t.3) t.4 t.5 (subst (InFrame low) t.6 w)

@@ -4,7 +4,7 @@ use Rattle.std.proofs.lemmas.Bool.{cases_eq, cases_lt}
 use Rattle.orc_bits.specs.Memory.{IsMapped}
 use Rattle.orc_bits.proofs.Memories.{or_else}
 use Rattle.x86_ins.specs.declared.ins.Ins.{Ins}
-use Rattle.x86_ins.specs.declared.ins.Ins.TheVariants.{VecLoad, VecStore}
+use Rattle.x86_ins.specs.declared.ins.Ins.TheVariants.{VecStore}
 use Rattle.x86_ins.specs.declared.ins.MoveOp.TheVariants.{Movdqu}
 use Rattle.x86_ins.specs.declared.ins.VecOp.TheVariants.{Pxor}
 use Rattle.x86_ins.specs.Machine.{Core, Touches, address, span, work}

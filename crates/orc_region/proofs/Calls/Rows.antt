@@ -47,6 +47,7 @@ use Rattle.orc_region.proofs.Turn.Advancing.{Setting, Able, IsCell, IsDestCell, 
 use Rattle.orc_region.proofs.Turn.Lists.{turns_map, few_blocks, blocks_near, stand_is, fit_actions, ins_blocks, turn_ins, turn_few}
 use Rattle.orc_region.proofs.Turn.Operands.{turn_light}
 use Rattle.orc_region.proofs.Turn.Rounds.{Outside, At, Round, TurnedPart, wide_turns, aligned_turns, narrow, first_done, boundary_done}
+use Rattle.orc_region.proofs.Calls.Fars.{far_row as row_for_fars, far_elements as fars_elements}
 use Rattle.orc_region.proofs.Calls.Cells.{Arrays, stack_room, stride_small, mapped, cell_cells, cell_at, cell_frame}
 use Rattle.orc_region.proofs.Calls.Setting.{meant, base, numbers, Emul, Slot, setting, apart, changed_frame}
 use Rattle.orc_region.proofs.Calls.Holding.{totals_in, framed_in, agrees_in, holds_again}
@@ -155,7 +156,7 @@ module _ {target : CodeTarget} (f : FunctionValue) (is : is_function f ≡ true)
       row_cell a w = subst (IsCellByte f (meant f is known code s args back good)) (sym w.6) (cell_cells f known code s args back good r row w.0 w.1 w.2 w.3 w.4 w.5)
 
       far_row : FarRow args.n Base (numbers f is known code s args back good at) low (s.core.gpr 7) c.memory
-      far_row = ?
+      far_row = row_for_fars f is known code s args back good at r row c stands h.mapped
 
       begins : Within 0 e.memory (totals_in f is known code s args back good at e c h) c
       begins = record {
@@ -176,11 +177,11 @@ module _ {target : CodeTarget} (f : FunctionValue) (is : is_function f ≡ true)
 
       -- what far loads read for them
       far_elements : (a : ℕ) → InFars Base (numbers f is known code s args back good at) 0 args.n a → InFarElements f args r 0 args.n a
-      far_elements = ?
+      far_elements = fars_elements f is known code s args back good at r row 0 args.n (omega arith)
 
       dest_few : (k : ℕ) → OfDests Slots k → IsDest f k
-      dest_few k (inl l, few) = l
-      dest_few k (inr l, few) = absurd (omega (arith, l.0, few))
+      dest_few k ((inl l, near), few) = l
+      dest_few k ((inr l, near), few) = absurd (omega (arith, l.0, few))
 
       row_dests : (a : ℕ) → IsRowDest a → These (IsDest f) a
       row_dests a t = (t.0, dest_few t.0 t.1, t.2, omega arith, omega (arith, t.3), t.4, t.5, t.6 ∙ cell_at f known code s args back good r row t.0 t.1.0 t.2 t.3 t.4 t.5)
@@ -216,7 +217,7 @@ module _ {target : CodeTarget} (f : FunctionValue) (is : is_function f ≡ true)
       touched : (u : Core) (ins : Ins) → TouchesTurn args.n Base size Slots low Free Base (numbers f is known code s args back good at) 0 args.n u ins → (a : ℕ) → Touches ins u a → These (IsArray (subject_of f)) a ⊎ (InFarElements f args r 0 args.n a ⊎ InFrame low a)
       touched u ins (inl (inl g)) a t = inr (inr (g a t))
       touched u ins (inr g) a t = ⊎_elim (λ x. inr (inr (x.1, x.2))) (λ x. inr (inl (far_elements a x.1))) (g.0 a t)
-      touched u ins (inl (inr g)) a t = (let y = g.3 a t in inl (g.0, g.1, y.0, omega arith, omega (arith, y.1), y.2, y.3, y.4 ∙ cell_at f known code s args back good r row g.0 g.1 y.0 y.1 y.2 y.3))
+      touched u ins (inl (inr g)) a t = (let y = g.3 a t in inl (g.0, g.1.0, y.0, omega arith, omega (arith, y.1), y.2, y.3, y.4 ∙ cell_at f known code s args back good r row g.0 g.1 y.0 y.1 y.2 y.3))
 
       calmly : (u : Core) (ins : Ins) → Calm u → TouchesTurn args.n Base size Slots low Free Base (numbers f is known code s args back good at) 0 args.n u ins → Q u ins
       calmly u ins w t = record {

@@ -20,6 +20,7 @@ use Rattle.orc_region.proofs.Block.Registers.{not_4, not_7}
 use Rattle.orc_resample.specs.Bring.{is_vector_store}
 use Rattle.orc_region.proofs.Block.Cells.{Numbers}
 use Rattle.orc_region.proofs.Block.Touched.{InSlot, TouchesTurn}
+use Rattle.orc_region.proofs.Calls.Agree.{near_dest}
 use Rattle.orc_region.proofs.Calls.Cells.{Arrays, call, P, size, row_base, arrays, cell_in, dest_cell}
 
 -- cells go by the registers that are neither RSP nor RDI
@@ -73,7 +74,7 @@ module _ (f : FunctionValue) (known : Arrays f) (code : Placed) (s : Point) (arg
     base = row_base f known code s args back good r
 
     slot_dest : (k : ℕ) → Slot k → k < 4 → k < count_of kind.Dest f.vars
-    slot_dest k h few = ⊎_elim (λ l. l) (λ l. absurd (omega (arith, l.0, few))) h
+    slot_dest k h few = ⊎_elim (λ l. l) (λ l. absurd (omega (arith, l.0, few))) h.0
 
     -- a byte of a dest of this row that isn't the first one is none of the first one
     other_dest : (k : ℕ) → Slot k → A → k < 4 → (k ≡ 0 → A → ⊥) → (a : ℕ) → InSlot args.n base bytes k a → InArray (subject_of f) args 0 a → ⊥
@@ -83,7 +84,7 @@ module _ (f : FunctionValue) (known : Arrays f) (code : Placed) (s : Point) (arg
         here = subst (InArray (subject_of f) args k) (sym w.4) (cell_in f known code s args back good r row k h w.0 w.1 w.2 w.3)
 
         other : k ≢ 0 → ⊥
-        other ne = ⊎_elim (λ apart. apart a c here) (λ same. (alone x).1 k (omega (arith, ne)) (slot_dest k h few) same) ((arrays f known code s args back good).separate 0 k (inl (alone x).0) h)
+        other ne = ⊎_elim (λ apart. apart a c here) (λ same. (alone x).1 k (omega (arith, ne)) (slot_dest k h few) same) ((arrays f known code s args back good).separate 0 k (near_dest f known.few 0 (alone x).0) h)
 
     -- an instruction of a turn in this row
     pub part_wide : (Free : Type 0) → (Free → A → ⊥) → (numbers : Numbers) (u : Core) (ins : Ins) → TouchesTurn args.n base bytes Slot (lowered s.core) Free base numbers 0 args.n u ins → GoesWide (subject_of f) args A u ins

@@ -31,7 +31,7 @@ use Rattle.x86_ins.specs.Way.{Each}
 use Rattle.orc_plan.specs.declared.steps.Item.{Item}
 use Rattle.orc_plan.specs.Lowered.{pattern_item, var_item, source_item, source_items}
 use Rattle.orc_frame.specs.Frame.{no_pattern}
-use Rattle.orc_region.specs.Code.{Source, FromFar, far_sources, scalar_pattern, patterns_in}
+use Rattle.orc_region.specs.Code.{FromFar, far_sources, scalar_pattern, patterns_in}
 use Rattle.orc_region.proofs.Block.Fars.{IsFarOf, AreScalars, behind_array}
 use Rattle.orc_region.proofs.Checked.Passing.{none_left, unchecked, size_ok, Checked}
 use Rattle.orc_region.proofs.Checked.Building.{Shape}

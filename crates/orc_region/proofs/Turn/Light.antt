@@ -18,7 +18,7 @@ use Rattle.x86_ins.specs.declared.ins.Ins.TheVariants.{AluImm}
 use Rattle.x86_ins.specs.Renaming.{renamed, renaming}
 use Rattle.x86_ins.specs.Way.{Each}
 use Rattle.orc_resample.specs.Code.{bring_code}
-use Rattle.orc_region.specs.Code.{Action, spares_second, Source, FromFar, seats_of, patterns_in, IsAction, IsTaking, AreActions, is_first_taken, IsTurnOf, far_source, from_zero_code, first_register, second_register, rule_code, brought, sources_far_code, sum_code, results_far_code, action_names, action_far_code, named_code, own_names, actions_far_code, advance_code, far_by, aligned_first}
+use Rattle.orc_region.specs.Code.{Action, spares_second, FromFar, seats_of, patterns_in, IsAction, IsTaking, AreActions, is_first_taken, IsTurnOf, far_source, from_zero_code, first_register, second_register, rule_code, brought, sources_far_code, sum_code, results_far_code, action_names, action_far_code, named_code, own_names, actions_far_code, advance_code, far_by, aligned_first}
 use Rattle.orc_region.proofs.Sizes.Cost.{far_length}
 use Rattle.orc_region.proofs.Sizes.Fars.{far_light, far_one}
 use Rattle.orc_region.proofs.Checked.Acts.{AllPlaced, IsNearLoad, IsPlanned, ArePlanned, are_planned}
