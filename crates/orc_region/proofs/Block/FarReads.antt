@@ -1,5 +1,5 @@
 -- What far loads read in emulation: elements of bytes, and values that the copy of their size gives again.
-use Rattle.std.proofs.Common.{◌≡◌, ℕ, zero, suc, ◌+◌, ◌*◌, ◌/◌, ◌%◌, ◌^◌, ◌<◌, ◌==◌, if◌then◌else◌, ℤ, List, [], ◌∷◌, Option, Some, None, refl, sym, ap, ◌∙◌, subst, arith, inl, inr}
+use Rattle.std.proofs.Common.{◌≡◌, ℕ, zero, suc, ◌+◌, ◌*◌, ◌/◌, ◌%◌, ◌^◌, ◌<◌, ℤ, List, [], ◌∷◌, Option, Some, None, refl, sym, ap, ◌∙◌, subst, arith, inl, inr}
 use Rattle.std.proofs.Math.Nat.{pow-succ'}
 use Rattle.orc_bits.specs.Memory.{Memory, bind, read, number, value}
 use Rattle.orc_ops.specs.declared.opcode.Op.TheVariants as opcode
@@ -10,7 +10,7 @@ use Rattle.orc_ops.specs.Table.{size_of_source}
 use Rattle.orc_ops.specs.Formula.{formula}
 use Rattle.orc_ops.proofs.FarLaws.{lines}
 use Rattle.orc_program.specs.Meaning.{sub_lane, lanewise}
-use Rattle.orc_resample.specs.Ready.{Source, cell, element, some_or_zero, InElement, IsRead, AmongCells, value_at}
+use Rattle.orc_resample.specs.Ready.{Source, cell, element, some_or_zero, IsRead, value_at}
 use Rattle.orc_region.specs.Code.{copy_of}
 use Rattle.orc_region.proofs.Block.Fars.{HasByte}
 

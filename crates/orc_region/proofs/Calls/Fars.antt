@@ -1,16 +1,15 @@
 -- What far loads read in a row of a good call.
-use Rattle.std.proofs.Common.{◌≡◌, ◌≢◌, ℕ, zero, suc, ◌+◌, ◌*◌, ◌%◌, ◌^◌, ◌<◌, ◌≤◌, ◌==◌, ◌&&◌, ◌||◌, Bool, true, false, true≢false, if◌then◌else◌, ℤ, pos, ◌*ℤ◌, List, [], ◌∷◌, length, Option, Some, None, is_some, refl, sym, ap, ◌∙◌, subst, arith, ◌⊎◌, inl, inr, ⊎_elim}
+use Rattle.std.proofs.Common.{◌≡◌, ◌≢◌, ℕ, ◌+◌, ◌*◌, ◌%◌, ◌^◌, ◌<◌, ◌≤◌, ◌==◌, ◌&&◌, ◌||◌, Bool, true, false, true≢false, if◌then◌else◌, ℤ, pos, ◌*ℤ◌, List, [], ◌∷◌, Some, None, is_some, refl, sym, ap, ◌∙◌, subst, arith, ◌⊎◌, inl, inr, ⊎_elim}
 use Rattle.std.specs.List.{list_any}
 use Rattle.orc_bits.specs.Memory.{IsMapped}
 use Rattle.orc_bits.specs.Numbers.{wrap}
 use Rattle.orc_ops.specs.declared.far.Far.{Far}
-use Rattle.orc_ops.specs.Far.{far_size, far_first, far_second}
+use Rattle.orc_ops.specs.Far.{far_size}
 use Rattle.orc_ops.specs.Reach.{reach}
 use Rattle.orc_program.specs.declared.program.Operand.{Operand}
 use Rattle.orc_program.specs.declared.program.Operand.TheVariants as operand
 use Rattle.orc_program.specs.declared.program.Var.{Var}
 use Rattle.orc_program.specs.declared.program.VarKind.TheVariants as kind
-use Rattle.orc_program.specs.declared.program.Insn.{Insn}
 use Rattle.orc_program.specs.declared.call.Call.{Call}
 use Rattle.orc_program.specs.Program.{FunctionValue, var_at, is_array, is_array_kind, is_of, same_kind, is_place, is_far, has_far, far_array, count_of, count_before}
 use Rattle.orc_program.specs.Slots.{slot_of, size_of_slot}
@@ -20,22 +19,20 @@ use Rattle.orc_program.specs.Good.{IsArray, IsReached, Reads, IsByte, IsSame, Sh
 use Rattle.orc_program.proofs.Near.{any_at, or_right}
 use Rattle.x86_ins.specs.Machine.{Core, Point, moved}
 use Rattle.x86_ins.specs.Way.{Placed}
-use Rattle.orc_resample.specs.Ready.{IsRead, AmongCells}
 use Rattle.orc_resample.specs.Ready.{cell as far_cell}
 use Rattle.orc_resample.proofs.Numbers.{scaled_of}
 use Rattle.orc_frame.specs.Layout.{frame_size}
 use Rattle.orc_frame.specs.Subject.{Call as Arguments, InArray, rows}
-use Rattle.orc_frame.specs.Subject.{cell as slot_cell}
 use Rattle.orc_frame.specs.GoodCall.{GoodCall, lowered}
 use Rattle.orc_frame.specs.Function.{IsCellByte, subject_of}
 use Rattle.orc_region.specs.Elements.{RowStands, InFarElements}
 use Rattle.orc_region.proofs.Block.Cells.{Numbers, OfDests}
 use Rattle.orc_region.proofs.Block.Emulated.{reach_is}
-use Rattle.orc_region.proofs.Block.Fars.{IsFarOf, IsFarFrom, InFars, FarGround, FarRow, far_at, scalar_in}
+use Rattle.orc_region.proofs.Block.Fars.{IsFarOf, InFars, FarGround, FarRow, scalar_in}
 use Rattle.orc_region.proofs.Checked.Direct.{HasFar, number_of}
 use Rattle.orc_region.proofs.Checked.Knows.{numbers_of, far_from}
 use Rattle.orc_region.proofs.Turn.Advancing.{IsSlot}
-use Rattle.orc_region.proofs.Calls.Agree.{HasSlot, IsNear, has_slot, near_variable, of_variable, byte_is}
+use Rattle.orc_region.proofs.Calls.Agree.{HasSlot, has_slot, near_variable, of_variable, byte_is}
 use Rattle.orc_region.proofs.Calls.Cells.{Arrays, call, P, row_base, stride_small, mapped, slot_at, cell_in, cell_frame}
 
 -- the address of an element, by its number modulo 2 ^ 64 and by its number
