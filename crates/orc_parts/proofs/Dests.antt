@@ -13,6 +13,7 @@ use Rattle.orc_frame.specs.Subject.{Call as Arguments, IsArray, InArray, InDests
 use Rattle.orc_frame.specs.GoodCall.{ReadsCall}
 use Rattle.orc_frame.specs.Function.{subject_of}
 use Rattle.orc_region.proofs.Checked.Slots.{Limits}
+use Rattle.orc_program.proofs.Near.{all_near, element_of}
 use Rattle.orc_program.proofs.Places.{before_less}
 use Rattle.orc_region.proofs.Calls.Agree.{HasSlot, has_slot, in_slot, of_variable}
 use Rattle.orc_parts.specs.Split.{call_with}
@@ -37,7 +38,7 @@ module _ (f : FunctionValue) (few : Limits f) (near : has_far f ≡ false) (args
   pub dest_by_slot : (a p r i j : ℕ) → IsDestByte f (call_with f args) a p r i j → InDests (subject_of f) args a
   dest_by_slot a p r i j d =
       let is : is_of kind.Dest (var_at f.vars p) ≡ true = ap (same_kind kind.Dest) d.dest in
-      (slot_of f.vars p, dest_slot p d.byte.array.0 is, subst (InArray (subject_of f) args (slot_of f.vars p)) (sym d.here) (in_slot f few near args words p r i j d.byte))
+      (slot_of f.vars p, dest_slot p d.byte.array.0 is, subst (InArray (subject_of f) args (slot_of f.vars p)) (sym d.here) (in_slot f few args words p r i j d.byte (element_of f (call_with f args) near p i d.byte.element)))
 
   -- the variable of a dest's slot is a dest
   is_dest : (k : ℕ) → k < count_of kind.Dest f.vars → (h : HasSlot f k) → is_of kind.Dest (var_at f.vars h.place) ≡ true
@@ -55,5 +56,5 @@ module _ (f : FunctionValue) (few : Limits f) (near : has_far f ≡ false) (args
   dest_by_variable a w =
       let h = has_slot f w.0 (inl w.1) in
       let x = subst (λ k. InArray (subject_of f) args k a) (sym h.slot) w.2 in
-      let b = of_variable f few near args words h.place a h.array x in
+      let b = of_variable f few args words h.place a h.array (all_near f near h.place) x in
       (h.place, x.0, x.2, x.4, record { byte = b.0; dest = dest_of (var_at f.vars h.place).kind (is_dest w.0 w.1 h); here = b.1 })

@@ -257,7 +257,7 @@ module _ {target : Target} (f : FunctionValue) (is : is_function f ≡ true) (at
                 bytes = λ g r. lit< tt;
                 sums = λ g l b lb. w.in_sums g (omega (arith, l, sums_count f)) b lb;
                 totals_are = λ g l. ap (cut (8 * width_of f g)) (no_lanes (width_of f g));
-                spilled = λ x i. is_mapped c.memory d.memory x (sym (memory x)) (h.frame x ((let l = i.0 in omega (arith, l, stack)), (let u = i.1 in omega (arith, u, stack))));
+                worked = λ x i. is_mapped c.memory d.memory x (sym (memory x)) (h.frame x ((let l = i.0 in omega (arith, l, stack)), (let u = i.1 in omega (arith, u, stack))));
               };
               agrees = λ p l k. sym (zero-mod (2 ^ (8 * (var_at f.vars p).size)));
             };

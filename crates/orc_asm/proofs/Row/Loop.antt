@@ -24,7 +24,7 @@ use Rattle.orc_asm.specs.Rows.{rows_code, row_entry_code, one_row_code, row_step
 use Rattle.orc_region.proofs.Block.Registers.{not_4, not_7}
 use Rattle.orc_region.proofs.Block.Keeping.{line_bounded, ins_of}
 use Rattle.orc_asm.proofs.Row.Emulated.{more_rows}
-use Rattle.orc_region.proofs.Calls.Cells.{Arrays, stack_room, call, row_base, base_small, first_base, next_base, rows_small, dest_cell, cell_block}
+use Rattle.orc_region.proofs.Calls.Cells.{Arrays, InUse, stack_room, call, row_base, base_small, first_base, next_base, rows_small, dest_cell, cell_block}
 use Rattle.orc_asm.proofs.Row.Counts.{fine_rows, fine_row_entry, fine_one_row, fine_row_step, rows_count, row_entry_count, one_row_count, row_step_count, rows_free, row_entry_free, one_row_free, row_step_free}
 use Rattle.orc_asm.proofs.Row.Lines.{InRows, Changes, array_changes, rows_change, in_rows, OnWay, TouchesFew, HasRows, rows_line, row_entry_line, one_row_line, row_step_line}
 
@@ -89,8 +89,8 @@ module _ (f : FunctionValue) (known : Arrays f) (code : Placed) (s : Point) (arg
     pub record Ready (r : ℕ) (e : State) (c : Core) : Type 0 where
       pub emulated : rows_of f (call f known code s args back good) r (start s.core.memory) ≡ Ok e
       pub steady : Steady e c
-      pub pointers : (k : ℕ) → IsArray (subject_of f) k → c.gpr (pointer k) ≡ slot_base r k
-      pub bases : (k : ℕ) → IsArray (subject_of f) k → word c.memory (rsp + row_slot k) ≡ Some (slot_base r k)
+      pub pointers : (k : ℕ) → InUse f known code s args back good k → c.gpr (pointer k) ≡ slot_base r k
+      pub bases : (k : ℕ) → InUse f known code s args back good k → word c.memory (rsp + row_slot k) ≡ Some (slot_base r k)
       pub counter : c.gpr 1 ≡ args.n
       pub tests : test Ne c.flags ≡ Some (not (c.gpr 1 == 0))
 
@@ -141,7 +141,7 @@ module _ (f : FunctionValue) (known : Arrays f) (code : Placed) (s : Point) (arg
       slot_word : (c d : Core) → ((x : ℕ) → InRows rsp rdi stack_low good.block_low x → d.memory x ≡ c.memory x) → (k v : ℕ) → Changes rsp rdi stack_low good.block_low k → word c.memory (rsp + row_slot k) ≡ Some v → word d.memory (rsp + row_slot k) ≡ Some v
       slot_word c d same k v l q = word_same d.memory c.memory (rsp + row_slot k) (omega (arith, stack_low, l.0)) (λ x a b. same x (in_rows rsp rdi stack_low good.block_low k x l (a, b))) ∙ q
 
-      slot_few : (k : ℕ) → IsArray (subject_of f) k → k < 12
+      slot_few : (k : ℕ) → InUse f known code s args back good k → k < 12
       slot_few k (inl h) = (let a = known.few.dests in omega (arith, h, a))
       slot_few k (inr h) = (let a = known.few.sources in omega (arith, h.1, a))
 
