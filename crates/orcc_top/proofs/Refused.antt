@@ -1,6 +1,7 @@
 -- Texts without a fault that have no code.
 use Rattle.std.proofs.Common.{◌≡◌, ◌≤◌, ◌<◌, ℕ, zero, suc, false, List, [], ◌∷◌, length, get_or, Option, Some, None, option_map, refl, sym, ap, subst, ◌∙◌, arith}
 use Rattle.std.specs.Option.{option_or}
+use Rattle.orc_program.specs.declared.fault.Fault.{Fault}
 use Rattle.orc_program.specs.declared.fault.Fault.TheVariants as fault
 use Rattle.orc_program.specs.Program.{FunctionValue, ProgramValue, has_far, far_line, or_later, first_far_line}
 use Rattle.orc_program.proofs.Near.{no_line}
@@ -13,10 +14,10 @@ use Rattle.orcc_top.specs.Answer.{limit_of, refusal_of, refusal_within, Refuses}
 use Rattle.orcc_top.specs.Assembly.{first_pressure_in, pressure_refusal}
 use Rattle.orcc_top.specs.Code.{command_for}
 use Rattle.orcc_top.specs.Refusals.{line_of}
-use Rattle.orcc_top.specs.Texts.{near_refusal, far_refusal, ReadsNear, TellsNear, TellsFault}
+use Rattle.orcc_top.specs.Texts.{fault_refusal, far_refusal, ReadsNear, TellsNear, TellsFault}
 use Rattle.orcc_top.proofs.Limits.{within_limit}
 
-within_form : (form : Form) (text : List ℕ) → refusal_within (command_for form) text ≡ option_or (near_refusal text) (pressure_refusal text)
+within_form : (form : Form) (text : List ℕ) → refusal_within (command_for form) text ≡ option_or (fault_refusal text) (pressure_refusal text)
 within_form (Image target) text = refl
 within_form Object text = refl
 
@@ -27,19 +28,20 @@ form_limit Object = refl
 form_short : (form : Form) (text : List ℕ) → length text ≤ 1048576 → length text ≤ limit_of (command_for form)
 form_short form text short = subst (λ n. length text ≤ n) (sym (form_limit form)) short
 
--- a text without a fault and without a far load is refused for its first pressure alone
-near_refused : (form : Form) (text : List ℕ) (p : ProgramValue) → length text ≤ 1048576 → ReadsNear text p → refusal_of (command_for form) text ≡ pressure_refusal text
-near_refused form text p short reads =
-    within_limit (command_for form) text (form_short form text short) ∙ within_form form text ∙ ap (λ o. option_or o (pressure_refusal text)) reads.accepted
+-- a text without a fault is refused for its first pressure alone
+read_refused : (form : Form) (text : List ℕ) (p : ProgramValue) → length text ≤ 1048576 → Reads text p → refusal_of (command_for form) text ≡ pressure_refusal text
+read_refused form text p short reads =
+    within_limit (command_for form) text (form_short form text short) ∙ within_form form text
+    ∙ ap (λ o. option_or (option_map (λ (x : ℕ × Fault). refusal.Text x.0 x.1) o) (pressure_refusal text)) reads.faultless
 
 same_functions : (text : List ℕ) (p : ProgramValue) (fs : List FunctionValue) → Reads text p → fs ≡ p.functions → (text_program text).functions ≡ fs
 same_functions text p fs reads same = ap (λ (q : ProgramValue). q.functions) (sym reads.program) ∙ sym same
 
-pub form_pressure_refuses : (form : Form) (text line : List ℕ) (p : ProgramValue) (fs : List FunctionValue) (found : Pressure) → length text ≤ 1048576 → ReadsNear text p → fs ≡ p.functions
+pub form_pressure_refuses : (form : Form) (text line : List ℕ) (p : ProgramValue) (fs : List FunctionValue) (found : Pressure) → length text ≤ 1048576 → Reads text p → fs ≡ p.functions
     → first_pressure_in fs ≡ Some found → line ≡ line_of (refusal.Pressure found.line found.need) → Refuses (command_for form) text line
 form_pressure_refuses form text line p fs found short reads same first says = record {
   refusal = refusal.Pressure found.line found.need;
-  refused = near_refused form text p short reads ∙ ap (option_map (λ (x : Pressure). refusal.Pressure x.line x.need)) (ap first_pressure_in (same_functions text p fs reads.reads same) ∙ first);
+  refused = read_refused form text p short reads ∙ ap (option_map (λ (x : Pressure). refusal.Pressure x.line x.need)) (ap first_pressure_in (same_functions text p fs reads same) ∙ first);
   says = says;
 }
 

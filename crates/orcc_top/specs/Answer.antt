@@ -36,14 +36,14 @@ dis_refusal input = if begins_elf input then option_map (λ e. Object e) (first_
 
 -- why a command refuses an input within its limit, if it does
 abbrev pub refusal_within : Command → List ℕ → Option Refusal
-refusal_within (Asm target) input = option_or (near_refusal input) (pressure_refusal input)
+refusal_within (Asm target) input = option_or (fault_refusal input) (pressure_refusal input)
 refusal_within C input = near_refusal input
 refusal_within (Check target) input = fault_refusal input
 refusal_within Fmt input = fault_refusal input
 refusal_within Run input = run_refusal input
 refusal_within Dis input = dis_refusal input
 refusal_within Emulate input = emulate_refusal input
-refusal_within Obj input = option_or (near_refusal input) (pressure_refusal input)
+refusal_within Obj input = option_or (fault_refusal input) (pressure_refusal input)
 refusal_within (Jobs w) input = jobs_refusal w.count input
 
 -- why a command refuses an input, if it does: for its length, or else for what it says

@@ -1,10 +1,10 @@
 -- The image of a text, and why a text without a fault has none.
-use Rattle.std.specs.Prelude.{◌≡◌, ℕ, false, List, [], ◌∷◌, Option, Some, None, option_map, if◌then◌else◌}
+use Rattle.std.specs.Prelude.{◌≡◌, ℕ, List, [], ◌∷◌, Option, Some, None, option_map, if◌then◌else◌}
 use Rattle.std.specs.List.{list_all}
 use Rattle.std.specs.Option.{option_or}
 use Rattle.orc_ops.specs.declared.target.Target.{Target}
 use Rattle.orc_program.specs.declared.program.VarKind.TheVariants as kind
-use Rattle.orc_program.specs.Program.{FunctionValue, ProgramValue, count_of, has_far}
+use Rattle.orc_program.specs.Program.{FunctionValue, ProgramValue, count_of}
 use Rattle.orc_program.specs.Facts.{facts_of, is_free}
 use Rattle.orc_text.specs.Reads.{Reads, text_program}
 use Rattle.orc_plan.specs.declared.steps.Pressure.{Pressure}
@@ -18,9 +18,8 @@ use Rattle.orcc_top.specs.declared.refusal.Refusal.TheVariants as refusal
 
 -- ---- the image
 
--- an image's function with the name, the counts and the facts of a function of the text without far loads, and with code for a target whose good calls do what that function means, in at most as many steps as are stated for the target, inside larger memories too, change nothing on the way but dests' cells, accumulators' words and the frame, touch cells at most once a turn for each operand that is an array, and store the first dest aligned wherever that can be done in every row
+-- an image's function with the name, the counts and the facts of a function of the text, and with code for a target whose good calls do what that function means, in at most as many steps as are stated for the target, inside larger memories too, change nothing on the way but dests' cells, accumulators' words and the frame, touch cells at most once a turn for each operand that is an array, and store the first dest aligned wherever that can be done in every row
 pub record EntryOf (target : Target) (f : FunctionValue) (entry : spelling.FunctionValue) : Type 0 where
-  pub near : has_far f ≡ false
   pub name : entry.name ≡ f.name
   pub two_d : entry.two_d ≡ f.two_d
   pub dests : entry.dests ≡ count_of kind.Dest f.vars

@@ -1,9 +1,9 @@
 -- Laws of the code that is written and of its runs.
-use Rattle.std.specs.Prelude.{◌≡◌, ℕ, ◌≤◌, true, List, Ok, slice_index}
+use Rattle.std.specs.Prelude.{◌≡◌, ℕ, ◌≤◌, true, false, List, Ok, slice_index}
 use Rattle.orc_bits.specs.Memory.{Memory}
 use Rattle.orc_bits.specs.Parts.{memory_of}
 use Rattle.orc_ops.specs.declared.target.Target.{Target}
-use Rattle.orc_program.specs.Program.{FunctionValue, array_number, var_at}
+use Rattle.orc_program.specs.Program.{FunctionValue, array_number, has_far, var_at}
 use Rattle.orc_program.specs.Kept.{is_function}
 use Rattle.orc_program.specs.Meaning.{emulate, rows}
 use Rattle.orc_program.specs.Need.{steps}
@@ -24,9 +24,9 @@ use Rattle.orcc_top.specs.Execution.{Ran}
 abbrev pub AreSizes : FunctionValue → List ℕ → Type 0
 AreSizes f sizes = (p : ℕ) → IsArray f p → slice_index sizes (array_number f.vars p) ≡ (var_at f.vars p).size
 
--- an image's function that is the entry of a function of a text is code of it, and is compiled from it
+-- an image's function that is the entry of a function of a text, one without far loads, is code of it, and is compiled from it
 abbrev pub EntriesAreCompiled : Type 0
-EntriesAreCompiled = (f : FunctionValue) (target : Target) (entry : image.FunctionValue) → is_function f ≡ true → image.IsFunction entry → EntryOf target f entry
+EntriesAreCompiled = (f : FunctionValue) (target : Target) (entry : image.FunctionValue) → is_function f ≡ true → has_far f ≡ false → image.IsFunction entry → EntryOf target f entry
     → IsCodeOf f target entry × ((sizes : List ℕ) → AreSizes f sizes → IsCompiled f target entry sizes)
 
 -- ---- runs of good jobs

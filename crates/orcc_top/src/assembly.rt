@@ -1,7 +1,7 @@
 //! Assembling a text.
 ghost use Rattle.std.specs.Prelude.{◌≡◌, ◌≤◌, None, true, false, length, map, IfOk, OnOk, IfErr};
 ghost use Rattle.std.specs.List.{list_all};
-ghost use Rattle.orc_program.specs.Program.{count_of, has_far, first_far_line};
+ghost use Rattle.orc_program.specs.Program.{count_of};
 ghost use Rattle.orc_program.specs.Kept.{is_function, all_distinct, most_of};
 ghost use Rattle.orc_program.specs.Facts.{facts_of, is_free};
 ghost use Rattle.orc_image.specs.Spelling.{is_version};
@@ -11,7 +11,7 @@ ghost use Rattle.orcc_top.specs.Code.{HoldsCode, command_for};
 ghost use Rattle.orcc_top.specs.Replies.{Replies};
 
 use crate::objects::object_bytes;
-use crate::parsing::read_near;
+use crate::parsing::read_text;
 use crate::refusal::{Refusal, line_of};
 use crate::reply::Reply;
 use orc_asm::{AsmError, assemble_for};
@@ -41,7 +41,6 @@ pub fn count(f: &Function, kind: VarKind) -> u8
 
 /// A function's entry in an image.
 fn entry_of(alloc: Global, f: &Function, target: Target) -> Result<ImageFunction, AsmError>
-    requires near { has_far f.now ≡ false }
     ensures entry { IfOk result (λ entry. EntryOf target f.now entry) }
     ensures placed { OnOk result (first_pressure f.now ≡ None) }
     ensures refusal { IfErr result (λ e. IsRefusal f.now e) }
@@ -87,7 +86,6 @@ fn version_of(functions: &[Function]) -> u8
 pub fn image_of(alloc: Global, functions: &[Function], target: Target) -> Result<Image, AsmError>
     requires few { length functions.now ≤ 64 }
     requires distinct { all_distinct (map (λ f. f.name) functions.now) ≡ true }
-    requires near { first_far_line functions.now ≡ None }
     ensures entries { IfOk result (λ image. EntriesOf target functions.now image.functions) }
     ensures version { IfOk result (λ image. image.version ≡ version_of functions.now) }
     ensures placed { OnOk result (first_pressure_in functions.now ≡ None) }
@@ -107,7 +105,6 @@ pub fn image_of(alloc: Global, functions: &[Function], target: Target) -> Result
 fn image_bytes(alloc: Global, functions: &[Function], target: Target) -> Result<Vec<u8>, AsmError>
     requires few { length functions.now ≤ 64 }
     requires distinct { all_distinct (map (λ f. f.name) functions.now) ≡ true }
-    requires near { first_far_line functions.now ≡ None }
     ensures holds { IfOk result (λ bytes. HoldsCode (Form.Image target) functions.now bytes.items) }
     ensures placed { OnOk result (first_pressure_in functions.now ≡ None) }
     ensures pressure { IfErr result (λ e. TellsPressure (first_pressure_in functions.now) e) }
@@ -123,7 +120,6 @@ fn image_bytes(alloc: Global, functions: &[Function], target: Target) -> Result<
 fn bytes_of(alloc: Global, form: Form, functions: &[Function]) -> Result<Vec<u8>, AsmError>
     requires few { length functions.now ≤ 64 }
     requires distinct { all_distinct (map (λ f. f.name) functions.now) ≡ true }
-    requires near { first_far_line functions.now ≡ None }
     ensures holds { IfOk result (λ bytes. HoldsCode form functions.now bytes.items) }
     ensures placed { OnOk result (first_pressure_in functions.now ≡ None) }
     ensures pressure { IfErr result (λ e. TellsPressure (first_pressure_in functions.now) e) }
@@ -139,7 +135,7 @@ pub fn assemble_text(alloc: Global, form: Form, text: &[u8]) -> Result<Reply, Al
     requires { length text.now ≤ 1048576 }
     ensures { IfOk result (λ reply. Replies (command_for form) text.now reply) }
 {
-    let program = match read_near(alloc, text)? {
+    let program = match read_text(alloc, text)? {
         Ok(program) => program,
         Err(line) => return Ok(Reply::Refusal(line)),
     };

@@ -1,6 +1,5 @@
 //! The object of a text.
 ghost use Rattle.std.specs.Prelude.{◌≡◌, ◌≤◌, None, true, false, length, map, IfOk, OnOk, IfErr};
-ghost use Rattle.orc_program.specs.Program.{has_far, first_far_line};
 ghost use Rattle.orc_program.specs.Kept.{all_distinct};
 ghost use Rattle.orc_asm.specs.Function.{first_pressure, IsRefusal};
 ghost use Rattle.orcc_top.specs.Assembly.{first_pressure_in, TellsPressure};
@@ -16,7 +15,6 @@ use std::alloc::{AllocError, Global};
 
 /// A function's entry in an object.
 fn entry_of(alloc: Global, f: &Function) -> Result<ElfEntry, AsmError>
-    requires near { has_far f.now ≡ false }
     ensures entry { IfOk result (λ entry. CompiledOf f.now entry) }
     ensures placed { OnOk result (first_pressure f.now ≡ None) }
     ensures refusal { IfErr result (λ e. IsRefusal f.now e) }
@@ -32,7 +30,6 @@ fn entry_of(alloc: Global, f: &Function) -> Result<ElfEntry, AsmError>
 fn object_of(alloc: Global, functions: &[Function]) -> Result<ElfCode, AsmError>
     requires few { length functions.now ≤ 64 }
     requires distinct { all_distinct (map (λ f. f.name) functions.now) ≡ true }
-    requires near { first_far_line functions.now ≡ None }
     ensures entries { IfOk result (λ object. OneForEach CompiledOf functions.now object.entries) }
     ensures placed { OnOk result (first_pressure_in functions.now ≡ None) }
     ensures pressure { IfErr result (λ e. TellsPressure (first_pressure_in functions.now) e) }
@@ -51,7 +48,6 @@ fn object_of(alloc: Global, functions: &[Function]) -> Result<ElfCode, AsmError>
 pub fn object_bytes(alloc: Global, functions: &[Function]) -> Result<Vec<u8>, AsmError>
     requires few { length functions.now ≤ 64 }
     requires distinct { all_distinct (map (λ f. f.name) functions.now) ≡ true }
-    requires near { first_far_line functions.now ≡ None }
     ensures holds { IfOk result (λ bytes. HoldsCode Form.Object functions.now bytes.items) }
     ensures placed { OnOk result (first_pressure_in functions.now ≡ None) }
     ensures pressure { IfErr result (λ e. TellsPressure (first_pressure_in functions.now) e) }

@@ -5,7 +5,6 @@ use Rattle.orc_program.specs.Facts.{is_free}
 use Rattle.orcc_top.specs.Assembly.{EntryOf}
 use Rattle.orcc_top.proofs.Each.{each_further, next_room, next_new}
 use Rattle.orcc_top.proofs.Entries.{entry_named, free_at, placed_further, tells_next}
-use Rattle.orcc_top.proofs.Refused.{near_at}
 use Rattle.orcc_top.proofs.assembly.image_of.Goals as goal
 
 pub returns-in_err-entry-clause-pressure : goal.returns-in_err-entry-clause-pressure
@@ -32,6 +31,3 @@ loop-f-preserved c =
       version = grind (arith, common_steps);
       placed = placed_further c.args.functions.now c.loop-f.f-index c.f-item.result c.loop-f-test.true c.f-item.is c.loop-f.invariant.placed c.in_ok-entry.ensures.placed;
     }
-
-pub entry_of-requires : goal.entry_of-requires
-entry_of-requires c = record { near = near_at c.args.functions.now c.loop-f.f-index c.f-item.result c.loop-f-test.true c.f-item.is c.requires.near }

@@ -4,7 +4,6 @@ use Rattle.std.proofs.lemmas.Result.{err_from_is_err_and}
 use Rattle.orcc_top.specs.Objects.{CompiledOf}
 use Rattle.orcc_top.proofs.Each.{each_further, next_room, next_new}
 use Rattle.orcc_top.proofs.Entries.{compiled_named, placed_further, tells_next}
-use Rattle.orcc_top.proofs.Refused.{near_at}
 use Rattle.orcc_top.proofs.objects.object_of.Goals as goal
 
 pub returns-in_err-entry-clause-pressure : goal.returns-in_err-entry-clause-pressure
@@ -25,6 +24,3 @@ loop-f-preserved c =
       entries = each_further CompiledOf c.args.functions.now c.loop-f.f-index _ _ c.f-item.result c.in_ok-entry.entry c.loop-f-test.true c.f-item.is grown c.loop-f.invariant.entries c.in_ok-entry.ensures.entry;
       placed = placed_further c.args.functions.now c.loop-f.f-index c.f-item.result c.loop-f-test.true c.f-item.is c.loop-f.invariant.placed c.in_ok-entry.ensures.placed;
     }
-
-pub entry_of-requires : goal.entry_of-requires
-entry_of-requires c = record { near = near_at c.args.functions.now c.loop-f.f-index c.f-item.result c.loop-f-test.true c.f-item.is c.requires.near }
