@@ -29,7 +29,7 @@ use Rattle.orc_frame.proofs.Reach.{Reaches, in_frame, in_block, saved_small}
 
 -- ---- instructions
 
-rex_short : (w r b : Bool) → length (rex_bits w r b) ≤ 1
+pub rex_short : (w r b : Bool) → length (rex_bits w r b) ≤ 1
 rex_short true true true = omega arith
 rex_short true true false = omega arith
 rex_short true false true = omega arith

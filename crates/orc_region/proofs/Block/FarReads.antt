@@ -11,6 +11,8 @@ use Rattle.orc_ops.specs.Formula.{formula}
 use Rattle.orc_ops.proofs.FarLaws.{lines}
 use Rattle.orc_program.specs.Meaning.{sub_lane, lanewise}
 use Rattle.orc_resample.specs.Ready.{Source, cell, element, some_or_zero, IsRead, value_at}
+use Rattle.orc_resample.proofs.Brought.{value_same}
+use Rattle.orc_resample.proofs.Brought.{value_alike as bytes_alike}
 use Rattle.orc_region.specs.Code.{copy_of}
 use Rattle.orc_region.proofs.Block.Fars.{HasByte}
 
@@ -106,21 +108,5 @@ copy_is Ldreslinl v l = copied_long v l
 
 -- ---- memories that agree on what is read
 
-read_alike : (n : ℕ) (m e : Memory) (a : ℕ) → ((j : ℕ) → j < n → m ((a + j) % 2 ^ 64) ≡ e ((a + j) % 2 ^ 64)) → read n m a ≡ read n e a
-read_alike zero m e a h = refl
-read_alike (suc n) m e a h =
-    let here : m (a % 2 ^ 64) ≡ e (a % 2 ^ 64) = subst (λ x. m (x % 2 ^ 64) ≡ e (x % 2 ^ 64)) (let q : a + 0 ≡ a = omega arith in q) (h 0 (omega arith)) in
-    let rest = read_alike n m e (a + 1) (λ j l. subst (λ x. m (x % 2 ^ 64) ≡ e (x % 2 ^ 64)) (let q : a + suc j ≡ a + 1 + j = omega arith in q) (h (suc j) (omega (arith, l)))) in
-    ap (λ o. bind o (λ b. bind (read n m (a + 1)) (λ bs. Some (b ∷ bs)))) here
-    ∙ ap (λ o. bind (e (a % 2 ^ 64)) (λ b. bind o (λ bs. Some (b ∷ bs)))) rest
-
-element_alike : (load : Far) (s : Source) (m e : Memory) (k : ℤ) → ((j : ℕ) → j < far_size load → m ((cell load s.base k + j) % 2 ^ 64) ≡ e ((cell load s.base k + j) % 2 ^ 64)) → element load m s.base k ≡ element load e s.base k
-element_alike load s m e k h = ap (λ o. some_or_zero (bind o (λ bs. Some (number bs)))) (read_alike (far_size load) m e (cell load s.base k) h)
-
 pub value_alike : (load : Far) (s : Source) (i : ℕ) (m e : Memory) → ((k : ℤ) → IsRead load s i k → (j : ℕ) → j < far_size load → m ((cell load s.base k + j) % 2 ^ 64) ≡ e ((cell load s.base k + j) % 2 ^ 64)) → value_at load s m i ≡ value_at load s e i
-value_alike load s i m e h =
-    let first = far_first load i s.p s.q in
-    let second = other first (far_second load i s.p s.q) in
-    let part = far_part load i s.p s.q in
-    ap (λ x. far_blend load x (element load m s.base second) part) (element_alike load s m e first (h first (inl refl)))
-    ∙ ap (λ y. far_blend load (element load e s.base first) y part) (element_alike load s m e second (h second (other_read load s i)))
+value_alike load s i m e h = value_same load s m e i (λ k is. ap some_or_zero (bytes_alike (far_size load) m e (cell load s.base k) (h k is)))

@@ -8,17 +8,7 @@ use Rattle.x86_ins.specs.declared.ins.Ins.TheVariants.{Vec, VecImm, Shuffle, Vec
 use Rattle.x86_ins.specs.Spelling.{IsAllowed, spelling, reg_form, mem_form, plus_form, rex, rex_bits, top, m_reg, m_mem}
 use Rattle.x86_ins.specs.Way.{Each}
 use Rattle.x86_flow.proofs.Spelled.{IsFine, fine_vec, fine_vec_load, fine_vec_store, fine_from_gpr, fine_to_gpr, fine_move, fine_load, fine_store, fine_load_8, fine_load_16, fine_store_8, fine_store_16, fine_alu, fine_alu_imm, fine_test, fine_shift}
-use Rattle.orc_frame.proofs.Counted.{fine_vec_imm, fine_shuffle}
-
-rex_short : (w r b : Bool) → length (rex_bits w r b) ≤ 1
-rex_short true true true = omega arith
-rex_short true true false = omega arith
-rex_short true false true = omega arith
-rex_short true false false = omega arith
-rex_short false true true = omega arith
-rex_short false true false = omega arith
-rex_short false false true = omega arith
-rex_short false false false = omega arith
+use Rattle.orc_frame.proofs.Counted.{rex_short, fine_vec_imm, fine_shuffle}
 
 plus_short : (wide : Bool) (opcode rm : ℕ) → length (plus_form wide opcode rm) ≤ 2
 unfolding plus_form

@@ -21,52 +21,19 @@ use Rattle.orc_resample.specs.Bring.{IsFarSource, IsKept, IsSpare, LiesIn, AreAp
 use Rattle.orc_resample.proofs.Touched.{bring_touches, bring_short, bring_allowed}
 use Rattle.orc_resample.proofs.Ranges.{bring_ins}
 use Rattle.orc_region.specs.Code.{far_source, from_zero_code}
+use Rattle.orc_region.proofs.Block.Far.{is_far_source}
 use Rattle.orc_region.proofs.Block.Registers.{pointer_small}
 use Rattle.orc_region.proofs.Sizes.Cost.{far_length}
 use Rattle.orc_region.proofs.Sizes.Allowed.{fine_each}
 
--- ---- its words lie in the frame
+-- ---- its instructions are allowed, and have few bytes
 
 module _ (ahead : ℕ) (load : Far) (array : ℕ) (js : List ℕ) (small : array < 12) (scalars : length js ≡ far_scalars load) (few : Each (λ j. j < 48) js) where
   abbrev source : FarSource
   source = far_source ahead load array js
 
-  -- the pattern of a scalar is one of the function's
-  scalar_is : (js : List ℕ) → Each (λ j. j < 48) js → (i : ℕ) → i < length js → (j : ℕ) × (j < 48) × (get_or (map (λ j. pos (pattern_slot j)) js) i (pos 0) ≡ pos (pattern_slot j))
-  scalar_is [] h i l = absurd (omega (arith, l))
-  scalar_is (j ∷ js) h zero l = (j, h.0, refl)
-  scalar_is (j ∷ js) h (suc i) l = scalar_is js h.1 i (omega (arith, l))
-
-  -- what is only read lies below the words that are written
-  abbrev IsLow : ℤ → Type 0
-  IsLow z = (d : ℕ) × (z ≡ pos d) × (d + 8 ≤ 1000)
-
-  kept_low : (z : ℤ) → IsKept source z → IsLow z
-  kept_low z (inl e) = (976, e, omega arith)
-  kept_low z (inr (inl e)) = (880 + 8 * array, e, omega (arith, small))
-  kept_low z (inr (inr (i, l, e))) = (let s = scalar_is js few i (omega (arith, l, scalars)) in (pattern_slot s.0, e ∙ s.2, (let m = s.1 in omega (arith, m))))
-
-  low_apart : (y z : ℤ) → IsSpare source y → IsLow z → AreApart y z
-  low_apart y z (inl e) h = subst (λ y. AreApart y z) (sym e) (subst (AreApart (pos 1000)) (sym h.1) (inr (let l = h.2 in omega (arith, l))))
-  low_apart y z (inr e) h = subst (λ y. AreApart y z) (sym e) (subst (AreApart (pos 1008)) (sym h.1) (inr (let l = h.2 in omega (arith, l))))
-
-  pub is_far_source : IsFarSource source
-  is_far_source = record {
-    scalars = length-map js (λ j. pos (pattern_slot j)) ∙ scalars;
-    kept = λ z k. (let h = kept_low z k in subst LiesIn (sym h.1) (let l = h.2 in omega (arith, l)));
-    spare = spare;
-    apart = λ y z s k. low_apart y z s (kept_low z k);
-    two = inl (omega arith);
-  }
-    where
-      spare : (z : ℤ) → IsSpare source z → LiesIn z
-      spare z (inl e) = subst LiesIn (sym e) (omega arith)
-      spare z (inr e) = subst LiesIn (sym e) (omega arith)
-
-  -- ---- its instructions are allowed, and have few bytes
-
   pub far_fine : (count : ℕ) → count ≤ 16 → IsWidth (count * far_size load) → ahead < 2 ^ 31 → Each IsFine (bring_code source count)
-  far_fine count most width near = fine_each (bring_code source count) (bring_allowed source count width (bring_ins source count is_far_source (pointer_small array small) (fits_up ahead near) most))
+  far_fine count most width near = fine_each (bring_code source count) (bring_allowed source count width (bring_ins source count (is_far_source ahead load array js small few scalars) (pointer_small array small) (fits_up ahead near) most))
 
 pub zero_fine : (x : ℕ) → x < 16 → Each IsFine (from_zero_code x)
 zero_fine x l = go (x == 0)
