@@ -61,6 +61,9 @@ made two_d patterns sizes params pattern_at sum_at stated = record {
   row_at = displacements row_slot 12;
   block_at = pos block_slot;
   rows_at = pos rows_slot;
+  left_at = pos left_slot;
+  index_at = pos index_slot;
+  work_at = pos work_slot;
   spill_at = pos (spill_slot 0);
   facts = stated;
 }

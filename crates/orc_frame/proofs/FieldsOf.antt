@@ -5,7 +5,7 @@ use Rattle.std.specs.List.{range_with_len}
 use Rattle.std.proofs.lemmas.List.FromFn.{length-range_with_len, get_or-map-range_with_len}
 use Rattle.std.proofs.lemmas.List.{length-map}
 use Rattle.orc_frame.specs.declared.frame.Layout.{Layout}
-use Rattle.orc_frame.specs.Layout.{displacements, frame_size, pattern_slot, sum_slot, row_slot, block_slot, rows_slot, spill_slots, spill_slot, layout_of}
+use Rattle.orc_frame.specs.Layout.{displacements, frame_size, pattern_slot, sum_slot, row_slot, block_slot, rows_slot, left_slot, index_slot, work_slot, spill_slots, spill_slot, layout_of}
 use Rattle.orc_frame.specs.Frame.{IsLayout}
 use Rattle.orc_frame.proofs.Facts.{facts}
 use Rattle.std.proofs.Math.Facts.{to_z_pos, Fits-of_lt}
@@ -64,6 +64,18 @@ block_is l h = read block_slot l.block_at (omega arith) (ap (λ (y : Layout). y.
 pub rows_is : (l : Layout) → IsLayout l → to_z w32 (of_z w32 l.rows_at) ≡ pos rows_slot
 unfolding layout_of
 rows_is l h = read rows_slot l.rows_at (omega arith) (ap (λ (y : Layout). y.rows_at) h.2)
+
+pub left_is : (l : Layout) → IsLayout l → to_z w32 (of_z w32 l.left_at) ≡ pos left_slot
+unfolding layout_of
+left_is l h = read left_slot l.left_at (omega arith) (ap (λ (y : Layout). y.left_at) h.2)
+
+pub index_is : (l : Layout) → IsLayout l → to_z w32 (of_z w32 l.index_at) ≡ pos index_slot
+unfolding layout_of
+index_is l h = read index_slot l.index_at (omega arith) (ap (λ (y : Layout). y.index_at) h.2)
+
+pub work_is : (l : Layout) → IsLayout l → to_z w32 (of_z w32 l.work_at) ≡ pos work_slot
+unfolding layout_of
+work_is l h = read work_slot l.work_at (omega arith) (ap (λ (y : Layout). y.work_at) h.2)
 
 pub spill_is : (l : Layout) → IsLayout l → to_z w32 (of_z w32 l.spill_at) ≡ pos (spill_slot 0)
 unfolding layout_of

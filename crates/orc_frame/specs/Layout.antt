@@ -81,6 +81,9 @@ layout_of f = record {
   row_at = displacements row_slot 12;
   block_at = pos block_slot;
   rows_at = pos rows_slot;
+  left_at = pos left_slot;
+  index_at = pos index_slot;
+  work_at = pos work_slot;
   spill_at = pos (spill_slot 0);
   facts = facts_of f;
 }
@@ -100,7 +103,7 @@ abbrev pub spilled_of : Layout → List (ℤ × ℕ)
 spilled_of l = with_size 16 (map (λ k. l.spill_at +ℤ pos (16 * k)) (range_with_len 0 spill_slots))
 
 abbrev pub slots_of : Layout → List (ℤ × ℕ)
-slots_of l = with_size 16 l.pattern_at.items ++ (with_size 16 l.sum_at.items ++ (with_size 8 l.saved_at ++ (with_size 8 l.row_at ++ (l.block_at, 8) ∷ (l.rows_at, 8) ∷ (pos left_slot, 8) ∷ (pos index_slot, 8) ∷ (pos work_slot, 16) ∷ spilled_of l)))
+slots_of l = with_size 16 l.pattern_at.items ++ (with_size 16 l.sum_at.items ++ (with_size 8 l.saved_at ++ (with_size 8 l.row_at ++ (l.block_at, 8) ∷ (l.rows_at, 8) ∷ (l.left_at, 8) ∷ (l.index_at, 8) ∷ (l.work_at, 16) ∷ spilled_of l)))
 
 -- from a displacement on, each slot ends where or before the next begins, and the last within the frame
 abbrev pub LieApart : ℤ → List (ℤ × ℕ) → Type 0

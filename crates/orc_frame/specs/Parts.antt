@@ -14,10 +14,6 @@ InFrame rsp = Between rsp (rsp + frame_size)
 abbrev pub InRunning : ℕ → ℕ → ℕ → Type 0
 InRunning rsp count = Between (rsp + sum_slot 0) (rsp + sum_slot count)
 
--- in it the spill slots
-abbrev pub InSpilled : ℕ → ℕ → Type 0
-InSpilled rsp = Between (rsp + spill_slot 0) (rsp + spill_slot spill_slots)
-
 -- the words in which far loads' code works, and behind them the spill slots
 abbrev pub InWorked : ℕ → ℕ → Type 0
 InWorked rsp = Between (rsp + index_slot) (rsp + spill_slot spill_slots)

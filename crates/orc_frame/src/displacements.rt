@@ -2,7 +2,7 @@
 
 ghost use Rattle.std.specs.Prelude.{◌≡◌, ◌<◌, length, pos};
 ghost use Rattle.orc_frame.specs.Frame.{IsLayout};
-ghost use Rattle.orc_frame.specs.Layout.{pattern_slot, sum_slot, row_slot, block_slot, rows_slot, spill_slots, spill_slot};
+ghost use Rattle.orc_frame.specs.Layout.{pattern_slot, sum_slot, row_slot, block_slot, rows_slot, left_slot, index_slot, work_slot, spill_slots, spill_slot};
 
 use crate::frame::Layout;
 
@@ -47,6 +47,30 @@ pub fn rows_at(layout: &Layout) -> i32
     ensures { result ≡ pos rows_slot }
 {
     layout.rows_at
+}
+
+/// Where the word is in which the elements that are left in a row's body wait while its head is done.
+pub fn left_at(layout: &Layout) -> i32
+    requires { IsLayout layout.now }
+    ensures { result ≡ pos left_slot }
+{
+    layout.left_at
+}
+
+/// Where the word is in which a far load's code puts the number of its first element.
+pub fn index_at(layout: &Layout) -> i32
+    requires { IsLayout layout.now }
+    ensures { result ≡ pos index_slot }
+{
+    layout.index_at
+}
+
+/// Where the 16 bytes are in the first word of which RCX waits while a far load's code gathers.
+pub fn work_at(layout: &Layout) -> i32
+    requires { IsLayout layout.now }
+    ensures { result ≡ pos work_slot }
+{
+    layout.work_at
 }
 
 /// Where the 16 bytes of a spill slot are.

@@ -27,6 +27,12 @@ pub struct Layout {
     pub block_at: i32,
     /// The displacement of the word of the rows left.
     pub rows_at: i32,
+    /// The displacement of the word in which the elements that are left in a row's body wait while its head is done.
+    pub left_at: i32,
+    /// The displacement of the word in which a far load's code puts the number of its first element.
+    pub index_at: i32,
+    /// The displacement of the 16 bytes in the first word of which RCX waits while a far load's code gathers.
+    pub work_at: i32,
     /// The displacement of the first spill slot, which holds values of temps for which no register is left. Slot k is 16 * k bytes further.
     pub spill_at: i32,
     /// What is known of every call.

@@ -13,11 +13,13 @@ mod pushes;
 mod slots;
 mod words;
 
-pub use displacements::{block_at, pattern_at, row_at, rows_at, spill_slot_at, sum_at};
+pub use displacements::{
+    block_at, index_at, left_at, pattern_at, row_at, rows_at, spill_slot_at, sum_at, work_at,
+};
 pub use frame::Layout;
 pub use lists::{epilogue, prologue};
 pub use pushes::{BLOCK, STACK, slot};
-pub use slots::{FRAME_SIZE, INDEX_AT, LEFT_AT, WORK_AT, layout};
+pub use slots::{FRAME_SIZE, layout};
 pub use words::{
     BLOCK_SIZE, ELEMENTS_WORD, ROWS_WORD, base_word, param_word, stride_word, sum_word,
 };

@@ -12,15 +12,6 @@ use orc_program::{Function, Var, VarKind, facts, patterns};
 /// The bytes of the frame.
 pub const FRAME_SIZE: usize = 2048;
 
-/// The displacement of the word in which the elements that are left in a row's body wait while its head is done.
-pub const LEFT_AT: i32 = 992;
-
-/// The displacement of the word in which a far load's code puts the number of its first element.
-pub const INDEX_AT: i32 = 1000;
-
-/// The displacement of the word in which RCX waits while a far load's code gathers.
-pub const WORK_AT: i32 = 1008;
-
 /// Gives each number of a function its slot in the frame.
 #[tactic(auto, using(crate::proofs::Places::limits))]
 pub fn layout(f: &Function) -> Layout
@@ -40,6 +31,9 @@ pub fn layout(f: &Function) -> Layout
         row_at: [880, 888, 896, 904, 912, 920, 928, 936, 944, 952, 960, 968],
         block_at: 976,
         rows_at: 984,
+        left_at: 992,
+        index_at: 1000,
+        work_at: 1008,
         spill_at: 1024,
         facts: facts(f),
     }

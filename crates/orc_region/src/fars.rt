@@ -9,7 +9,7 @@ ghost use Rattle.orc_region.specs.Code.{FromFar, IsLoaded, far_by, far_source, f
 use crate::lists::pointer;
 use crate::span::Setting;
 use arrayvec::ArrayVec;
-use orc_frame::{INDEX_AT, Layout, WORK_AT, block_at, pattern_at, row_at};
+use orc_frame::{Layout, block_at, index_at, pattern_at, row_at, work_at};
 use orc_ops::Far;
 use orc_plan::Item;
 use orc_resample::{FarSource, bring};
@@ -64,8 +64,8 @@ fn far_source(setting: &Setting<'_>, far: Far, slot: usize, scalars: &[Item]) ->
         far,
         array: row_at(layout, slot),
         scalars: scalars_at(layout, scalars),
-        index: INDEX_AT,
-        work: WORK_AT,
+        index: index_at(layout),
+        work: work_at(layout),
         block: block_at(layout),
         pointer: pointer(slot),
         ahead: (setting.span.first * setting.sizes[slot] as usize) as i32,

@@ -6,10 +6,11 @@ ghost use Rattle.x86_ins.specs.declared.ins.AluOp.TheVariants.{Add};
 ghost use Rattle.x86_ins.specs.declared.ins.Ins.TheVariants.{Alu, AluImm};
 ghost use Rattle.x86_flow.specs.Flow.{Plain, flat};
 ghost use Rattle.x86_flow.specs.Tree.{flat_of};
+ghost use Rattle.orc_frame.specs.Frame.{IsLayout};
 ghost use Rattle.orc_region.specs.Regions.{TurnParts, gap_code, gap_flow, low_bits_code, behind_code, enter_head_code, leave_head_code, part_flow, parts_flow, wide_loops, aligned_row, whole_row, plain_row, tested_row};
 
 use crate::lists::{COUNTER, pointer};
-use orc_frame::{LEFT_AT, slot};
+use orc_frame::{Layout, left_at, slot};
 use std::alloc::{AllocError, Global};
 use x86_flow::tree::{Flow, chain, choice, plain, repeat};
 use x86_flow::{Block, SCRATCH};
@@ -135,14 +136,15 @@ fn behind_list(alloc: Global, lanes: usize) -> Result<InsList, AllocError>
 }
 
 /// Keeps the body's count, and makes the counter so many elements less than there are in the head.
-fn enter_head_list(alloc: Global, lanes: usize) -> Result<InsList, AllocError>
-    requires { lanes ≤ 64 }
+fn enter_head_list(alloc: Global, layout: &Layout, lanes: usize) -> Result<InsList, AllocError>
+    requires layout { IsLayout layout.now }
+    requires most { lanes ≤ 64 }
     ensures { IfOk result (λ list. list ≡ enter_head_code lanes) }
 {
     let mut list = InsList::new(alloc);
     list.push(Ins::Store {
         src: COUNTER,
-        at: slot(LEFT_AT),
+        at: slot(left_at(layout)),
     })?;
     list.push(Ins::Move {
         dst: COUNTER,
@@ -157,13 +159,14 @@ fn enter_head_list(alloc: Global, lanes: usize) -> Result<InsList, AllocError>
 }
 
 /// Takes the body's count again.
-fn leave_head_list(alloc: Global) -> Result<InsList, AllocError>
+fn leave_head_list(alloc: Global, layout: &Layout) -> Result<InsList, AllocError>
+    requires { IsLayout layout.now }
     ensures { IfOk result (λ list. list ≡ leave_head_code) }
 {
     let mut list = InsList::new(alloc);
     list.push(Ins::Load {
         dst: COUNTER,
-        at: slot(LEFT_AT),
+        at: slot(left_at(layout)),
     })?;
     list.push(Ins::Test {
         a: COUNTER,
@@ -189,12 +192,19 @@ fn counted(alloc: Global, op: AluOp, by: usize) -> Result<InsList, AllocError>
 
 /// The elements to the boundary, and then whole turns.
 #[tactic(auto, using(crate::proofs::Built::Loops::spelled_enter, crate::proofs::Built::Loops::spelled_leave))]
-fn reached(alloc: Global, lanes: usize, head: Flow, aligned: Flow) -> Result<Flow, AllocError>
-    requires { lanes ≤ 64 }
+fn reached(
+    alloc: Global,
+    layout: &Layout,
+    lanes: usize,
+    head: Flow,
+    aligned: Flow,
+) -> Result<Flow, AllocError>
+    requires layout { IsLayout layout.now }
+    requires most { lanes ≤ 64 }
     ensures { IfOk result (λ flow. flat_of flow ≡ enter_head_code lanes ++ (flat_of head ++ (leave_head_code ++ flat_of aligned))) }
 {
-    let enter = of(enter_head_list(alloc, lanes)?);
-    let leave = of(leave_head_list(alloc)?);
+    let enter = of(enter_head_list(alloc, layout, lanes)?);
+    let leave = of(leave_head_list(alloc, layout)?);
     let body = chain(alloc, leave, aligned)?;
     let rest = chain(alloc, head, body)?;
     chain(alloc, enter, rest)
@@ -296,12 +306,14 @@ pub fn wide_loops(
 #[tactic(auto, using(crate::proofs::Built::Loops::spelled_behind, crate::proofs::Built::Loops::aligned_whole))]
 pub fn aligned_loops(
     alloc: Global,
+    layout: &Layout,
     shift: u8,
     lanes: usize,
     ends: Ends,
     wide: Flow,
     aligned: Flow,
 ) -> Result<Flow, AllocError>
+    requires layout { IsLayout layout.now }
     requires shift { shift ≤ 3 }
     requires lanes { lanes ≤ 64 }
     requires same { flat_of ends.head ≡ flat_of ends.tail }
@@ -310,7 +322,7 @@ pub fn aligned_loops(
     let Ends { head, tail } = ends;
     let gap = gap(alloc, shift)?;
     let behind = of(behind_list(alloc, lanes)?);
-    let yes = reached(alloc, lanes, head, aligned)?;
+    let yes = reached(alloc, layout, lanes, head, aligned)?;
     let no = unreached(alloc, wide)?;
     let either = choice(alloc, Cond::Ns, yes, no)?;
     let turns = chain(alloc, either, tail)?;

@@ -369,7 +369,7 @@ fn from_boundary(
     }
     let ends = ends(alloc, making, lanes, lanes / 2)?;
     let shift = shift_of(core.sizes[0] as usize);
-    aligned_loops(alloc, shift, lanes, ends, wide, turns)
+    aligned_loops(alloc, layout, shift, lanes, ends, wide, turns)
 }
 
 /// The loops over the elements of a row.
