@@ -5,7 +5,7 @@ use Rattle.orc_bits.specs.Memory.{Memory, bind, read, number, value}
 use Rattle.orc_ops.specs.declared.opcode.Op.TheVariants as opcode
 use Rattle.orc_ops.specs.declared.far.Far.{Far}
 use Rattle.orc_ops.specs.declared.far.Far.TheVariants.{Loadoffb, Loadoffw, Loadoffl, Loadupdb, Loadupib, Ldresnearb, Ldresnearl, Ldreslinb, Ldreslinl}
-use Rattle.orc_ops.specs.Far.{far_size, far_first, far_second, far_part, far_blend, far_value, other}
+use Rattle.orc_ops.specs.Far.{far_size, far_first, far_second, far_value, other}
 use Rattle.orc_ops.specs.Table.{size_of_source}
 use Rattle.orc_ops.specs.Formula.{formula}
 use Rattle.orc_ops.proofs.FarLaws.{lines}

@@ -5,7 +5,7 @@ use Rattle.std.specs.Int.{w32, w64, to_le_bytes}
 use Rattle.x86_ins.specs.declared.ins.Addr.{Addr}
 use Rattle.x86_ins.specs.declared.ins.Ins.{Ins}
 use Rattle.x86_ins.specs.declared.ins.Ins.TheVariants.{Vec, VecImm, Shuffle, VecLoad, VecStore, FromGpr, ToGpr, Move, Load, Store, Store8, Store16, Load8, Load16, MovImm, Alu, AluImm, Test, Shift, Imul, Lea, Push, Pop, Jump, JumpIf, Ret}
-use Rattle.x86_ins.specs.Spelling.{IsAllowed, spelling, reg_form, mem_form, plus_form, rex, rex_bits, top, m_reg, m_mem}
+use Rattle.x86_ins.specs.Spelling.{IsAllowed, spelling, reg_form, mem_form, plus_form, rex, top, m_reg, m_mem}
 use Rattle.x86_ins.specs.Way.{Each}
 use Rattle.x86_flow.proofs.Spelled.{IsFine, fine_vec, fine_vec_load, fine_vec_store, fine_from_gpr, fine_to_gpr, fine_move, fine_load, fine_store, fine_load_8, fine_load_16, fine_store_8, fine_store_16, fine_alu, fine_alu_imm, fine_test, fine_shift}
 use Rattle.orc_frame.proofs.Counted.{rex_short, fine_vec_imm, fine_shuffle}

@@ -1,7 +1,6 @@
 -- The code that brings a far load's values: its instructions are allowed and few, and those that go by other registers than RSP and RDI are at most two for each element.
-use Rattle.std.proofs.Common.{◌≡◌, ℕ, zero, suc, ◌+◌, ◌-◌, ◌*◌, ◌^◌, ◌<◌, ◌≤◌, ◌==◌, ◌||◌, not, Bool, true, false, if◌then◌else◌, ℤ, pos, List, [], ◌∷◌, ◌++◌, length, map, get_or, Option, None, Some, true≢false, refl, sym, ap, ◌∙◌, subst, arith, inl, inr, length-append}
+use Rattle.std.proofs.Common.{◌≡◌, ℕ, zero, suc, ◌+◌, ◌-◌, ◌*◌, ◌^◌, ◌<◌, ◌≤◌, ◌==◌, ◌||◌, not, Bool, true, false, if◌then◌else◌, List, [], ◌∷◌, ◌++◌, length, Option, None, Some, true≢false, refl, sym, ap, ◌∙◌, arith, length-append}
 use Rattle.std.proofs.lemmas.Bool.{eqb-true}
-use Rattle.std.proofs.lemmas.List.{length-map}
 use Rattle.x86_ins.specs.declared.ins.Ins.{Ins}
 use Rattle.x86_ins.specs.declared.ins.Ins.TheVariants.{Vec}
 use Rattle.x86_ins.specs.declared.ins.VecOp.TheVariants.{Movdqa}
@@ -13,11 +12,10 @@ use Rattle.x86_flow.proofs.Spelled.{IsFine, fits_up, fine_vec}
 use Rattle.orc_ops.specs.declared.far.Far.{Far}
 use Rattle.orc_ops.specs.declared.far.Far.TheVariants.{Loadoffb, Loadoffw, Loadoffl, Loadupdb, Loadupib, Ldresnearb, Ldresnearl, Ldreslinb, Ldreslinl}
 use Rattle.orc_ops.specs.Far.{far_size, far_scalars, far_weight}
-use Rattle.orc_frame.specs.Layout.{pattern_slot}
 use Rattle.orc_resample.specs.declared.plan.FarPlan.{FarPlan}
 use Rattle.orc_resample.specs.declared.turn.FarSource.{FarSource}
 use Rattle.orc_resample.specs.Code.{element_of, elements_code, gather_with, plan_of, enter_code, leave_code, bring_code}
-use Rattle.orc_resample.specs.Bring.{IsFarSource, IsKept, IsSpare, LiesIn, AreApart, is_array, array_count}
+use Rattle.orc_resample.specs.Bring.{is_array, array_count}
 use Rattle.orc_resample.proofs.Touched.{bring_touches, bring_short, bring_allowed}
 use Rattle.orc_resample.proofs.Ranges.{bring_ins}
 use Rattle.orc_region.specs.Code.{far_source, from_zero_code}

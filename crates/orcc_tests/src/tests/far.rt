@@ -114,7 +114,11 @@ fn far_loads_have_meaning_figures_and_code_and_no_c(rt: HostRuntime) -> Result<(
                 "{word} {line}"
             );
         }
-        assert_eq!(rt; run(alloc, &["obj"], text.as_bytes())?.status, Status::Done, "{line}");
+        assert_eq!(rt;
+            run(alloc, &["obj"], text.as_bytes())?.status,
+            Status::Done,
+            "{line}"
+        );
         let refused = run(alloc, &["c"], text.as_bytes())?;
         assert_eq!(rt; refused.status, Status::Refused, "{line}");
         assert!(rt;
@@ -150,7 +154,9 @@ fn far_loads_are_done_in_heads_bodies_and_tails(rt: HostRuntime) -> Result<(), A
                 job.extend_from_slice(n.as_bytes())?;
                 job.extend_from_slice(b",\"m\":1,\"arrays\":[{\"base\":")?;
                 job.extend_from_slice(base.as_bytes())?;
-                job.extend_from_slice(b",\"stride\":0},{\"base\":8192,\"stride\":0}],\"params\":[],\"memory\":[{\"at\":4096,\"bytes\":\"")?;
+                job.extend_from_slice(
+                    b",\"stride\":0},{\"base\":8192,\"stride\":0}],\"params\":[],\"memory\":[{\"at\":4096,\"bytes\":\"",
+                )?;
                 job.extend_from_slice(bytes.as_slice())?;
                 job.extend_from_slice(b"\"},")?;
                 job.extend_from_slice(source.as_slice())?;
