@@ -1,12 +1,13 @@
 -- What is promised of a function's code, and which functions have none.
-use Rattle.std.specs.Prelude.{◌≡◌, ℕ, suc, nat_lt, if◌then◌else◌, List, [], ◌∷◌, Option, Some, None}
+use Rattle.std.specs.Prelude.{◌≡◌, ℕ, suc, nat_lt, if◌then◌else◌, List, [], ◌∷◌, ◌++◌, Option, Some, None}
 use Rattle.orc_ops.specs.declared.target.Target.{Target}
 use Rattle.orc_program.specs.declared.program.Insn.{Insn}
 use Rattle.orc_program.specs.Program.{FunctionValue}
 use Rattle.orc_program.specs.Need.{need_of, places, steps}
 use Rattle.orc_plan.specs.declared.steps.Pressure.{Pressure}
 use Rattle.x86_ins.specs.declared.ins.Ins.{Ins}
-use Rattle.x86_ins.specs.Spelling.{IsAllowed}
+use Rattle.x86_ins.specs.declared.ins.Ins.TheVariants.{Ret}
+use Rattle.x86_ins.specs.Spelling.{IsAllowed, spelling}
 use Rattle.x86_ins.specs.Way.{Each}
 use Rattle.x86_flow.specs.Flow.{spell_all}
 use Rattle.sse_laws.specs.Targets.{IsCodeFor}
@@ -14,6 +15,7 @@ use Rattle.orc_frame.specs.Function.{subject_of}
 use Rattle.orc_asm.specs.declared.refusal.AsmError.{AsmError}
 use Rattle.orc_asm.specs.declared.refusal.AsmError.TheVariants as refusal
 use Rattle.orc_asm.specs.RunsAs as runs
+use Rattle.orc_asm.specs.Passing as passing
 
 -- each good call of the code returns as the function means, in at most as many steps as are stated for the target
 abbrev pub RunsAs : FunctionValue → Target → List ℕ → Type 0
@@ -26,6 +28,10 @@ RunsQuietly f target bytes = runs.RunsQuietly (subject_of f) (steps f target) by
 -- and besides, at most rows times turns times operands that are arrays of the steps touch cells, and where in every row a register of the first dest can be stored at a multiple of 16, and no other dest is that very array, no movdqu stores to it
 abbrev pub RunsFully : FunctionValue → Target → List ℕ → Type 0
 RunsFully f target bytes = runs.RunsFully (subject_of f) (steps f target) bytes
+
+-- the code ends with a return, and what stands before it does all the rest: wherever that stands in code, each such call leads to the place behind it, quietly
+abbrev pub EndsByReturn : FunctionValue → Target → List ℕ → Type 0
+EndsByReturn f target bytes = (body : List ℕ) × (bytes ≡ body ++ spelling Ret) × passing.PassesQuietly (subject_of f) (steps f target) body
 
 -- the code is instructions of the target, one behind another, and nothing else (Intel SDM, volume 2A, chapter 2): code for SSE2 has none with an opcode of the map 0F 38, which came with SSSE3 and SSE4.1 (CPUID, leaf 1, bits 9 and 19 of ECX)
 abbrev pub HasOnly : Target → List ℕ → Type 0

@@ -1,3 +1,4 @@
 pub mod RunsAs
+pub mod Passing
 pub mod Function
 pub mod Rows

@@ -7,7 +7,7 @@ ghost use Rattle.orc_program.specs.Program.{count_of};
 ghost use Rattle.orc_program.specs.Kept.{is_function};
 ghost use Rattle.orc_program.specs.Need.{lanes};
 ghost use Rattle.orc_plan.specs.Lowered.{steps_of, sizes_of};
-ghost use Rattle.orc_asm.specs.Function.{RunsAs, RunsFully, HasOnly, first_pressure, IsRefusal};
+ghost use Rattle.orc_asm.specs.Function.{RunsAs, RunsFully, EndsByReturn, HasOnly, first_pressure, IsRefusal};
 
 use crate::refusal::AsmError;
 use crate::rows::whole_code;
@@ -30,6 +30,7 @@ use std::alloc::{AllocError, Global};
 pub fn assemble_for(alloc: Global, f: &Function, target: Target) -> Result<Code, AsmError>
     ensures runs { IfOk result (λ code. RunsAs f.now target code) }
     ensures inside { IfOk result (λ code. RunsFully f.now target code) }
+    ensures passes { IfOk result (λ code. EndsByReturn f.now target code) }
     ensures target { IfOk result (λ code. HasOnly target code) }
     ensures bytes { IfOk result (λ code. (1 ≤ length code) × (length code ≤ 1048576)) }
     ensures few { OnOk result (first_pressure f.now ≡ None) }
@@ -90,6 +91,7 @@ fn code_of(alloc: Global, f: &Function, placed: &Placed, target: Target) -> Resu
     requires sizes { placed.now.core.sizes ≡ sizes_of f.now }
     requires lanes { placed.now.core.lanes ≡ lanes f.now }
     ensures inside { IfOk result (λ code. RunsFully f.now target code) }
+    ensures passes { IfOk result (λ code. EndsByReturn f.now target code) }
     ensures target { IfOk result (λ code. HasOnly target code) }
     ensures bytes { IfOk result (λ code. (1 ≤ length code) × (length code ≤ 1048576)) }
 {

@@ -15,7 +15,7 @@ abbrev pub Lifts : Promise → Type 0
 Lifts P = (s : Point) (small : Memory) (call : Call) (way more : List Moment) (t end : Point) → Within small s.core.memory → Alike small s.core.memory way more → Beside small s.core.memory t end
     → P (big s small) small call way t → P s small call more end
 
-same_register : (small large : Memory) (p q : Point) → Beside small large p q → (r : ℕ) → q.core.gpr r ≡ p.core.gpr r
+pub same_register : (small large : Memory) (p q : Point) → Beside small large p q → (r : ℕ) → q.core.gpr r ≡ p.core.gpr r
 same_register small large p q h r = ap (λ (x : Point). x.core.gpr r) h.same
 
 over_forth : (small large : Memory) (p q : Point) (end : Stop) → Beside small large p q → IsOver end p → IsOver end q

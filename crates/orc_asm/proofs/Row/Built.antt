@@ -47,7 +47,7 @@ step_whole base a b c d dests sources n p q r s =
 
 -- ---- bytes
 
-one_more : (a : List Ins) (i : Ins) → spell_all (a ++ i ∷ []) ≡ spell_all a ++ spelling i
+pub one_more : (a : List Ins) (i : Ins) → spell_all (a ++ i ∷ []) ≡ spell_all a ++ spelling i
 one_more a i = spell_append a (i ∷ []) ∙ ap (λ l. spell_all a ++ l) (append-nil (spelling i))
 
 -- a list and then a loop, behind other bytes

@@ -1,5 +1,5 @@
 -- Code with rows runs as its function means.
-use Rattle.std.proofs.Common.{◌≡◌, ◌≢◌, ℕ, zero, suc, ◌+◌, ◌*◌, ◌^◌, ◌<◌, ◌≤◌, ◌⊎◌, pos, Bool, true, false, true≢false, if◌then◌else◌, List, length, is_some, Some, None, refl, sym, ap, ◌∙◌, subst, arith, inl, inr, ⊎_elim}
+use Rattle.std.proofs.Common.{◌≡◌, ◌≢◌, ℕ, zero, suc, ◌+◌, ◌*◌, ◌^◌, ◌<◌, ◌≤◌, ◌⊎◌, pos, Bool, true, false, true≢false, if◌then◌else◌, List, ◌++◌, length, length-append, is_some, Some, None, refl, sym, ap, ◌∙◌, subst, arith, inl, inr, ⊎_elim}
 use Rattle.orc_bits.specs.Memory.{Memory, word, IsMapped}
 use Rattle.orc_bits.proofs.LaneLaws.{change_other}
 use Rattle.orc_ops.specs.declared.target.Target.{Target}
@@ -13,13 +13,20 @@ use Rattle.x86_ins.specs.declared.ins.Ins.TheVariants.{Ret}
 use Rattle.x86_ins.specs.Machine.{Core, Point, Touches, moved}
 use Rattle.x86_ins.specs.Spelling.{IsAllowed}
 use Rattle.x86_ins.specs.Way.{Placed, Way, Moment, Each, AtMost}
-use Rattle.x86_flow.specs.Flow.{Flow, spell_all, with_return}
+use Rattle.x86_flow.specs.Flow.{Flow, flat, size, spell_all, with_return}
 use Rattle.x86_flow.proofs.Plans.{weigh}
 use Rattle.x86_flow.proofs.Returning.{returned, returns, each_map}
 use Rattle.x86_flow.proofs.Counting.{at_most_back}
+use Rattle.x86_flow.proofs.Flow.{Leads, flow_leads, listed_length}
+use Rattle.x86_flow.proofs.Larger.{LargerWay, big, way_larger, value_larger, alike_length, alike_each}
+use Rattle.x86_flow.proofs.Ways.{HasAt, has_all}
+use Rattle.orc_bits.proofs.Memories.{mapped_value}
+use Rattle.orc_frame.specs.Parts.{sum_word}
 use Rattle.orc_frame.specs.Subject.{Call as Arguments, rows}
 use Rattle.orc_frame.specs.GoodCall.{GoodCall}
 use Rattle.orc_asm.specs.RunsAs.{Saved, Promise, RunsWith, quiet}
+use Rattle.orc_asm.specs.Passing.{StandsAt, Passes, PassesWith}
+use Rattle.orc_asm.proofs.Calls.Inside.{Lifts, same_register}
 use Rattle.orc_frame.specs.Function.{subject_of}
 use Rattle.orc_frame.specs.Frame.{saved}
 use Rattle.orc_asm.specs.Rows.{whole_flow}
@@ -132,4 +139,48 @@ module _ {target : Target} (f : FunctionValue) (known : Arrays f) (first : List 
             (each_map _ _ (λ m q a nd ns nf. q.0.quiet a nd nf ns) b.way b.each, λ a nd ns nf. h.still.quiet a nd nf ns)
             (each_map _ _ (λ m q. q.1) b.way b.each)
             (λ R sees. at_most_back cell_weight R Q code s.core done d back (weigh cell_weight first + rows (subject_of f) args * (turns f args.n * touches) + weigh cell_weight last) b refl h.light (λ m q. sees m q.1));
+      }
+
+  -- wherever the flow's bytes stand, each call leads to the place behind them, with what follows from its being quiet
+  pub passes_with : (P : Promise) → Lifts P → ((s : Point) (args : Arguments) (way : List Moment) (t : Point) → quiet (subject_of f) s s.core.memory args way t → P s s.core.memory args way t) → Each IsAllowed (flat flow) → PassesWith (subject_of f) (steps f target) P (spell_all (flat flow))
+  passes_with P lifts promised allowed code s small args any at within good =
+      let own_code : Placed = record { bytes = spell_all (flat flow); start = s.rip } in
+      let large = s.core.memory in
+      let p : Point = big s small in
+      let x = path f known own_code p args any good (Tame p args) (own own_code p args any good) first elements last (regions_of besides (turns f args.n) turn) (turns f args.n * touches) (parts own_code p args any good) in
+      let done = x.0 in
+      let d = x.1 in
+      let h = x.3 in
+      let low = good.return_low in
+      let off = length at.before in
+      let Q : Core → Ins → Type 0 = λ u i. Still f known own_code p args any good u × Tame p args u i in
+      let long : length code.bytes ≡ off + (size (flat flow) + length at.after) = ap length at.is ∙ length-append at.before (spell_all (flat flow) ++ at.after) ∙ ap (λ k. off + k) (length-append (spell_all (flat flow)) at.after) in
+      let has : HasAt code.bytes off (flat flow) = subst (λ l. HasAt l off (flat flow)) (sym at.is) (has_all (flat flow) at.before at.after allowed) in
+      let leads : Leads code Q p.core off done d (off + size (flat flow)) = flow_leads Q code at.low flow off (omega (arith, long)) has p.core done d x.2 in
+      let begins : record { core = p.core; rip = code.start + off } ≡ p = ap (λ r. record { core = p.core; rip = r }) (sym at.here) in
+      let t : Point = record { core = d; rip = code.start + (off + size (flat flow)) } in
+      let runs : Way code p leads.way t = subst (λ u. Way code u leads.way t) begins leads.runs in
+      let b : LargerWay small large code leads.way t s = way_larger code p leads.way t large within runs in
+      let beside = b.beside in
+      let register : (r : ℕ) → b.end.core.gpr r ≡ d.gpr r = same_register small large t b.end beside in
+      let count : length leads.way ≡ length done = sym (listed_length leads.way) ∙ ap length leads.list in
+      let count_more : length b.more ≡ length done = alike_length small large leads.way b.more b.alike ∙ count in
+      let bound = steps_rows f known first last turn besides args.n args.m short in
+      record {
+        end = end_with f h.end;
+        means = all_rows f (call f known own_code p args any good) small h.end h.emulated;
+        way = b.more;
+        t = b.end;
+        runs = b.runs;
+        short = omega (arith, count_more, h.short, bound);
+        behind = ap (λ (u : Point). u.rip) beside.same ∙ omega (arith, at.here);
+        stack = register 4 ∙ h.stack;
+        below = alike_each small large (λ m. Q m.point.core m.ins) (λ m. m.point.core.gpr 4 ≤ s.core.gpr 4)
+            (λ m n near e q. let r = same_register small large m.point n.point near 4 in ⊎_elim (λ z. omega (arith, r, z)) (λ z. omega (arith, r, z)) q.0.stack) leads.way b.more b.alike leads.each;
+        same = λ a m nf ns. let v = mapped_value small a m in beside.agree a (within a v.0 v.1 ∙ sym v.1) ∙ h.agree a nf ns;
+        sums = λ g l. value_larger 8 d.memory b.end.core.memory (s.core.gpr 7 + sum_word g) _ beside.sub (h.words g l);
+        rest = beside.rest;
+        saved = saved_again s.core b.end.core (λ j l. register (saved j) ∙ h.registers j l);
+        more = lifts s small args leads.way b.more t b.end within b.alike beside
+            (promised p args leads.way t (each_map _ _ (λ m q a nd ns nf. q.0.quiet a nd nf ns) leads.way leads.each, λ a nd ns nf. h.still.quiet a nd nf ns));
       }

@@ -8,7 +8,7 @@ use Rattle.orc_region.proofs.Turn.Fits.{elements_few}
 use Rattle.orc_region.proofs.Checked.Layouts.{two_d_is}
 use Rattle.orc_region.specs.Code.{IsElements}
 use Rattle.orc_region.specs.Elements.{AreOf}
-use Rattle.orc_asm.specs.Function.{RunsFully, HasOnly}
+use Rattle.orc_asm.specs.Function.{RunsFully, EndsByReturn, HasOnly}
 use Rattle.orc_asm.specs.Rows.{whole_flow}
 use Rattle.orc_asm.proofs.Function.Whole.{HasCodeLength, whole_runs, front_spelled, behind_spelled}
 use Rattle.orc_asm.proofs.Targeted.{has_only}
@@ -40,7 +40,7 @@ elements_are c = c.in_ok-elements.ensures.is c.args.f.now (record { kept = c.cou
 -- the bytes of the rows between the frame's lists
 runs : (c : After-whole_code) (code : List ℕ)
     → code ≡ spell_all (with_return (whole_flow c.as_slice.result.now (Plain (flat_of c.in_ok-elements.elements)) c.as_slice-2.result.now c.layout-layout.result.two_d c.counts_of-counts.result.dests c.counts_of-counts.result.sources))
-    → RunsFully c.args.f.now c.args.target code × HasCodeLength code
+    → RunsFully c.args.f.now c.args.target code × HasCodeLength code × EndsByReturn c.args.f.now c.args.target code
 runs c code e = whole_runs c.args.target c.args.f.now c.counts_of-counts.ensures.kept c.layout-layout.result c.in_ok-first.first c.in_ok-epilogue.field-0
     (record {
       layout = c.layout-layout.ensures.value;
@@ -64,6 +64,9 @@ returns-clause-inside c = ok_map c.whole_code.result _ _ (λ code e. (runs (goal
 
 pub returns-clause-bytes : goal.returns-clause-bytes
 returns-clause-bytes c = ok_map c.whole_code.result _ _ (λ code e. (runs (goal.at.returns-clause-bytes c).After-whole_code code e).1) c.whole_code.ensures
+
+pub returns-clause-passes : goal.returns-clause-passes
+returns-clause-passes c = ok_map c.whole_code.result _ _ (λ code e. (runs (goal.at.returns-clause-passes c).After-whole_code code e).2) c.whole_code.ensures
 
 only : (c : After-whole_code) (code : List ℕ)
     → code ≡ spell_all (with_return (whole_flow c.as_slice.result.now (Plain (flat_of c.in_ok-elements.elements)) c.as_slice-2.result.now c.layout-layout.result.two_d c.counts_of-counts.result.dests c.counts_of-counts.result.sources))

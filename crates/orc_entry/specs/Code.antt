@@ -1,0 +1,81 @@
+-- The lists before and behind a function's code: the compiler's plan.
+use Rattle.std.specs.Prelude.{ℕ, zero, suc, ◌+◌, ◌-◌, ◌*◌, ◌==◌, nat_lt, if◌then◌else◌, pos, false, List, [], ◌∷◌, ◌++◌}
+use Rattle.x86_ins.specs.declared.ins.AluOp.TheVariants.{Add, Sub, And}
+use Rattle.x86_ins.specs.declared.ins.ShiftOp.TheVariants.{Shl, Shr, Sar}
+use Rattle.x86_ins.specs.declared.ins.MoveOp.TheVariants.{Movd}
+use Rattle.x86_ins.specs.declared.ins.Ins.{Ins}
+use Rattle.x86_ins.specs.declared.ins.Ins.TheVariants.{VecLoad, VecStore, Move, Load, Store, Load16, Store16, MovImm, Alu, AluImm, Shift, Lea}
+use Rattle.x86_flow.specs.Moves.{away, here}
+use Rattle.orc_frame.specs.Parts.{elements_word, rows_word, base_word, stride_word, param_word, sum_word}
+use Rattle.orc_frame.specs.Code.{joined}
+use Rattle.orc_program.specs.Program.{FunctionValue}
+use Rattle.orc_entry.specs.declared.arguments.Class.{Class}
+use Rattle.orc_entry.specs.declared.arguments.Class.TheVariants as class
+use Rattle.orc_entry.specs.declared.arguments.Source.{Source}
+use Rattle.orc_entry.specs.declared.arguments.Source.TheVariants as source
+use Rattle.orc_entry.specs.declared.arguments.Shape.{Shape}
+use Rattle.orc_entry.specs.Arguments.{shape_of, in_registers, register_of, stack_word, argument, elements_source, rows_source, base_source, stride_source, param_source, sum_argument, sum_size}
+
+-- ---- the bytes that an entry takes from the stack: a word that nothing uses, the block, and the accumulators' pointers
+
+abbrev pub block_at : ℕ
+block_at = 8
+
+abbrev pub pointer_at : ℕ → ℕ
+pointer_at g = 312 + 8 * g
+
+abbrev pub stack_size : ℕ
+stack_size = 344
+
+-- ---- a word is filled
+
+-- an argument, or a number, goes to RAX
+abbrev pub fetch_code : ℕ → List Ins
+fetch_code i = if nat_lt i in_registers then Move 0 (register_of i) ∷ [] else Load 0 (away 4 (stack_size + stack_word i)) ∷ []
+
+-- RAX becomes the word of its class; R11 is one less than the sign, which is all ones or none
+abbrev pub class_code : Class → List Ins
+class_code class.Word = []
+class_code class.Int = Shift Shl 0 32 ∷ Shift Sar 0 32 ∷ []
+class_code class.Count = Shift Shl 0 32 ∷ Move 11 0 ∷ Shift Shr 0 32 ∷ Shift Shr 11 63 ∷ AluImm Sub 11 (pos 1) ∷ Alu And 0 11 ∷ []
+
+abbrev pub source_code : Source → List Ins
+source_code (source.Argument c i) = fetch_code i ++ class_code c
+source_code (source.Number n) = MovImm 0 n ∷ []
+
+-- so far above RSP
+abbrev pub fill_code : Source → ℕ → List Ins
+fill_code from to = source_code from ++ Store 0 (away 4 to) ∷ []
+
+-- ---- before the function's code
+
+-- the words of an array
+abbrev pub array_code : Shape → ℕ → List Ins
+array_code s k = fill_code (base_source s k) (block_at + base_word k) ++ fill_code (stride_source s k) (block_at + stride_word k)
+
+abbrev pub source_array_code : Shape → ℕ → List Ins
+source_array_code s k = array_code s (4 + k)
+
+abbrev pub param_code : FunctionValue → ℕ → List Ins
+param_code f j = fill_code (param_source f j) (block_at + param_word j)
+
+abbrev pub pointer_code : Shape → ℕ → List Ins
+pointer_code s g = fill_code (argument class.Word (sum_argument s g)) (pointer_at g)
+
+abbrev pub counts_code : Shape → List Ins
+counts_code s = fill_code (elements_source s) (block_at + elements_word) ++ fill_code (rows_source s) (block_at + rows_word)
+
+-- RSP goes down, the words are filled, and RDI points at the block
+abbrev pub entry_code : FunctionValue → List Ins
+entry_code f =
+    let s = shape_of f in
+    AluImm Sub 4 (pos stack_size) ∷ (counts_code s ++ (joined (array_code s) s.dests ++ (joined (source_array_code s) s.sources ++ (joined (param_code f) s.params ++ (joined (pointer_code s) s.sums ++ Lea 7 (away 4 block_at) ∷ [])))))
+
+-- ---- behind it
+
+-- the low 2 or 4 bytes of a sum go to where RCX points
+abbrev pub sum_code : ℕ → ℕ → List Ins
+sum_code size g = Load 1 (away 4 (pointer_at g)) ∷ (if size == 2 then Load16 0 (away 4 (block_at + sum_word g)) ∷ Store16 0 (here 1) ∷ [] else VecLoad Movd 0 (away 4 (block_at + sum_word g)) ∷ VecStore Movd 0 (here 1) ∷ [])
+
+abbrev pub exit_code : FunctionValue → List Ins
+exit_code f = joined (λ g. sum_code (sum_size f g) g) (shape_of f).sums ++ AluImm Add 4 (pos stack_size) ∷ []

@@ -1,0 +1,235 @@
+//! The lists of instructions before and behind a function's code.
+
+ghost use Rattle.std.specs.Prelude.{◌≡◌, ◌<◌, ◌≤◌, ◌+◌, ◌++◌, IfOk, OnOk, pos};
+ghost use Rattle.orc_frame.specs.Code.{joined};
+ghost use Rattle.orc_entry.specs.Arguments.{IsSmall, shape_of, argument};
+ghost use Rattle.orc_entry.specs.Code.{fetch_code, class_code, source_code, fill_code, counts_code, array_code, source_array_code, param_code, pointer_code, entry_code, sum_code, exit_code, stack_size};
+
+use crate::arguments::{
+    Class, Shape, Source, base_argument, class_of, elements_source, param_argument, rows_source,
+    shape_of, stride_of, sum_argument,
+};
+use orc_frame::{BLOCK, ELEMENTS_WORD, Layout, ROWS_WORD, STACK, base_word, param_word, stride_word, sum_word};
+use orc_program::Function;
+use orc_program::variables::size_at;
+use std::alloc::{AllocError, Global};
+use x86_flow::{SCRATCH, away};
+use x86_ins::{AluOp, Gpr, Ins, InsList, MoveOp, ShiftOp, Xmm};
+
+/// The bytes that an entry takes from the stack: a word that nothing uses, the block, and the accumulators' pointers. With the return word
+/// they are a multiple of 16.
+pub const STACK_SIZE: usize = 344;
+
+/// Where the block is, above RSP.
+const BLOCK_AT: usize = 8;
+
+/// Where the first accumulator's pointer is, above RSP.
+const POINTERS_AT: usize = 312;
+
+/// How many arguments are in registers.
+const IN_REGISTERS: usize = 6;
+
+/// Takes a count's sign: R11.
+const SIGN: Gpr = Gpr { number: 11 };
+
+/// Takes an accumulator's pointer: RCX.
+const POINTER: Gpr = Gpr { number: 1 };
+
+/// Takes a sum: XMM0.
+const SUM: Xmm = Xmm { number: 0 };
+
+/// The register of one of the first six arguments.
+fn register_of(number: usize) -> Gpr {
+    let number = match number {
+        0 => 7,
+        1 => 6,
+        2 => 2,
+        3 => 1,
+        4 => 8,
+        _ => 9,
+    };
+    Gpr { number }
+}
+
+/// Adds what brings an argument to RAX.
+fn push_fetch(list: &mut InsList, number: usize) -> Result<(), AllocError>
+    requires few { number < 100 }
+    ensures { OnOk result (list.new ≡ list.old ++ fetch_code number) }
+{
+    if number < IN_REGISTERS {
+        list.push(Ins::Move {
+            dst: SCRATCH,
+            src: register_of(number),
+        })
+    } else {
+        list.push(Ins::Load {
+            dst: SCRATCH,
+            at: away(STACK, STACK_SIZE + 8 + 8 * (number - IN_REGISTERS)),
+        })
+    }
+}
+
+/// Adds a shift by so many bits.
+fn push_shift(list: &mut InsList, op: ShiftOp, dst: Gpr, count: u8) -> Result<(), AllocError> {
+    list.push(Ins::Shift { op, dst, count })
+}
+
+/// Adds what makes RAX the word of a class.
+fn push_class(list: &mut InsList, class: Class) -> Result<(), AllocError>
+    ensures { OnOk result (list.new ≡ list.old ++ class_code class) }
+{
+    match class {
+        Class::Word => Ok(()),
+        Class::Int => {
+            push_shift(list, ShiftOp::Shl, SCRATCH, 32)?;
+            push_shift(list, ShiftOp::Sar, SCRATCH, 32)
+        }
+        Class::Count => {
+            push_shift(list, ShiftOp::Shl, SCRATCH, 32)?;
+            list.push(Ins::Move {
+                dst: SIGN,
+                src: SCRATCH,
+            })?;
+            push_shift(list, ShiftOp::Shr, SCRATCH, 32)?;
+            push_shift(list, ShiftOp::Shr, SIGN, 63)?;
+            list.push(Ins::AluImm {
+                op: AluOp::Sub,
+                dst: SIGN,
+                value: 1,
+            })?;
+            list.push(Ins::Alu {
+                op: AluOp::And,
+                dst: SCRATCH,
+                src: SIGN,
+            })
+        }
+    }
+}
+
+/// Adds what fills a word, so far above RSP.
+fn push_fill(list: &mut InsList, source: Source, to: usize) -> Result<(), AllocError>
+    ensures { OnOk result (list.new ≡ list.old ++ fill_code source to) }
+{
+    match source {
+        Source::Argument { class, number } => {
+            push_fetch(list, number)?;
+            push_class(list, class)?;
+        }
+        Source::Number(value) => list.push(Ins::MovImm {
+            dst: SCRATCH,
+            value: u64::from(value),
+        })?,
+    }
+    list.push(Ins::Store {
+        src: SCRATCH,
+        at: away(STACK, to),
+    })
+}
+
+/// Adds what fills the words of an array.
+fn push_array(list: &mut InsList, shape: Shape, slot: usize) -> Result<(), AllocError> {
+    let base = base_argument(shape, slot);
+    push_fill(
+        list,
+        Source::Argument {
+            class: Class::Word,
+            number: base,
+        },
+        BLOCK_AT + base_word(slot),
+    )?;
+    push_fill(
+        list,
+        stride_of(shape, base),
+        BLOCK_AT + stride_word(slot),
+    )
+}
+
+/// The list before a function's code: RSP goes down, the block is filled, and RDI points at it.
+pub fn entry_list(alloc: Global, f: &Function, layout: &Layout) -> Result<InsList, AllocError> {
+    let shape = shape_of(f);
+    let vars = f.vars.as_slice();
+    let mut list = InsList::new(alloc);
+    list.push(Ins::AluImm {
+        op: AluOp::Sub,
+        dst: STACK,
+        value: STACK_SIZE as i32,
+    })?;
+    push_fill(&mut list, elements_source(shape), BLOCK_AT + ELEMENTS_WORD)?;
+    push_fill(&mut list, rows_source(shape), BLOCK_AT + ROWS_WORD)?;
+    for k in 0..shape.dests {
+        push_array(&mut list, shape, k)?;
+    }
+    for k in 0..shape.sources {
+        push_array(&mut list, shape, 4 + k)?;
+    }
+    for j in 0..shape.params {
+        push_fill(
+            &mut list,
+            Source::Argument {
+                class: class_of(size_at(vars, layout.params.as_slice()[j])),
+                number: param_argument(shape, j),
+            },
+            BLOCK_AT + param_word(j),
+        )?;
+    }
+    for g in 0..shape.sums {
+        push_fill(
+            &mut list,
+            Source::Argument {
+                class: Class::Word,
+                number: sum_argument(shape, g),
+            },
+            POINTERS_AT + 8 * g,
+        )?;
+    }
+    list.push(Ins::Lea {
+        dst: BLOCK,
+        at: away(STACK, BLOCK_AT),
+    })?;
+    Ok(list)
+}
+
+/// Adds what stores a sum of so many bytes through its pointer.
+fn push_sum(list: &mut InsList, size: u8, number: usize) -> Result<(), AllocError> {
+    let from = away(STACK, BLOCK_AT + sum_word(number));
+    let to = away(POINTER, 0);
+    list.push(Ins::Load {
+        dst: POINTER,
+        at: away(STACK, POINTERS_AT + 8 * number),
+    })?;
+    if size == 2 {
+        list.push(Ins::Load16 {
+            dst: SCRATCH,
+            at: from,
+        })?;
+        list.push(Ins::Store16 {
+            src: SCRATCH,
+            at: to,
+        })
+    } else {
+        list.push(Ins::VecLoad {
+            op: MoveOp::Movd,
+            dst: SUM,
+            at: from,
+        })?;
+        list.push(Ins::VecStore {
+            op: MoveOp::Movd,
+            src: SUM,
+            at: to,
+        })
+    }
+}
+
+/// The list behind a function's code: the sums go to where their pointers point, and RSP goes up.
+pub fn exit_list(alloc: Global, layout: &Layout) -> Result<InsList, AllocError> {
+    let mut list = InsList::new(alloc);
+    for g in 0..layout.acc_sizes.len() {
+        push_sum(&mut list, layout.acc_sizes.as_slice()[g], g)?;
+    }
+    list.push(Ins::AluImm {
+        op: AluOp::Add,
+        dst: STACK,
+        value: STACK_SIZE as i32,
+    })?;
+    Ok(list)
+}
