@@ -1,0 +1,133 @@
+-- A word of the function's own bytes is filled with an argument or a number.
+use Rattle.std.proofs.Common.{◌≡◌, ◌≢◌, ℕ, zero, suc, ◌+◌, ◌-◌, ◌*◌, ◌/◌, ◌%◌, ◌^◌, ◌<◌, ◌≤◌, ◌==◌, Bool, true, false, nat_lt, if◌then◌else◌, pos, List, [], ◌∷◌, ◌++◌, Some, None, Ok, refl, sym, ap, ◌∙◌, subst, arith, inl, inr, ⊎_elim}
+use Rattle.std.proofs.lemmas.Bool.{cases_lt, lt-ltb}
+use Rattle.orc_bits.specs.Numbers.{wrap}
+use Rattle.orc_bits.specs.Lanes.{byte_of}
+use Rattle.orc_bits.specs.Memory.{Memory, word, fill, IsMapped}
+use Rattle.orc_bits.proofs.Bits.{and_zero_r, and_ones_r}
+use Rattle.orc_bits.proofs.LaneLaws.{change_other, change_same}
+use Rattle.orc_bits.proofs.Memories.{fill_out, fill_mapped}
+use Rattle.x86_ins.specs.declared.ins.AluOp.TheVariants.{Sub, And}
+use Rattle.x86_ins.specs.declared.ins.ShiftOp.TheVariants.{Shl, Shr, Sar}
+use Rattle.x86_ins.specs.declared.ins.Ins.{Ins}
+use Rattle.x86_ins.specs.declared.ins.Ins.TheVariants.{Move, Load, Store, MovImm, Alu, AluImm, Shift}
+use Rattle.x86_ins.specs.Vectors.{shl, shr, sar}
+use Rattle.x86_ins.specs.Machine.{Core, with_gpr, with_flags, with_memory, work, alu_core, alu_result, shift_result}
+use Rattle.x86_flow.specs.Moves.{away}
+use Rattle.x86_flow.specs.Does.{Line}
+use Rattle.x86_flow.proofs.Moves.{line_append}
+use Rattle.x86_flow.proofs.Words.{store_word, load_word}
+use Rattle.x86_flow.proofs.Frame.{word_stored, word_apart, word_same}
+use Rattle.orc_entry.specs.declared.arguments.Class.{Class}
+use Rattle.orc_entry.specs.declared.arguments.Class.TheVariants as class
+use Rattle.orc_entry.specs.declared.arguments.Source.{Source}
+use Rattle.orc_entry.specs.declared.arguments.Source.TheVariants as source
+use Rattle.orc_entry.specs.Arguments.{extended, counted, as_word, taken, in_registers, register_of, stack_word}
+use Rattle.orc_entry.specs.Code.{fetch_code, class_code, source_code, fill_code, stack_size}
+
+-- ---- what the shifts leave
+
+pub shifted : (v : ℕ) → shl 64 v 32 ≡ v % 2 ^ 32 * 2 ^ 32
+shifted v = omega arith
+
+pub extended_is : (v : ℕ) → sar 64 (shl 64 v 32) 32 ≡ extended v
+extended_is v = ap (λ a. sar 64 a 32) (shifted v) ∙ go (v % 2 ^ 32) (omega arith)
+  where
+    go : (x : ℕ) → x < 2 ^ 32 → sar 64 (x * 2 ^ 32) 32 ≡ (if nat_lt x (2 ^ 31) then x else x + (2 ^ 64 - 2 ^ 32))
+    go x h = grind (arith)
+
+-- one less than the sign: all ones where it is 0, and 0 where it is 1
+pub mask : ℕ → ℕ
+mask x = alu_result Sub (shr 64 (x * 2 ^ 32) 63) (wrap 64 (pos 1))
+
+counted_go : (x : ℕ) → x < 2 ^ 32 → alu_result And (shr 64 (x * 2 ^ 32) 32) (alu_result Sub (shr 64 (x * 2 ^ 32) 63) (wrap 64 (pos 1))) ≡ (if nat_lt x (2 ^ 31) then x else 0)
+counted_go x h = go (nat_lt x (2 ^ 31)) refl
+  where
+    low : shr 64 (x * 2 ^ 32) 32 ≡ x
+    low = omega (arith, h)
+
+    go : (b : Bool) → nat_lt x (2 ^ 31) ≡ b → alu_result And (shr 64 (x * 2 ^ 32) 32) (alu_result Sub (shr 64 (x * 2 ^ 32) 63) (wrap 64 (pos 1))) ≡ (if b then x else 0)
+    go true e =
+        let ones : alu_result Sub (shr 64 (x * 2 ^ 32) 63) (wrap 64 (pos 1)) ≡ 2 ^ 64 - 1 = grind (arith) in
+        ap (λ m. alu_result And (shr 64 (x * 2 ^ 32) 32) m) ones ∙ ap (λ a. alu_result And a (2 ^ 64 - 1)) low ∙ and_ones_r 64 x (omega (arith, h))
+    go false e =
+        let none : alu_result Sub (shr 64 (x * 2 ^ 32) 63) (wrap 64 (pos 1)) ≡ 0 = grind (arith) in
+        ap (λ m. alu_result And (shr 64 (x * 2 ^ 32) 32) m) none ∙ and_zero_r (shr 64 (x * 2 ^ 32) 32)
+
+pub counted_is : (v : ℕ) → alu_result And (shr 64 (shl 64 v 32) 32) (alu_result Sub (shr 64 (shl 64 v 32) 63) (wrap 64 (pos 1))) ≡ counted v
+counted_is v = ap (λ a. alu_result And (shr 64 a 32) (alu_result Sub (shr 64 a 63) (wrap 64 (pos 1)))) (shifted v) ∙ counted_go (v % 2 ^ 32) (omega arith)
+
+extended_small : (v : ℕ) → extended v < 2 ^ 64
+extended_small v = go (nat_lt (v % 2 ^ 32) (2 ^ 31))
+  where
+    go : (b : Bool) → (if b then v % 2 ^ 32 else v % 2 ^ 32 + (2 ^ 64 - 2 ^ 32)) < 2 ^ 64
+    go true = omega arith
+    go false = omega arith
+
+counted_small : (v : ℕ) → counted v < 2 ^ 64
+counted_small v = go (nat_lt (v % 2 ^ 32) (2 ^ 31))
+  where
+    go : (b : Bool) → (if b then v % 2 ^ 32 else 0) < 2 ^ 64
+    go true = omega arith
+    go false = omega arith
+
+pub as_word_small : (c : Class) (v : ℕ) → v < 2 ^ 64 → as_word c v < 2 ^ 64
+as_word_small class.Word v h = h
+as_word_small class.Int v h = extended_small v
+as_word_small class.Count v h = counted_small v
+
+-- ---- the instructions
+
+-- s is the core with RSP lowered; Q is to hold of each step's core and instruction
+module _ (Q : Core → Ins → Type 0) (s : Core) (low : s.gpr 4 + stack_size + 512 < 2 ^ 61) where
+  abbrev pub rsp : ℕ
+  rsp = s.gpr 4
+
+  -- the bytes that are filled
+  abbrev pub InFilled : ℕ → Type 0
+  InFilled x = (rsp ≤ x) × (x < rsp + stack_size)
+
+  -- a core on the way: no register changed but RAX and R11, and no byte but the filled ones
+  pub record Near (c : Core) : Type 0 where
+    pub others : (r : ℕ) → r ≢ 0 → r ≢ 11 → c.gpr r ≡ s.gpr r
+    pub outside : (x : ℕ) → (InFilled x → ⊥) → c.memory x ≡ s.memory x
+    pub mapped : (x : ℕ) → InFilled x → IsMapped c.memory x
+
+  near_on : (c u : Core) → Near c → ((r : ℕ) → r ≢ 0 → r ≢ 11 → u.gpr r ≡ c.gpr r) → u.memory ≡ c.memory → Near u
+  near_on c u h g m = record {
+    others = λ r n k. g r n k ∙ h.others r n k;
+    outside = λ x out. ap (λ f. f x) m ∙ h.outside x out;
+    mapped = λ x i. subst (λ f. IsMapped f x) (sym m) (h.mapped x i);
+  }
+
+  module _ (calm : (u : Core) (i : Ins) → Near u → Q u i) where
+    -- RAX holds v, and nothing else changed that was to stay
+    pub record Holds (v : ℕ) (c d : Core) : Type 0 where
+      pub near : Near d
+      pub rax : d.gpr 0 ≡ v
+      pub memory : d.memory ≡ c.memory
+
+    class_line : (k : Class) (c : Core) → Near c → (d : Core) × Line Q (class_code k) c d × Holds (as_word k (c.gpr 0)) c d
+    class_line class.Word c h = (c, refl, record { near = h; rax = refl; memory = refl })
+    class_line class.Int c h =
+        let u : Core = with_flags (with_gpr c 0 (shl 64 (c.gpr 0) 32)) None in
+        let d : Core = with_flags (with_gpr u 0 (sar 64 (shl 64 (c.gpr 0) 32) 32)) None in
+        let near_u : Near u = near_on c u h (λ r n k. change_other c.gpr 0 (shl 64 (c.gpr 0) 32) r n) refl in
+        let near_d : Near d = near_on u d near_u (λ r n k. change_other u.gpr 0 (sar 64 (shl 64 (c.gpr 0) 32) 32) r n) refl in
+        (d, (calm c (Shift Shl 0 32) h, (u, refl, (calm u (Shift Sar 0 32) near_u, (d, refl, refl)))), record { near = near_d; rax = extended_is (c.gpr 0); memory = refl })
+    class_line class.Count c h =
+        let a = shl 64 (c.gpr 0) 32 in
+        let u1 : Core = with_flags (with_gpr c 0 a) None in
+        let u2 : Core = with_gpr u1 11 a in
+        let u3 : Core = with_flags (with_gpr u2 0 (shr 64 a 32)) None in
+        let u4 : Core = with_flags (with_gpr u3 11 (shr 64 a 63)) None in
+        let u5 : Core = alu_core Sub u4 11 (wrap 64 (pos 1)) in
+        let d : Core = alu_core And u5 0 (u5.gpr 11) in
+        let n1 : Near u1 = near_on c u1 h (λ r n k. change_other c.gpr 0 a r n) refl in
+        let n2 : Near u2 = near_on u1 u2 n1 (λ r n k. change_other u1.gpr 11 a r k) refl in
+        let n3 : Near u3 = near_on u2 u3 n2 (λ r n k. change_other u2.gpr 0 (shr 64 a 32) r n) refl in
+        let n4 : Near u4 = near_on u3 u4 n3 (λ r n k. change_other u3.gpr 11 (shr 64 a 63) r k) refl in
+        let n5 : Near u5 = near_on u4 u5 n4 (λ r n k. change_other u4.gpr 11 (alu_result Sub (u4.gpr 11) (wrap 64 (pos 1))) r k) refl in
+        let n6 : Near d = near_on u5 d n5 (λ r n k. change_other u5.gpr 0 (alu_result And (u5.gpr 0) (u5.gpr 11)) r n) refl in
+        (d, (calm c _ h, (u1, refl, (calm u1 _ n1, (u2, refl, (calm u2 _ n2, (u3, refl, (calm u3 _ n3, (u4, refl, (calm u4 _ n4, (u5, refl, (calm u5 _ n5, (d, refl, refl)))))))))))),
+        record { near = n6; rax = counted_is (c.gpr 0); memory = refl })
