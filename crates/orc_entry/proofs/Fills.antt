@@ -1,12 +1,12 @@
 -- A word of the function's own bytes is filled with an argument or a number.
-use Rattle.std.proofs.Common.{◌≡◌, ◌≢◌, ℕ, zero, suc, ◌+◌, ◌-◌, ◌*◌, ◌/◌, ◌%◌, ◌^◌, ◌<◌, ◌≤◌, ◌==◌, Bool, true, false, nat_lt, if◌then◌else◌, pos, List, [], ◌∷◌, ◌++◌, Some, None, Ok, refl, sym, ap, ◌∙◌, subst, arith, inl, inr, ⊎_elim}
+use Rattle.std.proofs.Common.{◌≡◌, ◌≢◌, ℕ, zero, suc, ◌+◌, ◌-◌, ◌*◌, ◌/◌, ◌%◌, ◌^◌, ◌<◌, ◌≤◌, ◌⊎◌, ◌==◌, Bool, true, false, nat_lt, if◌then◌else◌, pos, List, [], ◌∷◌, ◌++◌, Some, None, Ok, refl, sym, ap, ◌∙◌, subst, arith, inl, inr, ⊎_elim}
 use Rattle.std.proofs.lemmas.Bool.{cases_lt, lt-ltb}
 use Rattle.orc_bits.specs.Numbers.{wrap}
 use Rattle.orc_bits.specs.Lanes.{byte_of}
 use Rattle.orc_bits.specs.Memory.{Memory, word, fill, IsMapped}
 use Rattle.orc_bits.proofs.Bits.{and_zero_r, and_ones_r}
 use Rattle.orc_bits.proofs.LaneLaws.{change_other, change_same}
-use Rattle.orc_bits.proofs.Memories.{fill_out, fill_mapped}
+use Rattle.orc_bits.proofs.Memories.{some_one, fill_out, fill_mapped}
 use Rattle.x86_ins.specs.declared.ins.AluOp.TheVariants.{Sub, And}
 use Rattle.x86_ins.specs.declared.ins.ShiftOp.TheVariants.{Shl, Shr, Sar}
 use Rattle.x86_ins.specs.declared.ins.Ins.{Ins}
@@ -131,3 +131,81 @@ module _ (Q : Core → Ins → Type 0) (s : Core) (low : s.gpr 4 + stack_size + 
         let n6 : Near d = near_on u5 d n5 (λ r n k. change_other u5.gpr 0 (alu_result And (u5.gpr 0) (u5.gpr 11)) r n) refl in
         (d, (calm c _ h, (u1, refl, (calm u1 _ n1, (u2, refl, (calm u2 _ n2, (u3, refl, (calm u3 _ n3, (u4, refl, (calm u4 _ n4, (u5, refl, (calm u5 _ n5, (d, refl, refl)))))))))))),
         record { near = n6; rax = counted_is (c.gpr 0); memory = refl })
+
+    -- the argument i is v, in its register or in its word behind the return word, which was at RSP before that was lowered
+    abbrev pub IsThere : ℕ → ℕ → Type 0
+    IsThere i v = (if nat_lt i in_registers then Some (s.gpr (register_of i)) else word s.memory (rsp + stack_size + stack_word i)) ≡ Some v
+
+    register_not : (i r : ℕ) → (r ≡ 0) ⊎ (r ≡ 11) → register_of i ≢ r
+    register_not zero r h e = grind (arith)
+    register_not (suc zero) r h e = grind (arith)
+    register_not (suc (suc zero)) r h e = grind (arith)
+    register_not (suc (suc (suc zero))) r h e = grind (arith)
+    register_not (suc (suc (suc (suc zero)))) r h e = grind (arith)
+    register_not (suc (suc (suc (suc (suc i))))) r h e = grind (arith)
+
+    fetch_line : (i v : ℕ) → i < 64 → IsThere i v → (c : Core) → Near c → (d : Core) × Line Q (fetch_code i) c d × Holds v c d
+    fetch_line i v few there c h = go (nat_lt i in_registers) refl there
+      where
+        go : (b : Bool) → nat_lt i in_registers ≡ b → (if b then Some (s.gpr (register_of i)) else word s.memory (rsp + stack_size + stack_word i)) ≡ Some v
+            → (d : Core) × Line Q (if b then Move 0 (register_of i) ∷ [] else Load 0 (away 4 (stack_size + stack_word i)) ∷ []) c d × Holds v c d
+        go true e t =
+            let x = c.gpr (register_of i) in
+            let d : Core = with_gpr c 0 x in
+            let is : x ≡ v = h.others (register_of i) (register_not i 0 (inl refl)) (register_not i 11 (inr refl)) ∙ some_one (s.gpr (register_of i)) v t in
+            (d, (calm c _ h, (d, refl, refl)), record { near = near_on c d h (λ r n k. change_other c.gpr 0 x r n) refl; rax = is; memory = refl })
+        go false e t =
+            let a = rsp + stack_size + stack_word i in
+            let d : Core = with_gpr c 0 v in
+            let there_c : word c.memory (rsp + (stack_size + stack_word i)) ≡ Some v =
+            ap (λ z. word c.memory z) (let q : rsp + (stack_size + stack_word i) ≡ a = omega arith in q) ∙ word_same c.memory s.memory a (omega (arith, low, few)) (λ x l u. h.outside x (λ w. omega (arith, w.1, l))) ∙ t in
+            let loads : work (Load 0 (away 4 (stack_size + stack_word i))) c ≡ Ok d = load_word c 0 4 rsp (stack_size + stack_word i) v (h.others 4 (λ q. omega (arith, q)) (λ q. omega (arith, q))) (omega (arith, low, few)) there_c in
+            (d, (calm c _ h, (d, loads, refl)), record { near = near_on c d h (λ r n k. change_other c.gpr 0 v r n) refl; rax = refl; memory = refl })
+
+    -- where a word comes from is there
+    abbrev pub IsReady : (ℕ → ℕ) → Source → Type 0
+    IsReady arg (source.Argument k i) = (i < 64) × IsThere i (arg i) × (arg i < 2 ^ 64)
+    IsReady arg (source.Number n) = n < 2 ^ 32
+
+    source_line : (arg : ℕ → ℕ) (from : Source) → IsReady arg from → (c : Core) → Near c → (d : Core) × Line Q (source_code from) c d × Holds (taken arg from) c d
+    source_line arg (source.Argument k i) ready c h =
+        let x = fetch_line i (arg i) ready.0 ready.1 c h in
+        let y = class_line k x.0 x.2.near in
+        (y.0, line_append Q (fetch_code i) (class_code k) c x.0 y.0 x.1 y.1, record { near = y.2.near; rax = y.2.rax ∙ ap (as_word k) x.2.rax; memory = y.2.memory ∙ x.2.memory })
+    source_line arg (source.Number n) ready c h =
+        let d : Core = with_gpr c 0 n in
+        (d, (calm c _ h, (d, refl, refl)), record { near = near_on c d h (λ r q k. change_other c.gpr 0 n r q) refl; rax = refl; memory = refl })
+
+    taken_small : (arg : ℕ → ℕ) (from : Source) → IsReady arg from → taken arg from < 2 ^ 64
+    taken_small arg (source.Argument k i) ready = as_word_small k (arg i) ready.2
+    taken_small arg (source.Number n) ready = omega (arith, ready)
+
+    -- the word so far above RSP is v, and no byte below it changed, nor one behind it
+    pub record Filled (to v : ℕ) (c d : Core) : Type 0 where
+      pub near : Near d
+      pub word : word d.memory (rsp + to) ≡ Some v
+      pub elsewhere : (x : ℕ) → (x < rsp + to) ⊎ (rsp + to + 8 ≤ x) → d.memory x ≡ c.memory x
+
+    pub fill_line : (arg : ℕ → ℕ) (from : Source) (to : ℕ) → to + 8 ≤ stack_size → IsReady arg from → (c : Core) → Near c → (d : Core) × Line Q (fill_code from to) c d × Filled to (taken arg from) c d
+    fill_line arg from to room ready c h =
+        let x = source_line arg from ready c h in
+        let u : Core = x.0 in
+        let near = x.2.near in
+        let v = taken arg from in
+        let f = byte_of 8 (u.gpr 0) in
+        let d : Core = with_memory u (fill 8 u.memory (rsp + to) f) in
+        let stores : work (Store 0 (away 4 to)) u ≡ Ok d = store_word u 0 4 rsp to (near.others 4 (λ q. omega (arith, q)) (λ q. omega (arith, q))) (omega (arith, low, room)) (λ a l m. near.mapped a (omega (arith, l), omega (arith, m, room))) in
+        let small : u.gpr 0 < 2 ^ 64 = subst (λ z. z < 2 ^ 64) (sym x.2.rax) (taken_small arg from ready) in
+        let away_from : (a : ℕ) → (a < rsp + to) ⊎ (rsp + to + 8 ≤ a) → d.memory a ≡ u.memory a = λ a out. fill_out 8 u.memory (rsp + to) f a (omega (arith, low, room)) (λ j l q. ⊎_elim (λ z. omega (arith, z, q)) (λ z. omega (arith, z, q, l)) out) in (
+          d,
+          line_append Q (source_code from) (Store 0 (away 4 to) ∷ []) c u d x.1 (calm u _ near, (d, stores, refl)),
+          record {
+            near = record {
+              others = near.others;
+              outside = λ a out. fill_out 8 u.memory (rsp + to) f a (omega (arith, low, room)) (λ j l q. out (omega (arith, q), omega (arith, q, l, room))) ∙ near.outside a out;
+              mapped = λ a i. fill_mapped 8 u.memory (rsp + to) f a (near.mapped a i);
+            };
+            word = word_stored u.memory (rsp + to) (u.gpr 0) (omega (arith, low, room)) small ∙ ap Some x.2.rax;
+            elsewhere = λ a out. away_from a out ∙ ap (λ g. g a) x.2.memory;
+          },
+        )
