@@ -23,7 +23,7 @@ use Rattle.orc_entry.specs.declared.arguments.Class.TheVariants as class
 use Rattle.orc_entry.specs.declared.arguments.Source.{Source}
 use Rattle.orc_entry.specs.declared.arguments.Source.TheVariants as source
 use Rattle.orc_entry.specs.Arguments.{extended, counted, as_word, taken, in_registers, register_of, stack_word}
-use Rattle.orc_entry.specs.Code.{fetch_code, class_code, source_code, fill_code, stack_size}
+use Rattle.orc_entry.specs.Code.{fetch_code, class_code, source_code, fill_code, fills_code, Ascend, stack_size}
 
 -- ---- what the shifts leave
 
@@ -207,5 +207,42 @@ module _ (Q : Core → Ins → Type 0) (s : Core) (low : s.gpr 4 + stack_size + 
             };
             word = word_stored u.memory (rsp + to) (u.gpr 0) (omega (arith, low, room)) small ∙ ap Some x.2.rax;
             elsewhere = λ a out. away_from a out ∙ ap (λ g. g a) x.2.memory;
+          },
+        )
+
+    -- ---- words one after another
+
+    abbrev pub AllReady : (ℕ → ℕ) → List (Source × ℕ) → Type 0
+    AllReady arg [] = Unit {0}
+    AllReady arg (x ∷ xs) = IsReady arg x.0 × AllReady arg xs
+
+    abbrev pub AllFilled : (ℕ → ℕ) → Memory → List (Source × ℕ) → Type 0
+    AllFilled arg mem [] = Unit {0}
+    AllFilled arg mem (x ∷ xs) = (word mem (rsp + x.1) ≡ Some (taken arg x.0)) × AllFilled arg mem xs
+
+    pub record Filling (arg : ℕ → ℕ) (from : ℕ) (xs : List (Source × ℕ)) (c d : Core) : Type 0 where
+      pub near : Near d
+      pub words : AllFilled arg d.memory xs
+      pub below : (x : ℕ) → x < rsp + from → d.memory x ≡ c.memory x
+
+    ascend_low : (from : ℕ) (xs : List (Source × ℕ)) → Ascend from xs → from ≤ stack_size
+    ascend_low from [] h = h
+    ascend_low from (x ∷ xs) h = omega (arith, h.0, ascend_low (x.1 + 8) xs h.1)
+
+    pub fills_line : (arg : ℕ → ℕ) (from : ℕ) (xs : List (Source × ℕ)) → Ascend from xs → AllReady arg xs → (c : Core) → Near c → (d : Core) × Line Q (fills_code xs) c d × Filling arg from xs c d
+    fills_line arg from [] up ready c h = (c, refl, record { near = h; words = tt; below = λ x l. refl })
+    fills_line arg from (x ∷ xs) up ready c h =
+        let room : x.1 + 8 ≤ stack_size = ascend_low (x.1 + 8) xs up.1 in
+        let a = fill_line arg x.0 x.1 room ready.0 c h in
+        let u : Core = a.0 in
+        let b = fills_line arg (x.1 + 8) xs up.1 ready.1 u a.2.near in
+        let d : Core = b.0 in
+        let kept : word d.memory (rsp + x.1) ≡ word u.memory (rsp + x.1) = word_same d.memory u.memory (rsp + x.1) (omega (arith, low, room)) (λ y l m. b.2.below y (omega (arith, m))) in (
+          d,
+          line_append Q (fill_code x.0 x.1) (fills_code xs) c u d a.1 b.1,
+          record {
+            near = b.2.near;
+            words = (kept ∙ a.2.word, b.2.words);
+            below = λ y l. b.2.below y (omega (arith, l, up.0)) ∙ a.2.elsewhere y (inl (omega (arith, l, up.0)));
           },
         )

@@ -1,5 +1,5 @@
 -- The lists before and behind a function's code: the compiler's plan.
-use Rattle.std.specs.Prelude.{ℕ, zero, suc, ◌+◌, ◌-◌, ◌*◌, ◌==◌, nat_lt, if◌then◌else◌, pos, false, List, [], ◌∷◌, ◌++◌}
+use Rattle.std.specs.Prelude.{ℕ, zero, suc, ◌+◌, ◌-◌, ◌*◌, ◌≤◌, ◌==◌, nat_lt, if◌then◌else◌, pos, false, List, [], ◌∷◌, ◌++◌}
 use Rattle.x86_ins.specs.declared.ins.AluOp.TheVariants.{Add, Sub, And}
 use Rattle.x86_ins.specs.declared.ins.ShiftOp.TheVariants.{Shl, Shr, Sar}
 use Rattle.x86_ins.specs.declared.ins.MoveOp.TheVariants.{Movd}
@@ -79,3 +79,14 @@ sum_code size g = Load 1 (away 4 (pointer_at g)) ∷ (if size == 2 then Load16 0
 
 abbrev pub exit_code : FunctionValue → List Ins
 exit_code f = joined (λ g. sum_code (sum_size f g) g) (shape_of f).sums ++ AluImm Add 4 (pos stack_size) ∷ []
+
+-- ---- the words that are filled, and how far above RSP each is, in ascending order
+
+abbrev pub fills_code : List (Source × ℕ) → List Ins
+fills_code [] = []
+fills_code (x ∷ xs) = fill_code x.0 x.1 ++ fills_code xs
+
+-- from so far above RSP on, each word ends where or before the next begins, and the last within the entry's bytes
+abbrev pub Ascend : ℕ → List (Source × ℕ) → Type 0
+Ascend low [] = low ≤ stack_size
+Ascend low (x ∷ xs) = (low ≤ x.1) × Ascend (x.1 + 8) xs
