@@ -76,6 +76,11 @@ as_word_small class.Word v h = h
 as_word_small class.Int v h = extended_small v
 as_word_small class.Count v h = counted_small v
 
+-- the words so far above RSP hold what they are filled with
+abbrev pub AllFilled : ℕ → (ℕ → ℕ) → Memory → List (Source × ℕ) → Type 0
+AllFilled rsp arg mem [] = Unit {0}
+AllFilled rsp arg mem (x ∷ xs) = (word mem (rsp + x.1) ≡ Some (taken arg x.0)) × AllFilled rsp arg mem xs
+
 -- ---- the instructions
 
 -- s is the core with RSP lowered; Q is to hold of each step's core and instruction
@@ -128,9 +133,11 @@ module _ (Q : Core → Ins → Type 0) (s : Core) (low : s.gpr 4 + stack_size + 
         let n3 : Near u3 = near_on u2 u3 n2 (λ r n k. change_other u2.gpr 0 (shr 64 a 32) r n) refl in
         let n4 : Near u4 = near_on u3 u4 n3 (λ r n k. change_other u3.gpr 11 (shr 64 a 63) r k) refl in
         let n5 : Near u5 = near_on u4 u5 n4 (λ r n k. change_other u4.gpr 11 (alu_result Sub (u4.gpr 11) (wrap 64 (pos 1))) r k) refl in
-        let n6 : Near d = near_on u5 d n5 (λ r n k. change_other u5.gpr 0 (alu_result And (u5.gpr 0) (u5.gpr 11)) r n) refl in
-        (d, (calm c _ h, (u1, refl, (calm u1 _ n1, (u2, refl, (calm u2 _ n2, (u3, refl, (calm u3 _ n3, (u4, refl, (calm u4 _ n4, (u5, refl, (calm u5 _ n5, (d, refl, refl)))))))))))),
-        record { near = n6; rax = counted_is (c.gpr 0); memory = refl })
+        let n6 : Near d = near_on u5 d n5 (λ r n k. change_other u5.gpr 0 (alu_result And (u5.gpr 0) (u5.gpr 11)) r n) refl in (
+          d,
+          (calm c _ h, (u1, refl, (calm u1 _ n1, (u2, refl, (calm u2 _ n2, (u3, refl, (calm u3 _ n3, (u4, refl, (calm u4 _ n4, (u5, refl, (calm u5 _ n5, (d, refl, refl)))))))))))),
+          record { near = n6; rax = counted_is (c.gpr 0); memory = refl },
+        )
 
     -- the argument i is v, in its register or in its word behind the return word, which was at RSP before that was lowered
     abbrev pub IsThere : ℕ → ℕ → Type 0
@@ -216,13 +223,9 @@ module _ (Q : Core → Ins → Type 0) (s : Core) (low : s.gpr 4 + stack_size + 
     AllReady arg [] = Unit {0}
     AllReady arg (x ∷ xs) = IsReady arg x.0 × AllReady arg xs
 
-    abbrev pub AllFilled : (ℕ → ℕ) → Memory → List (Source × ℕ) → Type 0
-    AllFilled arg mem [] = Unit {0}
-    AllFilled arg mem (x ∷ xs) = (word mem (rsp + x.1) ≡ Some (taken arg x.0)) × AllFilled arg mem xs
-
     pub record Filling (arg : ℕ → ℕ) (from : ℕ) (xs : List (Source × ℕ)) (c d : Core) : Type 0 where
       pub near : Near d
-      pub words : AllFilled arg d.memory xs
+      pub words : AllFilled rsp arg d.memory xs
       pub below : (x : ℕ) → x < rsp + from → d.memory x ≡ c.memory x
 
     ascend_low : (from : ℕ) (xs : List (Source × ℕ)) → Ascend from xs → from ≤ stack_size

@@ -1,1 +1,3 @@
 pub mod Fills
+pub mod Entering
+pub mod Ascending

@@ -49,37 +49,6 @@ fill_code from to = source_code from ++ Store 0 (away 4 to) ∷ []
 
 -- ---- before the function's code
 
--- the words of an array
-abbrev pub array_code : Shape → ℕ → List Ins
-array_code s k = fill_code (base_source s k) (block_at + base_word k) ++ fill_code (stride_source s k) (block_at + stride_word k)
-
-abbrev pub source_array_code : Shape → ℕ → List Ins
-source_array_code s k = array_code s (4 + k)
-
-abbrev pub param_code : FunctionValue → ℕ → List Ins
-param_code f j = fill_code (param_source f j) (block_at + param_word j)
-
-abbrev pub pointer_code : Shape → ℕ → List Ins
-pointer_code s g = fill_code (argument class.Word (sum_argument s g)) (pointer_at g)
-
-abbrev pub counts_code : Shape → List Ins
-counts_code s = fill_code (elements_source s) (block_at + elements_word) ++ fill_code (rows_source s) (block_at + rows_word)
-
--- RSP goes down, the words are filled, and RDI points at the block
-abbrev pub entry_code : FunctionValue → List Ins
-entry_code f =
-    let s = shape_of f in
-    AluImm Sub 4 (pos stack_size) ∷ (counts_code s ++ (joined (array_code s) s.dests ++ (joined (source_array_code s) s.sources ++ (joined (param_code f) s.params ++ (joined (pointer_code s) s.sums ++ Lea 7 (away 4 block_at) ∷ [])))))
-
--- ---- behind it
-
--- the low 2 or 4 bytes of a sum go to where RCX points
-abbrev pub sum_code : ℕ → ℕ → List Ins
-sum_code size g = Load 1 (away 4 (pointer_at g)) ∷ (if size == 2 then Load16 0 (away 4 (block_at + sum_word g)) ∷ Store16 0 (here 1) ∷ [] else VecLoad Movd 0 (away 4 (block_at + sum_word g)) ∷ VecStore Movd 0 (here 1) ∷ [])
-
-abbrev pub exit_code : FunctionValue → List Ins
-exit_code f = joined (λ g. sum_code (sum_size f g) g) (shape_of f).sums ++ AluImm Add 4 (pos stack_size) ∷ []
-
 -- ---- the words that are filled, and how far above RSP each is, in ascending order
 
 abbrev pub fills_code : List (Source × ℕ) → List Ins
@@ -90,3 +59,33 @@ fills_code (x ∷ xs) = fill_code x.0 x.1 ++ fills_code xs
 abbrev pub Ascend : ℕ → List (Source × ℕ) → Type 0
 Ascend low [] = low ≤ stack_size
 Ascend low (x ∷ xs) = (low ≤ x.1) × Ascend (x.1 + 8) xs
+
+abbrev pub joined_fills : (ℕ → List (Source × ℕ)) → ℕ → List (Source × ℕ)
+joined_fills fills zero = []
+joined_fills fills (suc n) = joined_fills fills n ++ fills n
+
+-- the words of the array in a slot
+abbrev pub array_fills : Shape → ℕ → List (Source × ℕ)
+array_fills s k = (base_source s k, block_at + base_word k) ∷ (stride_source s k, block_at + stride_word k) ∷ []
+
+-- the words of the block that a function uses, and its accumulators' pointers
+abbrev pub fills_of : FunctionValue → List (Source × ℕ)
+fills_of f =
+    let s = shape_of f in
+    (elements_source s, block_at + elements_word) ∷ (rows_source s, block_at + rows_word) ∷ (joined_fills (array_fills s) s.dests
+    ++ (joined_fills (λ k. array_fills s (4 + k)) s.sources
+    ++ (joined_fills (λ j. (param_source f j, block_at + param_word j) ∷ []) s.params
+    ++ joined_fills (λ g. (argument class.Word (sum_argument s g), pointer_at g) ∷ []) s.sums)))
+
+-- RSP goes down, the words are filled, and RDI points at the block
+abbrev pub entry_code : FunctionValue → List Ins
+entry_code f = AluImm Sub 4 (pos stack_size) ∷ (fills_code (fills_of f) ++ Lea 7 (away 4 block_at) ∷ [])
+
+-- ---- behind it
+
+-- the low 2 or 4 bytes of a sum go to where RCX points
+abbrev pub sum_code : ℕ → ℕ → List Ins
+sum_code size g = Load 1 (away 4 (pointer_at g)) ∷ (if size == 2 then Load16 0 (away 4 (block_at + sum_word g)) ∷ Store16 0 (here 1) ∷ [] else VecLoad Movd 0 (away 4 (block_at + sum_word g)) ∷ VecStore Movd 0 (here 1) ∷ [])
+
+abbrev pub exit_code : FunctionValue → List Ins
+exit_code f = joined (λ g. sum_code (sum_size f g) g) (shape_of f).sums ++ AluImm Add 4 (pos stack_size) ∷ []

@@ -136,7 +136,7 @@ pub fn argument_count(shape: Shape) -> usize
 }
 
 /// The class of a parameter of so many bytes.
-#[tactic(auto, using(crate::proofs::Fills::as_word_small))]
+#[tactic(auto, using(crate::proofs::Entering::entry_line, crate::proofs::Ascending::fills_ascend))]
 pub fn class_of(size: u8) -> Class
     ensures { result ≡ class_of size }
 {

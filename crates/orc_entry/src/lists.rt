@@ -3,13 +3,15 @@
 ghost use Rattle.std.specs.Prelude.{◌≡◌, ◌<◌, ◌≤◌, ◌+◌, ◌++◌, IfOk, OnOk, pos};
 ghost use Rattle.orc_frame.specs.Code.{joined};
 ghost use Rattle.orc_entry.specs.Arguments.{IsSmall, shape_of, argument};
-ghost use Rattle.orc_entry.specs.Code.{fetch_code, class_code, source_code, fill_code, counts_code, array_code, source_array_code, param_code, pointer_code, entry_code, sum_code, exit_code, stack_size};
+ghost use Rattle.orc_entry.specs.Code.{fetch_code, class_code, source_code, fill_code, entry_code, sum_code, exit_code, stack_size};
 
 use crate::arguments::{
     Class, Shape, Source, base_argument, class_of, elements_source, param_argument, rows_source,
     shape_of, stride_of, sum_argument,
 };
-use orc_frame::{BLOCK, ELEMENTS_WORD, Layout, ROWS_WORD, STACK, base_word, param_word, stride_word, sum_word};
+use orc_frame::{
+    BLOCK, ELEMENTS_WORD, Layout, ROWS_WORD, STACK, base_word, param_word, stride_word, sum_word,
+};
 use orc_program::Function;
 use orc_program::variables::size_at;
 use std::alloc::{AllocError, Global};
@@ -137,11 +139,7 @@ fn push_array(list: &mut InsList, shape: Shape, slot: usize) -> Result<(), Alloc
         },
         BLOCK_AT + base_word(slot),
     )?;
-    push_fill(
-        list,
-        stride_of(shape, base),
-        BLOCK_AT + stride_word(slot),
-    )
+    push_fill(list, stride_of(shape, base), BLOCK_AT + stride_word(slot))
 }
 
 /// The list before a function's code: RSP goes down, the block is filled, and RDI points at it.
