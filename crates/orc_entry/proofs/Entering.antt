@@ -11,7 +11,7 @@ use Rattle.x86_flow.specs.Moves.{away}
 use Rattle.x86_flow.specs.Does.{Line}
 use Rattle.x86_flow.proofs.Moves.{line_append}
 use Rattle.x86_flow.proofs.Words.{at_away}
-use Rattle.orc_entry.specs.declared.arguments.Source.{Source}
+use Rattle.orc_entry.specs.declared.sources.Source.{Source}
 use Rattle.orc_entry.specs.Arguments.{argument_at, in_registers, register_of, stack_word}
 use Rattle.orc_entry.specs.Code.{fills_code, Ascend, stack_size, block_at}
 use Rattle.orc_entry.proofs.Fills.{Near, IsThere, AllReady, AllFilled, Filling, fills_line}

@@ -18,11 +18,12 @@ use Rattle.x86_flow.specs.Does.{Line}
 use Rattle.x86_flow.proofs.Moves.{line_append}
 use Rattle.x86_flow.proofs.Words.{store_word, load_word}
 use Rattle.x86_flow.proofs.Frame.{word_stored, word_apart, word_same}
-use Rattle.orc_entry.specs.declared.arguments.Class.{Class}
-use Rattle.orc_entry.specs.declared.arguments.Class.TheVariants as class
-use Rattle.orc_entry.specs.declared.arguments.Source.{Source}
-use Rattle.orc_entry.specs.declared.arguments.Source.TheVariants as source
-use Rattle.orc_entry.specs.Arguments.{extended, counted, as_word, taken, in_registers, register_of, stack_word}
+use Rattle.orc_prototype.specs.declared.arguments.Class.{Class}
+use Rattle.orc_prototype.specs.declared.arguments.Class.TheVariants as class
+use Rattle.orc_entry.specs.declared.sources.Source.{Source}
+use Rattle.orc_entry.specs.declared.sources.Source.TheVariants as source
+use Rattle.orc_prototype.specs.Arguments.{extended, counted, as_word}
+use Rattle.orc_entry.specs.Arguments.{taken, in_registers, register_of, stack_word}
 use Rattle.orc_entry.specs.Code.{fetch_code, class_code, source_code, fill_code, fills_code, Ascend, stack_size}
 
 -- ---- what the shifts leave

@@ -1,5 +1,5 @@
 -- The lists before and behind a function's code: the compiler's plan.
-use Rattle.std.specs.Prelude.{ℕ, zero, suc, ◌+◌, ◌-◌, ◌*◌, ◌≤◌, ◌==◌, nat_lt, if◌then◌else◌, pos, false, List, [], ◌∷◌, ◌++◌}
+use Rattle.std.specs.Prelude.{ℕ, zero, suc, ◌+◌, ◌-◌, ◌*◌, ◌≤◌, ◌==◌, Bool, nat_lt, if◌then◌else◌, pos, List, [], ◌∷◌, ◌++◌}
 use Rattle.x86_ins.specs.declared.ins.AluOp.TheVariants.{Add, Sub, And}
 use Rattle.x86_ins.specs.declared.ins.ShiftOp.TheVariants.{Shl, Shr, Sar}
 use Rattle.x86_ins.specs.declared.ins.MoveOp.TheVariants.{Movd}
@@ -9,12 +9,13 @@ use Rattle.x86_flow.specs.Moves.{away, here}
 use Rattle.orc_frame.specs.Parts.{elements_word, rows_word, base_word, stride_word, param_word, sum_word}
 use Rattle.orc_frame.specs.Code.{joined}
 use Rattle.orc_program.specs.Program.{FunctionValue}
-use Rattle.orc_entry.specs.declared.arguments.Class.{Class}
-use Rattle.orc_entry.specs.declared.arguments.Class.TheVariants as class
-use Rattle.orc_entry.specs.declared.arguments.Source.{Source}
-use Rattle.orc_entry.specs.declared.arguments.Source.TheVariants as source
-use Rattle.orc_entry.specs.declared.arguments.Shape.{Shape}
-use Rattle.orc_entry.specs.Arguments.{shape_of, in_registers, register_of, stack_word, argument, elements_source, rows_source, base_source, stride_source, param_source, sum_argument, sum_size}
+use Rattle.orc_prototype.specs.declared.arguments.Class.{Class}
+use Rattle.orc_prototype.specs.declared.arguments.Class.TheVariants as class
+use Rattle.orc_entry.specs.declared.sources.Source.{Source}
+use Rattle.orc_entry.specs.declared.sources.Source.TheVariants as source
+use Rattle.orc_prototype.specs.declared.arguments.Shape.{Shape}
+use Rattle.orc_prototype.specs.Arguments.{shape_of, sum_argument, sum_size}
+use Rattle.orc_entry.specs.Arguments.{in_registers, register_of, stack_word, argument, elements_source, rows_source, base_source, stride_source, param_source}
 
 -- ---- the bytes that an entry takes from the stack: a word that nothing uses, the block, and the accumulators' pointers
 
@@ -69,17 +70,17 @@ abbrev pub array_fills : Shape → ℕ → List (Source × ℕ)
 array_fills s k = (base_source s k, block_at + base_word k) ∷ (stride_source s k, block_at + stride_word k) ∷ []
 
 -- the words of the block that a function uses, and its accumulators' pointers
-abbrev pub fills_of : FunctionValue → List (Source × ℕ)
-fills_of f =
+abbrev pub fills_of : FunctionValue → List Bool → List (Source × ℕ)
+fills_of f longs =
     let s = shape_of f in
     (elements_source s, block_at + elements_word) ∷ (rows_source s, block_at + rows_word) ∷ (joined_fills (array_fills s) s.dests
     ++ (joined_fills (λ k. array_fills s (4 + k)) s.sources
-    ++ (joined_fills (λ j. (param_source f j, block_at + param_word j) ∷ []) s.params
+    ++ (joined_fills (λ j. (param_source f longs j, block_at + param_word j) ∷ []) s.params
     ++ joined_fills (λ g. (argument class.Word (sum_argument s g), pointer_at g) ∷ []) s.sums)))
 
 -- RSP goes down, the words are filled, and RDI points at the block
-abbrev pub entry_code : FunctionValue → List Ins
-entry_code f = AluImm Sub 4 (pos stack_size) ∷ (fills_code (fills_of f) ++ Lea 7 (away 4 block_at) ∷ [])
+abbrev pub entry_code : FunctionValue → List Bool → List Ins
+entry_code f longs = AluImm Sub 4 (pos stack_size) ∷ (fills_code (fills_of f longs) ++ Lea 7 (away 4 block_at) ∷ [])
 
 -- ---- behind it
 

@@ -5,9 +5,9 @@
 //! `specs/Arguments` has the order of the arguments and where each is, and `specs/Entry` what a good entry is and what the code then does.
 #![tactic(auto)]
 
-mod arguments;
 mod entry;
 mod lists;
+mod sources;
 
-pub use arguments::{Class, Shape, Source, argument_count, shape_of};
 pub use entry::entry_for;
+pub use sources::Source;

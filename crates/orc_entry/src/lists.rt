@@ -2,18 +2,16 @@
 
 ghost use Rattle.std.specs.Prelude.{◌≡◌, ◌<◌, ◌≤◌, ◌+◌, ◌++◌, IfOk, OnOk, pos};
 ghost use Rattle.orc_frame.specs.Code.{joined};
-ghost use Rattle.orc_entry.specs.Arguments.{IsSmall, shape_of, argument};
+ghost use Rattle.orc_prototype.specs.Arguments.{IsSmall, shape_of, is_long};
+ghost use Rattle.orc_entry.specs.Arguments.{argument};
 ghost use Rattle.orc_entry.specs.Code.{fetch_code, class_code, source_code, fill_code, entry_code, sum_code, exit_code, stack_size};
 
-use crate::arguments::{
-    Class, Shape, Source, base_argument, class_of, elements_source, param_argument, rows_source,
-    shape_of, stride_of, sum_argument,
-};
+use crate::sources::{Source, base_argument, elements_source, rows_source, stride_of};
+use orc_prototype::{Class, Shape, class_of, param_argument, shape_of, sum_argument};
 use orc_frame::{
     BLOCK, ELEMENTS_WORD, Layout, ROWS_WORD, STACK, base_word, param_word, stride_word, sum_word,
 };
 use orc_program::Function;
-use orc_program::variables::size_at;
 use std::alloc::{AllocError, Global};
 use x86_flow::{SCRATCH, away};
 use x86_ins::{AluOp, Gpr, Ins, InsList, MoveOp, ShiftOp, Xmm};
@@ -142,10 +140,19 @@ fn push_array(list: &mut InsList, shape: Shape, slot: usize) -> Result<(), Alloc
     push_fill(list, stride_of(shape, base), BLOCK_AT + stride_word(slot))
 }
 
+/// Whether a parameter is said by `.longparam`.
+fn is_long(longs: &[bool], number: usize) -> bool
+    ensures { result ≡ is_long longs.now number }
+{
+    match longs.get(number) {
+        Some(long) => *long,
+        None => false,
+    }
+}
+
 /// The list before a function's code: RSP goes down, the block is filled, and RDI points at it.
-pub fn entry_list(alloc: Global, f: &Function, layout: &Layout) -> Result<InsList, AllocError> {
+pub fn entry_list(alloc: Global, f: &Function, longs: &[bool]) -> Result<InsList, AllocError> {
     let shape = shape_of(f);
-    let vars = f.vars.as_slice();
     let mut list = InsList::new(alloc);
     list.push(Ins::AluImm {
         op: AluOp::Sub,
@@ -164,7 +171,7 @@ pub fn entry_list(alloc: Global, f: &Function, layout: &Layout) -> Result<InsLis
         push_fill(
             &mut list,
             Source::Argument {
-                class: class_of(size_at(vars, layout.params.as_slice()[j])),
+                class: class_of(is_long(longs, j)),
                 number: param_argument(shape, j),
             },
             BLOCK_AT + param_word(j),

@@ -1,7 +1,7 @@
 //! The arguments of a function's prototype in C, by their numbers.
 
-ghost use Rattle.std.specs.Prelude.{◌≡◌, ◌≤◌, ◌<◌, ◌+◌, ◌*◌};
-ghost use Rattle.orc_entry.specs.Arguments.{IsSmall, shape_of, width, dest_argument, sum_argument, source_argument, param_argument, elements_argument, rows_argument, argument_count, class_of, elements_source, rows_source, stride_of, base_argument};
+ghost use Rattle.std.specs.Prelude.{◌≡◌, ◌≤◌, ◌<◌};
+ghost use Rattle.orc_prototype.specs.Arguments.{IsSmall, shape_of, width, dest_argument, sum_argument, source_argument, param_argument, elements_argument, rows_argument, argument_count, class_of};
 
 use orc_program::variables::count_of;
 use orc_program::{Function, VarKind, facts};
@@ -15,20 +15,6 @@ pub enum Class {
     Int,
     /// Its low 32 bits, and 0 where they are negative.
     Count,
-}
-
-/// Where a word of a function's block comes from.
-#[derive(Clone, Copy, Debug, PartialEq, Eq)]
-pub enum Source {
-    /// An argument, by its number.
-    Argument {
-        /// How it becomes a word.
-        class: Class,
-        /// Its number, from 0.
-        number: usize,
-    },
-    /// A number.
-    Number(u32),
 }
 
 /// What of a function decides its arguments.
@@ -77,18 +63,24 @@ fn width(shape: Shape) -> usize
     if shape.two_d { 2 } else { 1 }
 }
 
-/// The argument that is the address of the array in a slot.
-pub fn base_argument(shape: Shape, slot: usize) -> usize
+/// The argument that is the address of a dest.
+pub fn dest_argument(shape: Shape, number: usize) -> usize
     requires small { IsSmall shape }
-    requires slot { slot < 12 }
-    ensures value { result ≡ base_argument shape slot }
+    requires few { number < 4 }
+    ensures value { result ≡ dest_argument shape number }
     ensures few { result < 64 }
 {
-    if slot < 4 {
-        width(shape) * slot
-    } else {
-        width(shape) * shape.dests + shape.sums + width(shape) * (slot - 4)
-    }
+    width(shape) * number
+}
+
+/// The argument that is the address of a source.
+pub fn source_argument(shape: Shape, number: usize) -> usize
+    requires small { IsSmall shape }
+    requires few { number < 8 }
+    ensures value { result ≡ source_argument shape number }
+    ensures few { result < 64 }
+{
+    width(shape) * shape.dests + shape.sums + width(shape) * number
 }
 
 /// The argument that is the pointer of an accumulator.
@@ -110,7 +102,7 @@ pub fn param_argument(shape: Shape, number: usize) -> usize
 }
 
 /// The argument n, or the one that is in its place.
-fn elements_argument(shape: Shape) -> usize
+pub fn elements_argument(shape: Shape) -> usize
     requires small { IsSmall shape }
     ensures value { result ≡ elements_argument shape }
     ensures few { result < 64 }
@@ -119,7 +111,7 @@ fn elements_argument(shape: Shape) -> usize
 }
 
 /// The argument m, or the one that is in its place.
-fn rows_argument(shape: Shape) -> usize
+pub fn rows_argument(shape: Shape) -> usize
     requires small { IsSmall shape }
     ensures value { result ≡ rows_argument shape }
     ensures few { result < 65 }
@@ -135,57 +127,9 @@ pub fn argument_count(shape: Shape) -> usize
     rows_argument(shape) + usize::from(shape.two_d && shape.rows == 0)
 }
 
-/// The class of a parameter of so many bytes.
-#[tactic(auto, using(crate::proofs::Entering::entry_line, crate::proofs::Ascending::fills_ascend))]
-pub fn class_of(size: u8) -> Class
-    ensures { result ≡ class_of size }
+/// The class of a parameter: whether it is said by `.longparam`.
+pub fn class_of(long: bool) -> Class
+    ensures { result ≡ class_of long }
 {
-    if size == 8 { Class::Word } else { Class::Int }
-}
-
-/// Where the number of elements comes from.
-pub fn elements_source(shape: Shape) -> Source
-    requires small { IsSmall shape }
-    ensures { result ≡ elements_source shape }
-{
-    if shape.elements == 0 {
-        Source::Argument {
-            class: Class::Count,
-            number: elements_argument(shape),
-        }
-    } else {
-        Source::Number(shape.elements)
-    }
-}
-
-/// Where the number of rows comes from.
-pub fn rows_source(shape: Shape) -> Source
-    requires small { IsSmall shape }
-    ensures { result ≡ rows_source shape }
-{
-    if !shape.two_d {
-        Source::Number(1)
-    } else if shape.rows == 0 {
-        Source::Argument {
-            class: Class::Count,
-            number: rows_argument(shape),
-        }
-    } else {
-        Source::Number(shape.rows)
-    }
-}
-
-/// Where a stride comes from, by the argument that is its array's address.
-pub fn stride_of(shape: Shape, base: usize) -> Source
-    requires few { base < 64 }
-    ensures { result ≡ stride_of shape base }
-{
-    if shape.two_d {
-        Source::Argument {
-            class: Class::Int,
-            number: base + 1,
-        }
-    } else {
-        Source::Number(0)
-    }
+    if long { Class::Word } else { Class::Int }
 }
