@@ -2,8 +2,10 @@
 #![tactic(auto)]
 
 mod arguments;
+mod laws;
 
 pub use arguments::{
-    Class, Shape, argument_count, class_of, dest_argument, elements_argument, param_argument, rows_argument, shape_of,
-    source_argument, sum_argument,
+    Argument, Class, Shape, argument_count, argument_list, class_of, dest_argument, elements_argument,
+    param_argument, rows_argument, shape_of, source_argument, sum_argument,
 };
+pub use laws::{are_counted, are_numbered};
