@@ -13,17 +13,17 @@ use std::alloc::{AllocError, Global};
 #[derive(Clone, Copy, Debug, PartialEq, Eq)]
 pub enum Argument {
     /// The address of this dest.
-    Dest(usize),
+    Dest(u8),
     /// The stride of this dest, in bytes.
-    DestStride(usize),
+    DestStride(u8),
     /// Where the sum of this accumulator is stored.
-    Sum(usize),
+    Sum(u8),
     /// The address of this source.
-    Source(usize),
+    Source(u8),
     /// The stride of this source, in bytes.
-    SourceStride(usize),
+    SourceStride(u8),
     /// This parameter.
-    Param(usize),
+    Param(u8),
     /// The number of elements of a row.
     Elements,
     /// The number of rows.
@@ -96,7 +96,7 @@ fn put_array(
 }
 
 /// Appends the dests.
-fn put_dests(out: &mut Vec<Argument>, two_d: bool, count: usize) -> Result<(), AllocError>
+fn put_dests(out: &mut Vec<Argument>, two_d: bool, count: u8) -> Result<(), AllocError>
     ensures { OnOk result (out.new.items ≡ out.old.items ++ flat_map (dest_arguments two_d) (range_with_len 0 count)) }
 {
     for k in 0..count {
@@ -106,7 +106,7 @@ fn put_dests(out: &mut Vec<Argument>, two_d: bool, count: usize) -> Result<(), A
 }
 
 /// Appends the sources.
-fn put_sources(out: &mut Vec<Argument>, two_d: bool, count: usize) -> Result<(), AllocError>
+fn put_sources(out: &mut Vec<Argument>, two_d: bool, count: u8) -> Result<(), AllocError>
     ensures { OnOk result (out.new.items ≡ out.old.items ++ flat_map (source_arguments two_d) (range_with_len 0 count)) }
 {
     for k in 0..count {
@@ -116,7 +116,7 @@ fn put_sources(out: &mut Vec<Argument>, two_d: bool, count: usize) -> Result<(),
 }
 
 /// Appends the accumulators.
-fn put_sums(out: &mut Vec<Argument>, count: usize) -> Result<(), AllocError>
+fn put_sums(out: &mut Vec<Argument>, count: u8) -> Result<(), AllocError>
     ensures { OnOk result (out.new.items ≡ out.old.items ++ map argument.Sum (range_with_len 0 count)) }
 {
     for g in 0..count {
@@ -126,7 +126,7 @@ fn put_sums(out: &mut Vec<Argument>, count: usize) -> Result<(), AllocError>
 }
 
 /// Appends the parameters.
-fn put_params(out: &mut Vec<Argument>, count: usize) -> Result<(), AllocError>
+fn put_params(out: &mut Vec<Argument>, count: u8) -> Result<(), AllocError>
     ensures { OnOk result (out.new.items ≡ out.old.items ++ map argument.Param (range_with_len 0 count)) }
 {
     for j in 0..count {
@@ -139,13 +139,14 @@ fn put_params(out: &mut Vec<Argument>, count: usize) -> Result<(), AllocError>
 /// the text does not state its one value, and m where there are rows and the text does not state its one value. With rows each array's
 /// stride stands behind its address.
 pub fn argument_list(alloc: Global, shape: Shape) -> Result<Vec<Argument>, AllocError>
+    requires small { IsSmall shape }
     ensures { IfOk result (λ list. list.items ≡ arguments shape) }
 {
     let mut list = Vec::new(alloc);
-    put_dests(&mut list, shape.two_d, shape.dests)?;
-    put_sums(&mut list, shape.sums)?;
-    put_sources(&mut list, shape.two_d, shape.sources)?;
-    put_params(&mut list, shape.params)?;
+    put_dests(&mut list, shape.two_d, shape.dests as u8)?;
+    put_sums(&mut list, shape.sums as u8)?;
+    put_sources(&mut list, shape.two_d, shape.sources as u8)?;
+    put_params(&mut list, shape.params as u8)?;
     if shape.elements == 0 {
         list.push(Argument::Elements)?;
     }
