@@ -1,3 +1,4 @@
 pub mod Few
+pub mod NthOf
 pub mod Pieces
 pub mod Standing
