@@ -74,7 +74,7 @@ module _ {A : Type 0} (g : ℕ → List A) (w : ℕ) (even : (k : ℕ) → lengt
   piece_at a (suc n) (suc k) m i j x low here place e =
       let s : w * suc k ≡ w + w * k = grind arith in
       get_right (g a) (flat_map g (range_with_len (a + 1) n)) w i (w * k + j) x (even a) (omega (arith, place, s))
-          (piece_at (a + 1) n k m (w * k + j) j x (omega (arith, low)) (omega (arith, here)) refl e)
+      (piece_at (a + 1) n k m (w * k + j) j x (omega (arith, low)) (omega (arith, here)) refl e)
 
 pub single_at : {A : Type 0} (f : ℕ → A) (a n k m : ℕ) → k < n → a + k ≡ m → slice_get (map f (range_with_len a n)) k ≡ Some (f m)
 single_at f a zero k m low here = absurd (omega (arith, low))

@@ -107,7 +107,7 @@ module _ (s : Shape) where
   behind_sources : (i j : ℕ) (x : Argument) → width s * (s.dests + s.sources) + s.sums + j ≡ i → slice_get (params ++ (elements ++ rows)) j ≡ Some x → Stands s i x
   behind_sources i j x place e =
       behind_sums i (width s * s.sources + j) x (omega (arith, place, distributed (width s) s.dests s.sources))
-          (get_right sources (params ++ (elements ++ rows)) (width s * s.sources) (width s * s.sources + j) j x sources_length refl e)
+      (get_right sources (params ++ (elements ++ rows)) (width s * s.sources) (width s * s.sources + j) j x sources_length refl e)
 
   behind_params : (i j : ℕ) (x : Argument) → elements_argument s + j ≡ i → slice_get (elements ++ rows) j ≡ Some x → Stands s i x
   behind_params i j x place e =

@@ -14,10 +14,15 @@ use Rattle.orc_prototype.specs.Longs.{long_params}
 
 -- ---- what stands around the prototypes
 
+-- lines, each with a line feed behind it
+abbrev pub lines_text : List Word → List ℕ
+lines_text [] = []
+lines_text (line ∷ more) = line ++ (10 ∷ lines_text more)
+
 -- Every part may be read twice: the typedefs and macros stand under names of their own, and a function may be declared again.
 -- `ORC_RESTRICT` is nothing unless it is defined before: a call may pass one array as a dest and as a source, which `restrict` would forbid.
-abbrev pub opening : List Word
-opening = codes "#pragma once"
+unfoldable pub opening : List ℕ
+opening = lines_text (codes "#pragma once"
     ∷ codes ""
     ∷ codes "#include <stdint.h>"
     ∷ codes ""
@@ -53,19 +58,14 @@ opening = codes "#pragma once"
     ∷ codes "#endif"
     ∷ codes "#endif"
     ∷ codes ""
-    ∷ []
+    ∷ [])
 
-abbrev pub closing : List Word
-closing = codes ""
+unfoldable pub closing : List ℕ
+closing = lines_text (codes ""
     ∷ codes "#ifdef __cplusplus"
     ∷ codes "}"
     ∷ codes "#endif"
-    ∷ []
-
--- lines, each with a line feed behind it
-abbrev pub lines_text : List Word → List ℕ
-lines_text [] = []
-lines_text (line ∷ more) = line ++ (10 ∷ lines_text more)
+    ∷ [])
 
 -- ---- the type of an array's elements, and of a sum
 
@@ -160,4 +160,4 @@ init_text (Some name) = declaration name (codes "void")
 
 -- The header of a program that a text reads as: a prototype for each function, in order, and that of the function that `.init` names.
 unfoldable pub header_text : ProgramValue → List ℕ → List ℕ
-header_text p text = lines_text opening ++ (prototypes text p.functions ++ (init_text p.init ++ lines_text closing))
+header_text p text = opening ++ (prototypes text p.functions ++ (init_text p.init ++ closing))

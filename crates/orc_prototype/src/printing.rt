@@ -3,7 +3,7 @@
 ghost use Rattle.std.specs.Prelude.{◌≡◌, ◌++◌, ◌*◌, ◌+◌, map, IfOk, OnOk, MatchOption, Some, None};
 ghost use Rattle.std.specs.Fmt.{decimal};
 ghost use Rattle.orc_prototype.specs.Arguments.{is_long};
-ghost use Rattle.orc_prototype.specs.Header.{lines_text, type_word, renamed, type_text, nth_of, element_type, numbered, pointer_text, stride_text, param_text, argument_text, more_arguments, arguments_text, declaration, prototype, prototypes, init_text, header_text};
+ghost use Rattle.orc_prototype.specs.Header.{lines_text, opening, closing, type_word, renamed, type_text, nth_of, element_type, numbered, pointer_text, stride_text, param_text, argument_text, more_arguments, arguments_text, declaration, prototype, prototypes, init_text, header_text};
 
 use crate::arguments::{Argument, argument_list, shape_of};
 use crate::longs::long_params;
@@ -54,12 +54,7 @@ static OPENING: [&str; 36] = [
 ];
 
 /// The lines behind the prototypes.
-static CLOSING: [&str; 4] = [
-    "",
-    "#ifdef __cplusplus",
-    "}",
-    "#endif",
-];
+static CLOSING: [&str; 4] = ["", "#ifdef __cplusplus", "}", "#endif"];
 
 /// The integer types of `stdint.h`, by their names in the header.
 static INTEGER_TYPES: [(&str, &str); 8] = [
@@ -83,6 +78,22 @@ fn put_lines(out: &mut Vec<u8>, lines: &[&str]) -> Result<(), AllocError>
     out.extend_from_slice(line.as_bytes())?;
     out.push(b'\n')?;
     put_lines(out, rest)
+}
+
+/// Appends the lines before the prototypes.
+#[tactic(auto, unfolding(crate::specs::Header::opening))]
+fn put_opening(out: &mut Vec<u8>) -> Result<(), AllocError>
+    ensures { OnOk result (out.new.items ≡ out.old.items ++ opening) }
+{
+    put_lines(out, &OPENING)
+}
+
+/// Appends the lines behind the prototypes.
+#[tactic(auto, unfolding(crate::specs::Header::closing))]
+fn put_closing(out: &mut Vec<u8>) -> Result<(), AllocError>
+    ensures { OnOk result (out.new.items ≡ out.old.items ++ closing) }
+{
+    put_lines(out, &CLOSING)
 }
 
 /// The first word that is neither `align` nor the number behind it.
@@ -132,12 +143,7 @@ fn put_unsigned(alloc: Global, out: &mut Vec<u8>, size: u8) -> Result<(), AllocE
 }
 
 /// Appends the type of a variable's elements: the one that its words name, and else the unsigned integer of its size.
-fn put_type(
-    alloc: Global,
-    out: &mut Vec<u8>,
-    words: &[Word],
-    size: u8,
-) -> Result<(), AllocError>
+fn put_type(alloc: Global, out: &mut Vec<u8>, words: &[Word], size: u8) -> Result<(), AllocError>
     ensures { OnOk result (out.new.items ≡ out.old.items ++ type_text (type_word words.now) size) }
 {
     match type_word(words) {
@@ -201,12 +207,7 @@ fn put_pointer(
 }
 
 /// Appends a stride.
-fn put_stride(
-    alloc: Global,
-    out: &mut Vec<u8>,
-    letter: &[u8],
-    place: u8,
-) -> Result<(), AllocError>
+fn put_stride(alloc: Global, out: &mut Vec<u8>, letter: &[u8], place: u8) -> Result<(), AllocError>
     ensures { OnOk result (out.new.items ≡ out.old.items ++ stride_text letter.now place) }
 {
     out.extend_from_slice(b"int ")?;
@@ -225,12 +226,7 @@ fn is_long(longs: &[bool], place: u8) -> bool
 }
 
 /// Appends a parameter, which is declared by `.longparam` or not.
-fn put_param(
-    alloc: Global,
-    out: &mut Vec<u8>,
-    long: bool,
-    place: u8,
-) -> Result<(), AllocError>
+fn put_param(alloc: Global, out: &mut Vec<u8>, long: bool, place: u8) -> Result<(), AllocError>
     ensures { OnOk result (out.new.items ≡ out.old.items ++ param_text long place) }
 {
     out.extend_from_slice(if long { b"orc_int64 " } else { b"int " })?;
@@ -322,7 +318,13 @@ fn put_prototype(
     let longs = long_params(alloc, text, name)?;
     let arguments = argument_list(alloc, shape_of(f))?;
     let mut list = Vec::new(alloc);
-    put_arguments(alloc, &mut list, f.vars.as_slice(), longs.as_slice(), arguments.as_slice())?;
+    put_arguments(
+        alloc,
+        &mut list,
+        f.vars.as_slice(),
+        longs.as_slice(),
+        arguments.as_slice(),
+    )?;
     put_declaration(out, name, list.as_slice())
 }
 
@@ -361,9 +363,9 @@ pub fn header(alloc: Global, p: &Program, text: &[u8]) -> Result<Vec<u8>, AllocE
     ensures { IfOk result (λ header. header.items ≡ header_text p.now text.now) }
 {
     let mut out = Vec::new(alloc);
-    put_lines(&mut out, &OPENING)?;
+    put_opening(&mut out)?;
     put_prototypes(alloc, &mut out, text, p.functions.as_slice())?;
     put_init(&mut out, &p.init)?;
-    put_lines(&mut out, &CLOSING)?;
+    put_closing(&mut out)?;
     Ok(out)
 }
