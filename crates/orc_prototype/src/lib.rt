@@ -19,3 +19,6 @@ pub use arguments::{
 pub use laws::{are_counted, are_numbered};
 pub use longs::long_params;
 pub use printing::header;
+
+#[cfg(test)]
+mod tests;
