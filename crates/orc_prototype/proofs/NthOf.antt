@@ -1,5 +1,5 @@
 -- The variable of a number among those of a kind.
-use Rattle.std.proofs.Common.{◌≡◌, ℕ, suc, ◌-◌, ◌<◌, Bool, true, false, cond, List, ◌∷◌, get_or, ap, ◌∙◌, arith}
+use Rattle.std.proofs.Common.{◌≡◌, ℕ, suc, ◌-◌, ◌<◌, true, false, cond, List, ◌∷◌, get_or, ap, ◌∙◌, arith}
 use Rattle.std.specs.List.{filter}
 use Rattle.orc_program.specs.declared.program.Var.{Var}
 use Rattle.orc_program.specs.declared.program.VarKind.{VarKind}

@@ -1,11 +1,11 @@
 -- Where each argument stands.
-use Rattle.std.proofs.Common.{◌≡◌, ℕ, zero, suc, ◌+◌, ◌*◌, ◌<◌, ◌==◌, Bool, true, false, if◌then◌else◌, List, [], ◌∷◌, ◌++◌, Some, length, map, slice_get, refl, sym, ap, ◌∙◌, arith}
+use Rattle.std.proofs.Common.{◌≡◌, ℕ, ◌+◌, ◌*◌, ◌==◌, Bool, true, false, if◌then◌else◌, List, [], ◌∷◌, ◌++◌, Some, length, map, slice_get, refl, ap, arith}
 use Rattle.std.specs.List.{flat_map, range_with_len}
 use Rattle.std.proofs.lemmas.List.FromFn.{length-map-range_with_len}
 use Rattle.orc_prototype.specs.declared.arguments.Argument.{Argument}
 use Rattle.orc_prototype.specs.declared.arguments.Argument.TheVariants as argument
 use Rattle.orc_prototype.specs.declared.arguments.Shape.{Shape}
-use Rattle.orc_prototype.specs.Arguments.{arguments, dest_arguments, source_arguments, width, dest_argument, sum_argument, source_argument, param_argument, elements_argument, rows_argument, has_rows_argument, argument_count}
+use Rattle.orc_prototype.specs.Arguments.{dest_arguments, source_arguments, width, dest_argument, sum_argument, source_argument, param_argument, elements_argument, rows_argument, has_rows_argument}
 use Rattle.orc_prototype.specs.Laws.{AreCounted, Stands, AreNumbered}
 use Rattle.orc_prototype.proofs.Pieces.{get_left, get_right, length_append, pieces_length, piece_at, single_at}
 
