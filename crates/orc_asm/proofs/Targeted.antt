@@ -10,7 +10,7 @@ use Rattle.x86_ins.specs.declared.ins.Ins.TheVariants.{Ret}
 use Rattle.x86_ins.specs.Spelling.{IsAllowed, spelling}
 use Rattle.x86_ins.specs.Way.{Each}
 use Rattle.x86_flow.specs.declared.tree.Flow.{Flow as Tree}
-use Rattle.x86_flow.specs.Flow.{Plain, flat, size, again_jump, loop_code, spell_all, with_return}
+use Rattle.x86_flow.specs.Flow.{Plain, flat, size, again_jump, loop_code, spell_all}
 use Rattle.x86_flow.specs.Tree.{flat_of}
 use Rattle.x86_flow.proofs.Spelled.{each_both, all_allowed}
 use Rattle.sse_laws.specs.Targets.{IsCodeFor}

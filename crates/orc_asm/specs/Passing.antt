@@ -1,7 +1,7 @@
 -- Code without its return, wherever it stands in other code.
 use Rattle.std.specs.Prelude.{◌≡◌, ℕ, ◌+◌, ◌^◌, ◌<◌, ◌≤◌, List, ◌++◌, length, Some, None}
 use Rattle.orc_bits.specs.Memory.{Memory, IsMapped, word}
-use Rattle.x86_ins.specs.Machine.{Core, Point}
+use Rattle.x86_ins.specs.Machine.{Point}
 use Rattle.x86_ins.specs.Way.{Placed, Way, Moment, Each}
 use Rattle.orc_frame.specs.Parts.{InFrame, InSums, sum_word}
 use Rattle.orc_frame.specs.Subject.{Call, End, Subject, rows}

@@ -25,7 +25,7 @@ use Rattle.orc_frame.specs.Parts.{sum_word}
 use Rattle.orc_frame.specs.Subject.{Call as Arguments, rows}
 use Rattle.orc_frame.specs.GoodCall.{GoodCall}
 use Rattle.orc_asm.specs.RunsAs.{Saved, Promise, RunsWith, quiet}
-use Rattle.orc_asm.specs.Passing.{StandsAt, Passes, PassesWith}
+use Rattle.orc_asm.specs.Passing.{PassesWith}
 use Rattle.orc_asm.proofs.Calls.Inside.{Lifts, same_register}
 use Rattle.orc_frame.specs.Function.{subject_of}
 use Rattle.orc_frame.specs.Frame.{saved}
@@ -188,6 +188,6 @@ module _ {target : Target} (f : FunctionValue) (known : Arrays f) (first : List 
         saved = saved_again s.core b.end.core (λ j l. register (saved j) ∙ h.registers j l);
         more = lifts s small args leads.way b.more t b.end within b.alike beside
             (promised p args leads.way t (each_map _ _ (λ m q a nd ns nf. q.0.quiet a nd nf ns) leads.way leads.each, λ a nd ns nf. h.still.quiet a nd nf ns)
-                (each_map _ _ (λ m q. q.1) leads.way leads.each)
-                (λ R sees. at_most_more R (weigh cell_weight (listed leads.way)) (pointing args) leads.way (omega (arith, weight, h.light)) (at_most_weigh cell_weight R leads.way (each_map (λ m. Q m.point.core m.ins) _ (λ m q. sees m q.1) leads.way leads.each))));
+            (each_map _ _ (λ m q. q.1) leads.way leads.each)
+            (λ R sees. at_most_more R (weigh cell_weight (listed leads.way)) (pointing args) leads.way (omega (arith, weight, h.light)) (at_most_weigh cell_weight R leads.way (each_map (λ m. Q m.point.core m.ins) _ (λ m q. sees m q.1) leads.way leads.each))));
       }
