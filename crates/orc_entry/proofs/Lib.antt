@@ -1,5 +1,6 @@
 pub mod Fills
 pub mod Entering
 pub mod Ascending
+pub mod Known
 pub mod Front
 pub mod Called
