@@ -170,15 +170,11 @@ array_length s k =
     let i = base_argument s k in
     omega (arith, two_length (argument class.Word i, block_at + base_word k) (stride_of s i, block_at + stride_word k), argument_length class.Word i (block_at + base_word k), stride_length s i (block_at + stride_word k))
 
--- the instructions of the list before a function's code, at most
-abbrev pub first_steps : Shape → ℕ
-first_steps s = 18 + 6 * (s.dests + s.sources) + 4 * s.params + 2 * s.sums
-
 front_length : (x y : Source × ℕ) (xs : List (Source × ℕ)) (n : ℕ) → length (fills_code xs) ≤ n → (i j : Ins) → length (i ∷ (fills_code (x ∷ y ∷ xs) ++ j ∷ [])) ≤ 18 + n
 front_length x y xs n h i j =
     omega (arith, h, fill_most x.0 x.1, fill_most y.0 y.1, length-append (fill_code x.0 x.1) (fills_code (y ∷ xs)), length-append (fill_code y.0 y.1) (fills_code xs), length-append (fills_code (x ∷ y ∷ xs)) (j ∷ []))
 
-pub entry_length : (f : FunctionValue) (longs : List Bool) → length (entry_code f longs) ≤ first_steps (shape_of f)
+pub entry_length : (f : FunctionValue) (longs : List Bool) → length (entry_code f longs) ≤ 18 + 6 * ((shape_of f).dests + (shape_of f).sources) + 4 * (shape_of f).params + 2 * (shape_of f).sums
 entry_length f longs =
     let s = shape_of f in
     let dests = joined_fills (array_fills s) s.dests in
