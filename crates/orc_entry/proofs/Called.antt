@@ -1,11 +1,11 @@
 -- A good entry makes a good call of the function's code behind the list, in the memory of cells, block and frame.
-use Rattle.std.proofs.Common.{◌≡◌, ℕ, ◌+◌, ◌-◌, ◌*◌, ◌%◌, ◌^◌, ◌≤◌, ◌<◌, ◌⊎◌, inl, inr, ⊎_elim, Bool, true, false, ◌&&◌, nat_le, nat_lt, if◌then◌else◌, List, ◌++◌, length, Some, None, Option, is_some, refl, sym, ap, ◌∙◌, subst, arith, length-append, true≢false}
-use Rattle.std.proofs.lemmas.Bool.{cases_Bool, cases_lt}
+use Rattle.std.proofs.Common.{◌≡◌, ℕ, ◌+◌, ◌-◌, ◌%◌, ◌^◌, ◌≤◌, ◌<◌, ◌⊎◌, inl, inr, ⊎_elim, Bool, true, false, ◌&&◌, nat_le, nat_lt, if◌then◌else◌, List, ◌++◌, length, Some, None, is_some, refl, sym, ap, ◌∙◌, subst, arith, length-append, true≢false}
+use Rattle.std.proofs.lemmas.Bool.{cases_lt}
 use Rattle.std.proofs.lemmas.Bool.Decides.{nat_tests}
 use Rattle.orc_bits.specs.Memory.{Memory, IsMapped, word}
-use Rattle.orc_bits.proofs.Memories.{mapped_value, value_there}
+use Rattle.orc_bits.proofs.Memories.{value_there}
 use Rattle.orc_program.specs.Program.{FunctionValue}
-use Rattle.x86_ins.specs.Machine.{Core, Point, Bounded}
+use Rattle.x86_ins.specs.Machine.{Core, Point}
 use Rattle.x86_ins.specs.Way.{Placed}
 use Rattle.x86_flow.specs.Flow.{spell_all, size}
 use Rattle.x86_flow.proofs.Frame.{word_same}
@@ -18,9 +18,9 @@ use Rattle.orc_asm.specs.RunsAs.{Within}
 use Rattle.orc_asm.specs.Passing.{StandsAt}
 use Rattle.orc_prototype.specs.Arguments.{IsSmall, shape_of}
 use Rattle.orc_entry.specs.Arguments.{call_by}
-use Rattle.orc_entry.specs.Code.{entry_code, block_at, stack_size}
+use Rattle.orc_entry.specs.Code.{entry_code, block_at}
 use Rattle.orc_entry.specs.Entry.{GoodEntry, InOwn}
-use Rattle.orc_entry.proofs.Front.{Led, InEntry}
+use Rattle.orc_entry.proofs.Front.{Led}
 use Rattle.orc_entry.proofs.Holding.{Holding, holding}
 
 -- ---- the memory of the body's call

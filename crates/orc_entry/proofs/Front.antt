@@ -19,7 +19,6 @@ use Rattle.x86_flow.proofs.Touching.{touches_none, touches_in}
 use Rattle.x86_flow.proofs.Ways.{HasAt, has_all}
 use Rattle.x86_flow.proofs.Words.{at_away}
 use Rattle.orc_frame.specs.Parts.{Between}
-use Rattle.orc_frame.specs.Subject.{InDests}
 use Rattle.orc_frame.specs.Function.{subject_of}
 use Rattle.orc_frame.proofs.Writes.{line_bounded}
 use Rattle.orc_region.specs.Stores.{TouchesCell, StoresFirst}
@@ -30,7 +29,7 @@ use Rattle.orc_prototype.specs.Arguments.{IsSmall, shape_of, sum_argument, eleme
 use Rattle.orc_entry.specs.declared.sources.Source.TheVariants as source
 use Rattle.orc_entry.specs.Arguments.{in_registers, argument, call_by, taken}
 use Rattle.orc_entry.specs.Code.{entry_code, fills_of, stack_size, block_at, pointer_at}
-use Rattle.orc_entry.specs.Entry.{GoodEntry, QuietAt, InOwn, InArguments, InSums, own_size}
+use Rattle.orc_entry.specs.Entry.{GoodEntry, QuietAt}
 use Rattle.orc_entry.proofs.Fills.{AllFilled, Near}
 use Rattle.orc_entry.proofs.Entering.{begin, begin_low, stack, Entered, entry_line}
 use Rattle.orc_entry.proofs.Ascending.{fills_ascend}

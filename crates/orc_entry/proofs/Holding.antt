@@ -1,6 +1,6 @@
 -- The words of the block and of the accumulators' pointers, when all are filled.
-use Rattle.std.proofs.Common.{◌≡◌, ℕ, zero, suc, ◌+◌, ◌-◌, ◌*◌, ◌<◌, ◌≤◌, ◌++◌, Bool, List, [], ◌∷◌, Some, refl, sym, ap, ◌∙◌, subst, arith, ◌⊎◌, inl, inr, ⊎_elim}
-use Rattle.std.proofs.lemmas.Bool.{cases_eq, cases_lt}
+use Rattle.std.proofs.Common.{◌≡◌, ℕ, zero, suc, ◌+◌, ◌-◌, ◌<◌, ◌++◌, Bool, List, [], ◌∷◌, Some, sym, subst, arith, inl, inr, ⊎_elim}
+use Rattle.std.proofs.lemmas.Bool.{cases_eq}
 use Rattle.orc_bits.specs.Memory.{Memory, word}
 use Rattle.orc_program.specs.Program.{FunctionValue}
 use Rattle.orc_frame.specs.Parts.{elements_word, rows_word, base_word, stride_word, param_word}
@@ -10,7 +10,7 @@ use Rattle.orc_prototype.specs.declared.arguments.Class.TheVariants as class
 use Rattle.orc_prototype.specs.declared.arguments.Shape.{Shape}
 use Rattle.orc_prototype.specs.Arguments.{shape_of, sum_argument}
 use Rattle.orc_entry.specs.declared.sources.Source.{Source}
-use Rattle.orc_entry.specs.Arguments.{argument, elements_source, rows_source, param_source, call_by}
+use Rattle.orc_entry.specs.Arguments.{argument, param_source, call_by}
 use Rattle.orc_entry.specs.Code.{block_at, pointer_at, joined_fills, array_fills, fills_of}
 use Rattle.orc_entry.proofs.Fills.{AllFilled}
 

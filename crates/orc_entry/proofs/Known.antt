@@ -1,13 +1,13 @@
 -- The words that a function's entry fills come from arguments that the function has, and from numbers of 32 bits.
 use Rattle.std.proofs.Common.{◌≡◌, ℕ, zero, suc, ◌+◌, ◌-◌, ◌*◌, ◌^◌, ◌<◌, ◌≤◌, ◌++◌, ◌==◌, Bool, true, false, nat_lt, if◌then◌else◌, List, [], ◌∷◌, refl, sym, ap, ◌∙◌, subst, arith}
 use Rattle.orc_program.specs.Program.{FunctionValue}
-use Rattle.orc_frame.specs.Parts.{elements_word, rows_word, param_word}
+use Rattle.orc_frame.specs.Parts.{param_word}
 use Rattle.orc_prototype.specs.declared.arguments.Class.TheVariants as class
 use Rattle.orc_prototype.specs.declared.arguments.Shape.{Shape}
-use Rattle.orc_prototype.specs.Arguments.{IsSmall, shape_of, width, dest_argument, sum_argument, source_argument, param_argument, elements_argument, rows_argument, has_rows_argument, argument_count}
+use Rattle.orc_prototype.specs.Arguments.{IsSmall, shape_of, width, dest_argument, sum_argument, source_argument, elements_argument, rows_argument, has_rows_argument, argument_count}
 use Rattle.orc_entry.specs.declared.sources.Source.{Source}
 use Rattle.orc_entry.specs.declared.sources.Source.TheVariants as source
-use Rattle.orc_entry.specs.Arguments.{argument, elements_source, rows_source, stride_of, base_argument, base_source, stride_source, param_source}
+use Rattle.orc_entry.specs.Arguments.{argument, elements_source, rows_source, stride_of, base_argument, param_source}
 use Rattle.orc_entry.specs.Code.{block_at, pointer_at, joined_fills, array_fills, fills_of}
 
 -- one of so many arguments, or a number of 32 bits

@@ -1,10 +1,9 @@
 -- The instructions of the list before a function's code: they are allowed and few, none is a movdqu store, and they touch the entry's own words and the arguments behind the return word alone.
-use Rattle.std.proofs.Common.{◌≡◌, ℕ, zero, suc, ◌+◌, ◌-◌, ◌*◌, ◌^◌, ◌<◌, ◌≤◌, ◌⊎◌, Bool, true, false, nat_lt, if◌then◌else◌, pos, List, [], ◌∷◌, ◌++◌, length, Some, refl, sym, ap, ◌∙◌, subst, arith, inl, inr, length-append, append_assoc}
+use Rattle.std.proofs.Common.{◌≡◌, ℕ, zero, suc, ◌+◌, ◌-◌, ◌*◌, ◌^◌, ◌<◌, ◌≤◌, ◌⊎◌, Bool, true, false, nat_lt, if◌then◌else◌, pos, List, [], ◌∷◌, ◌++◌, length, Some, refl, ap, ◌∙◌, arith, inl, inr, length-append}
 use Rattle.orc_program.specs.Program.{FunctionValue}
-use Rattle.x86_ins.specs.declared.ins.AluOp.TheVariants.{Sub, And}
-use Rattle.x86_ins.specs.declared.ins.ShiftOp.TheVariants.{Shl, Shr, Sar}
+use Rattle.x86_ins.specs.declared.ins.AluOp.TheVariants.{Sub}
 use Rattle.x86_ins.specs.declared.ins.Ins.{Ins}
-use Rattle.x86_ins.specs.declared.ins.Ins.TheVariants.{Move, Load, Store, MovImm, Alu, AluImm, Shift, Lea}
+use Rattle.x86_ins.specs.declared.ins.Ins.TheVariants.{Move, Load, Store, AluImm, Lea}
 use Rattle.x86_ins.specs.Machine.{Core, span, address}
 use Rattle.x86_ins.specs.Spelling.{IsAllowed}
 use Rattle.x86_ins.specs.Way.{Each}

@@ -1,5 +1,5 @@
 -- From a good entry on the arguments are where the list looks for them.
-use Rattle.std.proofs.Common.{◌≡◌, ◌≢◌, ℕ, zero, suc, ◌+◌, ◌-◌, ◌*◌, ◌^◌, ◌<◌, ◌≤◌, Bool, true, false, nat_lt, if◌then◌else◌, pos, List, [], ◌∷◌, Some, refl, sym, ap, ◌∙◌, subst, arith}
+use Rattle.std.proofs.Common.{◌≡◌, ◌≢◌, ℕ, zero, suc, ◌+◌, ◌^◌, ◌<◌, ◌≤◌, Bool, true, false, nat_lt, if◌then◌else◌, pos, List, [], ◌∷◌, Some, ap, ◌∙◌, subst, arith}
 use Rattle.orc_bits.specs.Numbers.{wrap}
 use Rattle.orc_bits.specs.Memory.{word}
 use Rattle.orc_bits.proofs.LaneLaws.{change_other}
