@@ -106,7 +106,7 @@ module _ (count : ℕ) where
   entry_listed f longs up h few = (
     record { allowed = ((omega arith, fits_up stack_size (omega arith)), refl); plain = λ x. x; touches = inl (λ u. refl) },
     each_both (IsListed count) (fills_code (fills_of f longs)) (Lea 7 (away 4 block_at) ∷ []) (fills_listed 0 (fills_of f longs) up h few)
-    (record { allowed = ((omega arith, (omega arith, fits_up block_at (omega arith))), refl); plain = λ x. x; touches = inl (λ u. refl) }, tt),
+        (record { allowed = ((omega arith, (omega arith, fits_up block_at (omega arith))), refl); plain = λ x. x; touches = inl (λ u. refl) }, tt),
   )
 
 pub listed_allowed : (count : ℕ) (list : List Ins) → Each (IsListed count) list → Each IsAllowed list
