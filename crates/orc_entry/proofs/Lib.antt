@@ -1,3 +1,9 @@
 pub mod Fills
 pub mod Entering
 pub mod Ascending
+pub mod Known
+pub mod Listed
+pub mod Holding
+pub mod Ready
+pub mod Front
+pub mod Called
