@@ -7,3 +7,4 @@ pub mod Holding
 pub mod Ready
 pub mod Front
 pub mod Called
+pub mod Built

@@ -25,7 +25,12 @@ fn around(alloc: Global, f: &Function, longs: &[bool], code: &[u8]) -> Result<Co
 }
 
 /// Code of a function that C calls by its prototype; `longs` says of each parameter whether it is said by `.longparam`.
-pub fn entry_for(alloc: Global, f: &Function, longs: &[bool], target: Target) -> Result<Code, AsmError> {
+pub fn entry_for(
+    alloc: Global,
+    f: &Function,
+    longs: &[bool],
+    target: Target,
+) -> Result<Code, AsmError> {
     let code = assemble_for(alloc, f, target)?;
     match around(alloc, f, longs, code.as_slice()) {
         Ok(code) => Ok(code),
