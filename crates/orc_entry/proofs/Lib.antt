@@ -8,3 +8,5 @@ pub mod Ready
 pub mod Front
 pub mod Called
 pub mod Built
+pub mod Sizes
+pub mod Around

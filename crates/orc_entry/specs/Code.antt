@@ -1,5 +1,5 @@
 -- The lists before and behind a function's code: the compiler's plan.
-use Rattle.std.specs.Prelude.{◌≡◌, ℕ, zero, suc, ◌+◌, ◌-◌, ◌*◌, ◌≤◌, ◌==◌, Bool, nat_lt, if◌then◌else◌, pos, List, [], ◌∷◌, ◌++◌}
+use Rattle.std.specs.Prelude.{◌≡◌, ℕ, zero, suc, ◌+◌, ◌*◌, ◌≤◌, ◌==◌, Bool, nat_lt, if◌then◌else◌, pos, List, [], ◌∷◌, ◌++◌}
 use Rattle.x86_ins.specs.declared.ins.AluOp.TheVariants.{Add, Sub, And}
 use Rattle.x86_ins.specs.declared.ins.ShiftOp.TheVariants.{Shl, Shr, Sar}
 use Rattle.x86_ins.specs.declared.ins.MoveOp.TheVariants.{Movd}

@@ -5,7 +5,9 @@
 //! `specs/Arguments` has the order of the arguments and where each is, and `specs/Entry` what a good entry is and what the code then does.
 #![tactic(auto)]
 
+mod entry;
 mod lists;
 mod sources;
 
+pub use entry::{EntryCode, entry_for};
 pub use sources::Source;
