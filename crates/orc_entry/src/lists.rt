@@ -1,7 +1,7 @@
 //! The lists of instructions before and behind a function's code.
 
-ghost use Rattle.std.specs.Prelude.{◌≡◌, ◌<◌, ◌≤◌, ◌+◌, ◌++◌, [], ◌∷◌, IfOk, OnOk, length, slice_index};
-ghost use Rattle.x86_ins.specs.declared.ins.Ins.TheVariants.{Shift};
+ghost use Rattle.std.specs.Prelude.{◌≡◌, ◌<◌, ◌≤◌, ◌+◌, ◌++◌, ◌^◌, [], ◌∷◌, IfOk, OnOk, length, pos, slice_index};
+ghost use Rattle.x86_ins.specs.declared.ins.Ins.TheVariants.{AluImm, Shift};
 ghost use Rattle.orc_frame.specs.Code.{joined};
 ghost use Rattle.orc_prototype.specs.Arguments.{IsSmall, is_long};
 ghost use Rattle.orc_entry.specs.Arguments.{IsNear, register_of, stack_word};
@@ -237,6 +237,18 @@ fn push_pointers(list: &mut InsList, shape: Shape) -> Result<(), AllocError>
     Ok(())
 }
 
+/// Moves RSP by so many bytes.
+fn moved_stack(op: AluOp, by: usize) -> Ins
+    requires { by < 2 ^ 31 }
+    ensures { result ≡ AluImm op 4 (pos by) }
+{
+    Ins::AluImm {
+        op,
+        dst: STACK,
+        value: by as i32,
+    }
+}
+
 /// The list before a function's code: RSP goes down, the block is filled, and RDI points at it.
 #[tactic(auto)]
 pub fn entry_list(alloc: Global, f: &Function, longs: &[bool]) -> Result<InsList, AllocError>
@@ -244,11 +256,7 @@ pub fn entry_list(alloc: Global, f: &Function, longs: &[bool]) -> Result<InsList
 {
     let shape = shape_of(f);
     let mut list = InsList::new(alloc);
-    list.push(Ins::AluImm {
-        op: AluOp::Sub,
-        dst: STACK,
-        value: STACK_SIZE as i32,
-    })?;
+    list.push(moved_stack(AluOp::Sub, STACK_SIZE))?;
     push_fill(&mut list, elements_source(shape), BLOCK_AT + ELEMENTS_WORD)?;
     push_fill(&mut list, rows_source(shape), BLOCK_AT + ROWS_WORD)?;
     push_arrays(&mut list, shape, 0, shape.dests)?;
@@ -315,10 +323,6 @@ pub fn exit_list(alloc: Global, f: &Function) -> Result<InsList, AllocError>
     let layout = layout(f);
     let mut list = InsList::new(alloc);
     push_sums(&mut list, layout.acc_sizes.as_slice())?;
-    list.push(Ins::AluImm {
-        op: AluOp::Add,
-        dst: STACK,
-        value: STACK_SIZE as i32,
-    })?;
+    list.push(moved_stack(AluOp::Add, STACK_SIZE))?;
     Ok(list)
 }
