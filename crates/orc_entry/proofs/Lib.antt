@@ -7,3 +7,6 @@ pub mod Holding
 pub mod Ready
 pub mod Front
 pub mod Called
+pub mod Emulated
+pub mod Bounds
+pub mod Leaving
