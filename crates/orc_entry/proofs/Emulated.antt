@@ -19,7 +19,11 @@ use Rattle.orc_program.specs.Program.{FunctionValue, var_at, far_array}
 use Rattle.orc_program.specs.Meaning.{State, Gap, go_on, or_gap, cell, cell_at, gap_at, sub_lane, lanewise, read_cell, read_var, read_source, read_sources, write_cell, write_var, write_result, write_results, reach_of, read_far, read_second, load_far, act, act_as, element, row_of, rows_of, rows, start, sums_of, ended, emulate}
 use Rattle.orc_program.proofs.Steps.{go_on_ok, or_gap_ok, ok_same}
 use Rattle.orc_program.proofs.Mapped.{AllMapped, IsFine, HasNoGap, rows_fine, emulate_fine}
+use Rattle.orc_program.specs.Slots.{call_of}
 use Rattle.x86_flow.proofs.Larger.{Sub, value_larger}
+use Rattle.orc_frame.specs.Subject.{End}
+use Rattle.orc_frame.specs.Subject.{Call as Arguments}
+use Rattle.orc_frame.specs.Function.{subject_of, end_of}
 
 -- ---- stores in a larger memory
 
@@ -234,3 +238,29 @@ module _ (f : FunctionValue) (call : Call) where
         besides = ap (λ o. go_on o (ended f)) y.1;
         within = y.2;
       }
+
+-- ---- good calls
+
+-- where each mapped byte is a byte of a cell, emulation of a good call leaves these bytes the same in a larger memory, and the same sums
+pub record SameEnd (f : FunctionValue) (call : Arguments) (small large : Memory) (other : End) : Type 0 where
+  pub end : End
+  pub means : (subject_of f).emulate call small ≡ Some end
+  pub cells : (a : ℕ) → IsMapped small a → other.memory a ≡ end.memory a
+  pub sums : (g : ℕ) → other.sums g ≡ end.sums g
+
+pub same_emulation : (f : FunctionValue) (call : Arguments) (small large : Memory) (other : End) → Sub small large → (subject_of f).good call small → ((a : ℕ) → IsMapped small a → (subject_of f).cells call a) → (subject_of f).emulate call large ≡ Some other → SameEnd f call small large other
+same_emulation f call small large other sub good only means =
+    let c : Call = call_of f call.n call.m call.base call.stride call.param in
+    let x = twice f c small large good.mapped sub in
+    let end : End = record { memory = x.end; sums = slice_index x.sums } in
+    let is : other ≡ record { memory = x.other; sums = slice_index x.sums } = some_one other _ (sym means ∙ ap end_of x.besides) in
+    record {
+      end = end;
+      means = ap end_of x.means;
+      cells = λ a m.
+          let w = only a m in
+          let still : IsMapped x.end a = subst (IsMapped x.end) (sym w.here) (x.mapped w.place w.row w.element w.byte w.cell) in
+          let v = mapped_value x.end a still in
+          ap (λ (y : End). y.memory a) is ∙ x.within a v.0 v.1 ∙ sym v.1;
+      sums = λ g. ap (λ (y : End). y.sums g) is;
+    }
