@@ -10,3 +10,5 @@ pub mod Called
 pub mod Emulated
 pub mod Bounds
 pub mod Leaving
+pub mod Passed
+pub mod Entered
