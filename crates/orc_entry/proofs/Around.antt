@@ -16,6 +16,8 @@ use Rattle.orc_prototype.proofs.Few.{small}
 use Rattle.orc_entry.specs.declared.entry.EntryCode.{EntryCode}
 use Rattle.orc_entry.specs.Code.{entry_code, exit_code}
 use Rattle.orc_entry.specs.Whole.{HasBody}
+use Rattle.orc_entry.specs.Entry.{EntersAs}
+use Rattle.orc_entry.proofs.Entered.{enters}
 use Rattle.orc_entry.proofs.Sizes.{fine_entry, fine_exit, entry_allowed, exit_allowed, entry_size, exit_size, entry_for, exit_for}
 
 -- ---- what is asked of the lists
@@ -61,6 +63,9 @@ module _ (f : FunctionValue) (longs : List Bool) (target : Target) (code : List 
 
   abbrev there : HasBody f longs body entry
   there = has body ends.1
+
+  pub enters_as : EntersAs f longs target entry.code
+  enters_as = enters f is (small f is) longs target entry.code body (exit_allowed f (small f is)) there.code ends.2
 
   pub has_only : HasOnly target entry.code
   has_only =

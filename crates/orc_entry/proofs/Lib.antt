@@ -10,3 +10,8 @@ pub mod Called
 pub mod Built
 pub mod Sizes
 pub mod Around
+pub mod Emulated
+pub mod Bounds
+pub mod Leaving
+pub mod Passed
+pub mod Entered

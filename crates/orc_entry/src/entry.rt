@@ -5,6 +5,7 @@ ghost use Rattle.orc_program.specs.Kept.{is_function};
 ghost use Rattle.x86_ins.specs.declared.ins.Ins.TheVariants.{Ret};
 ghost use Rattle.x86_ins.specs.Spelling.{spelling};
 ghost use Rattle.orc_asm.specs.Function.{HasOnly, first_pressure, IsRefusal};
+ghost use Rattle.orc_entry.specs.Entry.{EntersAs};
 ghost use Rattle.orc_entry.specs.Whole.{HasBody, Surrounds};
 
 use crate::lists::{entry_list, exit_list};
@@ -62,6 +63,7 @@ pub fn entry_for(
     longs: &[bool],
     target: Target,
 ) -> Result<EntryCode, AsmError>
+    ensures enters { IfOk result (λ entry. EntersAs f.now longs.now target entry.code) }
     ensures surrounds { IfOk result (λ entry. Surrounds f.now longs.now target entry) }
     ensures target { IfOk result (λ entry. HasOnly target entry.code) }
     ensures bytes { IfOk result (λ entry. (1 ≤ length entry.code) × (length entry.code ≤ 1048576)) }
