@@ -38,7 +38,7 @@ module _ (s : Shape) where
   abbrev pub stride_source : ℕ → Source
   stride_source k = stride_of (base_argument k)
 
--- no function has as many arguments
+-- an argument by a number below 100: no function has as many
 abbrev pub IsNear : Source → Type 0
 IsNear (source.Argument c i) = i < 100
 IsNear (source.Number n) = Unit {0}

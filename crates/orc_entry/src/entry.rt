@@ -35,6 +35,7 @@ fn around(alloc: Global, f: &Function, longs: &[bool], code: &[u8]) -> Result<En
     ensures body { IfOk result (λ entry. (body : List ℕ) → code.now ≡ body ++ spelling Ret → HasBody f.now longs.now body entry) }
     ensures kept { OnOk result (is_function f.now ≡ true) }
 {
+    // What the type keeps of a function is known where the function is read.
     let _vars = f.vars.as_slice();
     let first = entry_list(alloc, f, longs)?;
     let last = exit_list(alloc, f)?;
@@ -52,10 +53,12 @@ fn around(alloc: Global, f: &Function, longs: &[bool], code: &[u8]) -> Result<En
     })
 }
 
-/// Code of a function that C calls by its plain prototype: a list of instructions that makes an argument block out of the arguments of C,
-/// then the function's code without its return, then a list that stores each sum through its pointer, and a return. `longs` says of each
-/// parameter, in order of declaration, whether it is an integer of 64 bits, and of those behind its end that they are not. The code is
-/// instructions of the target alone, and has 1 to 1,048,576 bytes.
+/// Code of a function that C calls by its plain prototype. From each good call it returns as the function means, with each sum stored
+/// where its pointer points; on the way it changes no byte but those of dests' cells, of accumulators' integers and of the stack below
+/// the return word that is its own.
+/// `longs` says of each parameter, in order of declaration, whether it is an integer of 64 bits; those behind its end are not.
+/// The code is a list of instructions that makes an argument block out of the arguments, the function's code without its return, a list
+/// that stores the sums, and a return. It is instructions of the target alone, and has 1 to 1,048,576 bytes.
 /// A function is refused as by [`assemble_for`].
 pub fn entry_for(
     alloc: Global,
