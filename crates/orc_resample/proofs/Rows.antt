@@ -33,11 +33,11 @@ use Rattle.orc_resample.proofs.Blocks.{Scales, Kept, kept_at, element_run, At, N
 pub record IsRow (width : ℕ) (mem : Memory) (a : ℕ) (x : List ℕ) : Type 0 where
   pub bytes : (i : ℕ) → i < width → get_or x i 0 ≡ byte mem (a + i)
 
-one_digit : (f : ℕ → ℕ) → ((j : ℕ) → f j < 256) → (i : ℕ) → i < 1 → byte_of 4 (digits 1 f) i ≡ f i
+pub one_digit : (f : ℕ → ℕ) → ((j : ℕ) → f j < 256) → (i : ℕ) → i < 1 → byte_of 4 (digits 1 f) i ≡ f i
 one_digit f h zero l = let q : (f 0 + 256 * 0) / 256 ^ 0 % 256 ≡ f 0 = omega (arith, h 0) in q
 one_digit f h (suc i) l = absurd (omega (arith, l))
 
-two_digits : (f : ℕ → ℕ) → ((j : ℕ) → f j < 256) → (i : ℕ) → i < 2 → byte_of 4 (digits 2 f) i ≡ f i
+pub two_digits : (f : ℕ → ℕ) → ((j : ℕ) → f j < 256) → (i : ℕ) → i < 2 → byte_of 4 (digits 2 f) i ≡ f i
 two_digits f h zero l = let q : (f 0 + 256 * (f 1 + 256 * 0)) / 256 ^ 0 % 256 ≡ f 0 = omega (arith, h 0) in q
 two_digits f h (suc zero) l = let q : (f 0 + 256 * (f 1 + 256 * 0)) / 256 ^ 1 % 256 ≡ f 1 = omega (arith, h 0, h 1) in q
 two_digits f h (suc (suc i)) l = absurd (omega (arith, l))
