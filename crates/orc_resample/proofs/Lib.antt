@@ -11,7 +11,7 @@ pub mod Longs
 pub mod Rows
 pub mod Gathered
 pub mod Touched
-pub mod Beside
+pub mod Quiet
 pub mod Brought
 pub mod Ranges
 pub mod Values

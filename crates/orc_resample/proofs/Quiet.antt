@@ -170,7 +170,7 @@ module _ (count : ℕ) (source : FarSource) (s : Source) (c : Core) where
         line.0,
         record {
           values = r.2.values;
-          gpr = λ r a. ⊎_elim (λ e. ap d.gpr e ∙ r.2.block ∙ ap c.gpr (sym e)) (λ b. still.gpr r a b) (cases_eq r 7);
+          gpr = λ q a. ⊎_elim (λ e. ap d.gpr e ∙ r.2.block ∙ ap c.gpr (sym e)) (λ b. still.gpr q a b) (cases_eq q 7);
           stays = stays_of d still;
           bounded = line_bounded (OnTurn count source s c) list c d ranges bounded line.0;
         },
