@@ -172,10 +172,7 @@ fn push_upper(list: &mut InsList, source: &FarSource) -> Result<(), AllocError>
 {
     push_each(
         list,
-        &[
-            lea(ADDRESS, front(source)),
-            alu(AluOp::Sub, ADDRESS, HALF),
-        ],
+        &[lea(ADDRESS, front(source)), alu(AluOp::Sub, ADDRESS, HALF)],
     )
 }
 
@@ -188,11 +185,7 @@ fn half_count(count: usize) -> usize
 
 /// Adds what puts the elements at odd places between those in XMM0.
 #[tactic(auto, using(crate::proofs::Appends::extended_3, crate::proofs::Appends::unscaled))]
-fn push_odd_places(
-    list: &mut InsList,
-    source: &FarSource,
-    count: usize,
-) -> Result<(), AllocError>
+fn push_odd_places(list: &mut InsList, source: &FarSource, count: usize) -> Result<(), AllocError>
     requires { IsWidth count }
     ensures { OnOk result (list.new ≡ list.old ++ odd_places_code source.now count) }
 {
@@ -212,11 +205,7 @@ fn push_block(list: &mut InsList, source: &FarSource) -> Result<(), AllocError>
 }
 
 /// Adds the code of `Loadupdb`.
-pub fn push_doubled(
-    list: &mut InsList,
-    source: &FarSource,
-    count: usize,
-) -> Result<(), AllocError>
+pub fn push_doubled(list: &mut InsList, source: &FarSource, count: usize) -> Result<(), AllocError>
     requires { IsWidth count }
     ensures { OnOk result (list.new ≡ list.old ++ doubled_code source.now count) }
 {
@@ -253,19 +242,12 @@ fn push_lower_anew(list: &mut InsList, source: &FarSource) -> Result<(), AllocEr
 {
     push_each(
         list,
-        &[
-            load(ADDRESS, source.array),
-            alu(AluOp::Add, ADDRESS, HALF),
-        ],
+        &[load(ADDRESS, source.array), alu(AluOp::Add, ADDRESS, HALF)],
     )
 }
 
 /// Adds the code of `Loadupib`.
-pub fn push_between(
-    list: &mut InsList,
-    source: &FarSource,
-    count: usize,
-) -> Result<(), AllocError>
+pub fn push_between(list: &mut InsList, source: &FarSource, count: usize) -> Result<(), AllocError>
     requires { IsWidth count }
     ensures { OnOk result (list.new ≡ list.old ++ between_code source.now count) }
 {

@@ -2,7 +2,6 @@ use Rattle.std.proofs.Common.{◌+◌, ◌∷◌}
 use Rattle.x86_ins.specs.declared.ins.Ins.TheVariants.{Move}
 use Rattle.orc_resample.specs.Code.{half_code, average_code}
 use Rattle.orc_resample.proofs.Appends.{extended_3, on_ok}
-use Rattle.orc_resample.proofs.Quiet.{Still}
 use Rattle.orc_resample.proofs.assembly.push_middle.Goals as goal
 
 pub returns : goal.returns
