@@ -11,6 +11,7 @@ pub mod Longs
 pub mod Rows
 pub mod Gathered
 pub mod Touched
+pub mod Offsets
 pub mod Quiet
 pub mod Brought
 pub mod Ranges
