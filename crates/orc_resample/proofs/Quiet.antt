@@ -65,7 +65,7 @@ both : (s t : Bool) → (s && t) ≡ true → (s ≡ true) × (t ≡ true)
 both true t h = (refl, h)
 both false t h = absurd (true≢false (sym h))
 
-quiet_append : (x y : List Ins) → all_quiet x ≡ true → all_quiet y ≡ true → all_quiet (x ++ y) ≡ true
+pub quiet_append : (x y : List Ins) → all_quiet x ≡ true → all_quiet y ≡ true → all_quiet (x ++ y) ≡ true
 quiet_append [] y p q = q
 quiet_append (i ∷ x) y p q = let h = both (is_quiet i) (all_quiet x) p in ap (λ b. b && all_quiet (x ++ y)) h.0 ∙ quiet_append x y h.1 q
 
