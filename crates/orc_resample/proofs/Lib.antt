@@ -13,6 +13,7 @@ pub mod Gathered
 pub mod Touched
 pub mod Offsets
 pub mod Quiet
+pub mod Halves
 pub mod Brought
 pub mod Ranges
 pub mod Values
