@@ -24,11 +24,14 @@ use Rattle.orc_ops.specs.declared.far.Far.TheVariants.{Loadoffb, Loadoffw, Loado
 use Rattle.orc_ops.specs.Far.{far_size, far_first, far_second, far_part, far_blend, other}
 use Rattle.orc_resample.specs.declared.plan.FarPlan.{FarPlan}
 use Rattle.orc_resample.specs.declared.turn.FarSource.{FarSource}
-use Rattle.orc_resample.specs.Code.{slot, scratch, bits_of, narrow_code, is_one_by_one, gather_with, plan_of, enter_code, block_code, leave_code, bring_code}
+use Rattle.orc_resample.specs.Code.{slot, scratch, bits_of, narrow_code, gather_with, plan_of, enter_code, leave_code, singly_code, bring_by, bring_code}
 use Rattle.orc_resample.specs.Ready.{IsPlan, Source, Ready, IsScratch, Keeps, Gathered, OnTheWay, cell, element, some_or_zero, IsRead, value_at, InWord, InPlan}
 use Rattle.orc_resample.specs.Bring.{pattern_at, IsKept, IsSpare, LiesIn, AreApart, IsFarSource, InWords, AtHand, Stays, Brought, InOwn, OnTurn, Brings}
 use Rattle.orc_resample.proofs.Gathered.{line_bounded, gathers}
 use Rattle.orc_resample.proofs.Touched.{Agrees, gather_agrees, agree_each}
+use Rattle.orc_resample.proofs.Offsets.{IsOffset, offset_b, offset_w, offset_l, scaled_b, scaled_w, scaled_l, beside_brought}
+use Rattle.orc_resample.proofs.Halves.{doubled_brought}
+use Rattle.orc_resample.proofs.Averages.{between_brought}
 
 -- ---- memories that agree on some bytes
 
@@ -420,4 +423,29 @@ module _ (count : ℕ) (source : FarSource) (is : IsFarSource source) (s : Sourc
 singly_brings : (count : ℕ) (source : FarSource) → IsFarSource source → IsWidth (count * far_size source.far) → Each IsIns (singly_code source count) → Brings count source (singly_code source count)
 singly_brings count source is width ranges s c at = singly_brought count source is s c at width ranges
 
--- PLACEHOLDER
+-- so many bytes are moved, and so many elements of a byte taken
+width_by : (count : ℕ) (source : FarSource) (far : Far) → source.far ≡ far → IsWidth (count * far_size source.far) → IsWidth (count * far_size far)
+width_by count source far e width = subst (λ f. IsWidth (count * far_size f)) e width
+
+all_by : (count : ℕ) (source : FarSource) (far : Far) → source.far ≡ far → count * far_size far ≡ count * far_size source.far
+all_by count source far e = ap (λ f. count * far_size f) (sym e)
+
+count_by : (count : ℕ) (source : FarSource) (far : Far) → source.far ≡ far → far_size far ≡ 1 → IsWidth (count * far_size source.far) → IsWidth count
+count_by count source far e one width = subst IsWidth (ap (λ n. count * n) one ∙ (let q : count * 1 ≡ count = omega arith in q)) (width_by count source far e width)
+
+brings_by : (count : ℕ) (source : FarSource) → IsFarSource source → IsWidth (count * far_size source.far) → (far : Far) → source.far ≡ far → Each IsIns (bring_by far source count) → Brings count source (bring_by far source count)
+brings_by count source is width Loadoffb e ranges s c at =
+    beside_brought 0 (count * 1) count source is (subst (IsOffset 0) (sym e) offset_b) scaled_b (all_by count source Loadoffb e) (width_by count source Loadoffb e width) s c at ranges
+brings_by count source is width Loadoffw e ranges s c at =
+    beside_brought 1 (count * 2) count source is (subst (IsOffset 1) (sym e) offset_w) scaled_w (all_by count source Loadoffw e) (width_by count source Loadoffw e width) s c at ranges
+brings_by count source is width Loadoffl e ranges s c at =
+    beside_brought 2 (count * 4) count source is (subst (IsOffset 2) (sym e) offset_l) scaled_l (all_by count source Loadoffl e) (width_by count source Loadoffl e width) s c at ranges
+brings_by count source is width Loadupdb e ranges s c at = doubled_brought count source is e (count_by count source Loadupdb e refl width) ranges s c at
+brings_by count source is width Loadupib e ranges s c at = between_brought count source is e (count_by count source Loadupib e refl width) ranges s c at
+brings_by count source is width Ldresnearb e ranges s c at = singly_brings count source is width ranges s c at
+brings_by count source is width Ldresnearl e ranges s c at = singly_brings count source is width ranges s c at
+brings_by count source is width Ldreslinb e ranges s c at = singly_brings count source is width ranges s c at
+brings_by count source is width Ldreslinl e ranges s c at = singly_brings count source is width ranges s c at
+
+pub brings : (count : ℕ) (source : FarSource) → IsFarSource source → IsWidth (count * far_size source.far) → Each IsIns (bring_code source count) → Brings count source (bring_code source count)
+brings count source is width ranges = brings_by count source is width source.far refl ranges

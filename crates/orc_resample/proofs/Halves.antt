@@ -1,4 +1,4 @@
--- Loads that double their elements take them at once inside a turn: those at even places, those at odd places, and averages between.
+-- A load that doubles its elements takes them at once inside a turn: those that go to even places, and those that go to odd places.
 use Rattle.std.proofs.Common.{◌≡◌, ◌≢◌, ℕ, zero, suc, ◌+◌, ◌-◌, ◌*◌, ◌/◌, ◌%◌, ◌^◌, ◌<◌, ◌≤◌, ◌==◌, ℤ, pos, ◌*ℤ◌, true, false, if◌then◌else◌, List, [], ◌∷◌, ◌++◌, get_or, Option, Some, None, refl, sym, ap, ◌∙◌, subst, arith, inl, inr, ⊎_elim}
 use Rattle.std.specs.Prelude.{cond, nat_eq}
 use Rattle.std.proofs.lemmas.Bool.{cases_eq}
@@ -36,25 +36,21 @@ use Rattle.orc_resample.proofs.Quiet.{all_quiet, Own, Cells, Leads, Ends, ended,
 -- ---- bytes of two registers, interleaved and averaged
 
 -- those at even places are the destination's
-even_byte : (x y : List ℕ) (k : ℕ) → k < 8 → get_or (result_of (shape Punpcklbw) x y) (k * 2) 0 ≡ get_or x k 0 % 256
+pub even_byte : (x y : List ℕ) (k : ℕ) → k < 8 → get_or (result_of (shape Punpcklbw) x y) (k * 2) 0 ≡ get_or x k 0 % 256
 even_byte x y k l =
     by_bytes (lane_of (shape Punpcklbw) x y) (k * 2) (omega (arith, l))
     ∙ ap (λ n. cond (nat_eq n 0) (lane 1 (k * 2 / 2 + 0 * (8 / 1)) x) (lane 1 (k * 2 / 2 + 0 * (8 / 1)) y) % 256) (let e : k * 2 % 2 ≡ 0 = omega arith in e)
     ∙ ap (λ i. lane 1 i x % 256) (let e : k * 2 / 2 + 0 * (8 / 1) ≡ k = omega arith in e) ∙ ap (λ v. v % 256) (lane_one k x)
 
 -- and those at odd places the source's
-odd_byte : (x y : List ℕ) (k : ℕ) → k < 8 → get_or (result_of (shape Punpcklbw) x y) (suc (k * 2)) 0 ≡ get_or y k 0 % 256
+pub odd_byte : (x y : List ℕ) (k : ℕ) → k < 8 → get_or (result_of (shape Punpcklbw) x y) (suc (k * 2)) 0 ≡ get_or y k 0 % 256
 odd_byte x y k l =
     by_bytes (lane_of (shape Punpcklbw) x y) (suc (k * 2)) (omega (arith, l))
     ∙ ap (λ n. cond (nat_eq n 0) (lane 1 (suc (k * 2) / 2 + 0 * (8 / 1)) x) (lane 1 (suc (k * 2) / 2 + 0 * (8 / 1)) y) % 256) (let e : suc (k * 2) % 2 ≡ 1 = omega arith in e)
     ∙ ap (λ i. lane 1 i y % 256) (let e : suc (k * 2) / 2 + 0 * (8 / 1) ≡ k = omega arith in e) ∙ ap (λ v. v % 256) (lane_one k y)
 
-average_byte : (x y : List ℕ) (k : ℕ) → k < 16 → get_or (result_of (shape Pavgb) x y) k 0 ≡ (get_or x k 0 + get_or y k 0 + 1) / 2 % 256
-average_byte x y k l =
-    by_bytes (lane_of (shape Pavgb) x y) k l ∙ ap (λ v. average 8 v (lane 1 k y) % 256) (lane_one k x) ∙ ap (λ v. average 8 (get_or x k 0) v % 256) (lane_one k y)
-
 -- a place is even or odd
-by_parity : (P : ℕ → Type 0) (h : ℕ) → ((k : ℕ) → k < h → P (k * 2)) → ((k : ℕ) → k < h → P (suc (k * 2))) → (j : ℕ) → j < h * 2 → P j
+pub by_parity : (P : ℕ → Type 0) (h : ℕ) → ((k : ℕ) → k < h → P (k * 2)) → ((k : ℕ) → k < h → P (suc (k * 2))) → (j : ℕ) → j < h * 2 → P j
 by_parity P h even odd j l = ⊎_elim
     (λ e. subst P (let q : j / 2 * 2 ≡ j = omega (arith, e) in q) (even (j / 2) (omega (arith, l))))
     (λ ne. subst P (let q : suc (j / 2 * 2) ≡ j = omega (arith, ne) in q) (odd (j / 2) (omega (arith, l))))
@@ -70,33 +66,6 @@ record IsDoubled (far : Far) : Type 0 where
 
 doubles : IsDoubled Loadupdb
 doubles = record { size = refl; lower = λ s i. inl refl; value = λ s mem i. refl }
-
--- or the average of that one and of that at half of i, rounded up
-record IsBetween (far : Far) : Type 0 where
-  pub size : far_size far ≡ 1
-  pub lower : (s : Source) (i : ℕ) → IsRead far s i (pos (i / 2))
-  pub upper : (s : Source) (i : ℕ) → IsRead far s i (pos ((i + 1) / 2))
-  pub value : (s : Source) (mem : Memory) (i : ℕ) → value_at far s mem i ≡ (element far mem s.base (pos (i / 2)) + element far mem s.base (pos ((i + 1) / 2)) + 1) / 2
-
-upper_read : (s : Source) (i : ℕ) → IsRead Loadupib s i (pos ((i + 1) / 2))
-upper_read s i = ⊎_elim
-    (λ e. inl (ap pos (let q : (i + 1) / 2 ≡ i / 2 = omega (arith, e) in q)))
-    (λ ne. inr (ap (λ m. Some (pos m)) (let q : (i + 1) / 2 ≡ i / 2 + 1 = omega (arith, ne) in q) ∙ ap (λ b. if b then None else Some (pos (i / 2 + 1))) (sym (eq_false (i % 2) 0 ne))))
-    (cases_eq (i % 2) 0)
-
-other_is : (i : ℕ) → other (pos (i / 2)) (if i % 2 == 0 then None else Some (pos (i / 2 + 1))) ≡ pos ((i + 1) / 2)
-other_is i = ⊎_elim
-    (λ e. ap (λ n. other (pos (i / 2)) (if n == 0 then None else Some (pos (i / 2 + 1)))) e ∙ ap pos (let q : i / 2 ≡ (i + 1) / 2 = omega (arith, e) in q))
-    (λ ne. ap (λ b. other (pos (i / 2)) (if b then None else Some (pos (i / 2 + 1)))) (eq_false (i % 2) 0 ne) ∙ ap pos (let q : i / 2 + 1 ≡ (i + 1) / 2 = omega (arith, ne) in q))
-    (cases_eq (i % 2) 0)
-
-averages : IsBetween Loadupib
-averages = record {
-  size = refl;
-  lower = λ s i. inl refl;
-  upper = upper_read;
-  value = λ s mem i. ap (λ k. (element Loadupib mem s.base (pos (i / 2)) + element Loadupib mem s.base k + 1) / 2) (other_is i);
-}
 
 -- ---- numbers
 
@@ -115,19 +84,19 @@ at_zero a = omega arith
 -- ---- the address of element 0 and half of the first element's number
 
 module _ (count : ℕ) (source : FarSource) (is : IsFarSource source) (one : far_size source.far ≡ 1) (s : Source) (c : Core) (at : AtHand count source s c) where
-  abbrev Words : ℕ → Type 0
+  abbrev pub Words : ℕ → Type 0
   Words = Own count source s c
 
-  abbrev Elements : ℕ → Type 0
+  abbrev pub Elements : ℕ → Type 0
   Elements = Cells count source s c
 
   abbrev To : List Ins → Core → (Core → Type 0) → Type 0
   To = Leads count source s c
 
-  abbrev el : ℕ → ℕ
+  abbrev pub el : ℕ → ℕ
   el m = element source.far c.memory s.base (pos m)
 
-  abbrev address : ℕ → ℕ
+  abbrev pub address : ℕ → ℕ
   address m = (s.base + m) % 2 ^ 64
 
   small_first : s.first < 2 ^ 32
@@ -148,11 +117,11 @@ module _ (count : ℕ) (source : FarSource) (is : IsFarSource source) (one : far
       go None = refl
       go (Some v) = let q : v + 256 * 0 ≡ v = omega arith in q
 
-  element_small : (m : ℕ) → el m < 256
+  pub element_small : (m : ℕ) → el m < 256
   element_small m = subst (λ v. v < 256) (sym (element_is m)) (byte_small c.memory at.bounded.memory (s.base + m))
 
   -- so many elements are read from the m-th on
-  abbrev AreRead : ℕ → ℕ → Type 0
+  abbrev pub AreRead : ℕ → ℕ → Type 0
   AreRead h m = (k : ℕ) → k < h → (j : ℕ) × (j < count) × IsRead source.far s (s.first + j) (pos (m + k))
 
   readable : (h m : ℕ) → AreRead h m → Readable Words Elements c.memory at.bounded.memory h (address m)
@@ -164,14 +133,14 @@ module _ (count : ℕ) (source : FarSource) (is : IsFarSource source) (one : far
           (r.0, r.1, (pos (m + k), r.2, (0, subst (λ n. 0 < n) (sym one) (omega arith), (let q : (address m + k) % 2 ^ 64 ≡ (address (m + k) + 0) % 2 ^ 64 = omega arith in q) ∙ ap (λ a. (a + 0) % 2 ^ 64) (sym (cell_at (m + k))))))
 
   -- the low bytes of x are so many elements from the m-th on
-  abbrev Holds : ℕ → ℕ → List ℕ → Type 0
+  abbrev pub Holds : ℕ → ℕ → List ℕ → Type 0
   Holds h m x = (k : ℕ) → k < h → get_or x k 0 ≡ el (m + k)
 
   holds : (h m : ℕ) (x : List ℕ) → IsRow h c.memory (address m) x → Holds h m x
   holds h m x row k l = row.bytes k l ∙ byte_at c.memory (s.base + m) k ∙ ap (byte c.memory) (let q : s.base + m + k ≡ s.base + (m + k) = omega arith in q) ∙ sym (element_is (m + k))
 
   -- elements from the address in RAX on
-  takes : (h x t z m : ℕ) (v : Core) (js : List Ins) (P : Core → Type 0) → IsWidth h → v.memory ≡ c.memory → (v.gpr 0 + z) % 2 ^ 64 ≡ address m → AreRead h m → ((d : Core) → Took x t v d → Holds h m (d.xmm x) → To js d P) → To (bytes_code h x t (pos z) ++ js) v P
+  pub takes : (h x t z m : ℕ) (v : Core) (js : List Ins) (P : Core → Type 0) → IsWidth h → v.memory ≡ c.memory → (v.gpr 0 + z) % 2 ^ 64 ≡ address m → AreRead h m → ((d : Core) → Took x t v d → Holds h m (d.xmm x) → To js d P) → To (bytes_code h x t (pos z) ++ js) v P
   takes h x t z m v js P width same here read go =
       run_then Words Elements (bytes_code h x t (pos z)) js v (λ d. Took x t v d × IsRow h c.memory (address m) (d.xmm x)) P (bytes_run Words Elements c.memory at.bounded.memory x t (pos z) v (address m) same here h width (readable h m read)) (λ d g. go d g.0 (holds h m (d.xmm x) g.1))
 
@@ -189,31 +158,31 @@ module _ (count : ℕ) (source : FarSource) (is : IsFarSource source) (one : far
   abbrev c3 : Core
   c3 = after (Lea 7 (front source) ∷ Alu Sub 7 0 ∷ []) c1
 
-  abbrev c4 : Core
+  abbrev pub c4 : Core
   c4 = after halves c1
 
-  halve_then : (js : List Ins) (P : Core → Type 0) → To js c4 P → To (halve_code source ++ js) c P
+  pub halve_then : (js : List Ins) (P : Core → Type 0) → To js c4 P → To (halve_code source ++ js) c P
   halve_then js P r = slot_then Words Elements 0 source.array (halves ++ js) c s.base P at.array (λ y w. inr (source.array, inr (inl refl), w)) (calm_then Words Elements halves js refl c1 P r)
 
   front_is : moved (c.gpr source.pointer) source.ahead ≡ address s.first
   front_is = at.pointer ∙ ap (λ n. (s.base + s.first * n) % 2 ^ 64) one ∙ front_of s.base s.first
 
-  half_is : c4.gpr 7 ≡ s.first / 2
+  pub half_is : c4.gpr 7 ≡ s.first / 2
   half_is =
       ap (λ g. shr 64 (sub_wrap 64 (moved g source.ahead) s.base) 1) (change_other c.gpr 0 s.base source.pointer is.pointer.0) ∙ ap (λ x. shr 64 (sub_wrap 64 x s.base) 1) front_is
       ∙ halved s.base s.first small_first small_base
 
-  pointer_is : c4.gpr source.pointer ≡ c.gpr source.pointer
+  pub pointer_is : c4.gpr source.pointer ≡ c.gpr source.pointer
   pointer_is =
       let ne = is.pointer.1 in
       change_other c3.gpr 7 (c4.gpr 7) source.pointer ne ∙ change_other c2.gpr 7 (c3.gpr 7) source.pointer ne ∙ change_other c1.gpr 7 (c2.gpr 7) source.pointer ne ∙ change_other c.gpr 0 s.base source.pointer is.pointer.0
 
   -- ---- addresses in RAX
 
-  lower_at : (v : Core) → v.gpr 0 ≡ s.base → v.gpr 7 ≡ s.first / 2 → ((after lower_code v).gpr 0 + 0) % 2 ^ 64 ≡ address (s.first / 2)
+  pub lower_at : (v : Core) → v.gpr 0 ≡ s.base → v.gpr 7 ≡ s.first / 2 → ((after lower_code v).gpr 0 + 0) % 2 ^ 64 ≡ address (s.first / 2)
   lower_at v base half = ap (λ b. ((b + v.gpr 7) % 2 ^ 64 + 0) % 2 ^ 64) base ∙ ap (λ b. ((s.base + b) % 2 ^ 64 + 0) % 2 ^ 64) half ∙ at_zero (s.base + s.first / 2)
 
-  upper_at : (v : Core) → v.gpr source.pointer ≡ c.gpr source.pointer → v.gpr 7 ≡ s.first / 2 → ((after (upper_code source) v).gpr 0 + 0) % 2 ^ 64 ≡ address ((s.first + 1) / 2)
+  pub upper_at : (v : Core) → v.gpr source.pointer ≡ c.gpr source.pointer → v.gpr 7 ≡ s.first / 2 → ((after (upper_code source) v).gpr 0 + 0) % 2 ^ 64 ≡ address ((s.first + 1) / 2)
   upper_at v pointer half =
       ap (λ g. (sub_wrap 64 (moved g source.ahead) (v.gpr 7) + 0) % 2 ^ 64) pointer ∙ ap (λ b. (sub_wrap 64 (moved (c.gpr source.pointer) source.ahead) b + 0) % 2 ^ 64) half
       ∙ ap (λ x. (sub_wrap 64 x (s.first / 2) + 0) % 2 ^ 64) front_is ∙ ap (λ x. (x + 0) % 2 ^ 64) (rounded_up s.base s.first small_first small_base) ∙ at_zero (s.base + (s.first + 1) / 2)
@@ -227,11 +196,11 @@ module _ (count : ℕ) (source : FarSource) (is : IsFarSource source) (one : far
   abbrev val : ℕ → ℕ
   val j = value_at source.far s c.memory (s.first + j)
 
-  abbrev AreValues : List ℕ → Type 0
+  abbrev pub AreValues : List ℕ → Type 0
   AreValues x = (j : ℕ) → j < count → get_or x j 0 ≡ val j
 
   -- RDI is loaded again
-  back_run : (v : Core) → v.memory ≡ c.memory → v.gpr 4 ≡ c.gpr 4 → AreValues (v.xmm 0) → To (Load 7 (slot source.block) ∷ []) v Ended
+  pub back_run : (v : Core) → v.memory ≡ c.memory → v.gpr 4 ≡ c.gpr 4 → AreValues (v.xmm 0) → To (Load 7 (slot source.block) ∷ []) v Ended
   back_run v memory stack values =
       slot_then Words Elements 7 source.block [] v (c.gpr 7) Ended (ap (λ m. word m (moved (v.gpr 4) source.block)) memory ∙ ap (λ g. word c.memory (moved g source.block)) stack ∙ at.block)
       (λ y w. inr (source.block, inl refl, subst (λ g. InWord (moved g source.block) y) stack w))
@@ -240,27 +209,18 @@ module _ (count : ℕ) (source : FarSource) (is : IsFarSource source) (one : far
 cut_byte : (n : ℕ) → n < 256 → n % 256 ≡ n
 cut_byte n l = omega (arith, l)
 
-average_small : (x y : ℕ) → x < 256 → y < 256 → (x + y + 1) / 2 % 256 ≡ (x + y + 1) / 2
-average_small x y a b = omega (arith, a, b)
-
 -- ---- numbers of elements
 
-even_lower : (first k : ℕ) → (first + k * 2) / 2 ≡ first / 2 + k
+pub even_lower : (first k : ℕ) → (first + k * 2) / 2 ≡ first / 2 + k
 even_lower first k = omega arith
 
-odd_lower : (first k : ℕ) → (first + suc (k * 2)) / 2 ≡ (first + 1) / 2 + k
+pub odd_lower : (first k : ℕ) → (first + suc (k * 2)) / 2 ≡ (first + 1) / 2 + k
 odd_lower first k = omega arith
 
-even_upper : (first k : ℕ) → (first + k * 2 + 1) / 2 ≡ (first + 1) / 2 + k
-even_upper first k = omega arith
-
-odd_upper : (first k : ℕ) → (first + suc (k * 2) + 1) / 2 ≡ first / 2 + 1 + k
-odd_upper first k = omega arith
-
-even_place : (k h : ℕ) → k < h → k * 2 < h * 2
+pub even_place : (k h : ℕ) → k < h → k * 2 < h * 2
 even_place k h l = omega (arith, l)
 
-odd_place : (k h : ℕ) → k < h → suc (k * 2) < h * 2
+pub odd_place : (k h : ℕ) → k < h → suc (k * 2) < h * 2
 odd_place k h l = omega (arith, l)
 
 -- ---- loadupdb

@@ -14,6 +14,7 @@ pub mod Touched
 pub mod Offsets
 pub mod Quiet
 pub mod Halves
+pub mod Averages
 pub mod Brought
 pub mod Ranges
 pub mod Values

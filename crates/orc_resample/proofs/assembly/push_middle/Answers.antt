@@ -1,4 +1,3 @@
-use Rattle.orc_resample.proofs.Halves.{doubled_brought}
 use Rattle.std.proofs.Common.{◌+◌, ◌∷◌}
 use Rattle.x86_ins.specs.declared.ins.Ins.TheVariants.{Move}
 use Rattle.orc_resample.specs.Code.{half_code, average_code}
