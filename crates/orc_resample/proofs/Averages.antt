@@ -1,37 +1,30 @@
 -- A load that puts averages between its elements takes them at once inside a turn.
-use Rattle.std.proofs.Common.{◌≡◌, ◌≢◌, ℕ, zero, suc, ◌+◌, ◌-◌, ◌*◌, ◌/◌, ◌%◌, ◌^◌, ◌<◌, ◌≤◌, ◌==◌, ℤ, pos, ◌*ℤ◌, true, false, if◌then◌else◌, List, [], ◌∷◌, ◌++◌, get_or, Option, Some, None, refl, sym, ap, ◌∙◌, subst, arith, inl, inr, ⊎_elim}
-use Rattle.std.specs.Prelude.{cond, nat_eq}
+use Rattle.std.proofs.Common.{◌≡◌, ◌≢◌, ℕ, suc, ◌+◌, ◌*◌, ◌/◌, ◌%◌, ◌^◌, ◌<◌, ◌≤◌, ◌==◌, pos, true, if◌then◌else◌, List, [], ◌∷◌, ◌++◌, get_or, Some, None, refl, sym, ap, ◌∙◌, subst, arith, inl, inr, ⊎_elim}
 use Rattle.std.proofs.lemmas.Bool.{cases_eq}
-use Rattle.std.proofs.Math.IntN.{pos-*ℤ-pos}
 use Rattle.orc_bits.specs.Lanes.{lane}
-use Rattle.orc_bits.specs.Memory.{Memory, bind, number, word, value}
-use Rattle.orc_bits.proofs.Memories.{value_small}
-use Rattle.orc_bits.proofs.LaneLaws.{eq_false, lane_one, change_other, change_same}
-use Rattle.x86_ins.specs.declared.ins.AluOp.TheVariants.{Add, Sub}
-use Rattle.x86_ins.specs.declared.ins.ShiftOp.TheVariants.{Shr}
+use Rattle.orc_bits.specs.Memory.{Memory, word}
+use Rattle.orc_bits.proofs.LaneLaws.{eq_false, lane_one}
 use Rattle.x86_ins.specs.declared.ins.VecOp.TheVariants.{Punpcklbw, Pavgb}
 use Rattle.x86_ins.specs.declared.ins.Ins.{Ins}
-use Rattle.x86_ins.specs.declared.ins.Ins.TheVariants.{Vec, Load, Alu, Shift, Lea}
+use Rattle.x86_ins.specs.declared.ins.Ins.TheVariants.{Vec, Load}
 use Rattle.x86_ins.specs.Spelling.{IsIns}
 use Rattle.x86_ins.specs.Way.{Each}
-use Rattle.x86_ins.specs.Vectors.{shape, lane_of, result_of, average, shr, sub_wrap}
+use Rattle.x86_ins.specs.Vectors.{shape, lane_of, result_of, average}
 use Rattle.x86_ins.specs.Machine.{Core, with_gpr, moved}
 use Rattle.x86_flow.specs.Does.{Line}
 use Rattle.x86_flow.specs.Moves.{IsWidth}
 use Rattle.x86_flow.proofs.Moves.{each_width}
 use Rattle.orc_ops.specs.declared.far.Far.{Far}
-use Rattle.orc_ops.specs.declared.far.Far.TheVariants.{Loadupdb, Loadupib}
+use Rattle.orc_ops.specs.declared.far.Far.TheVariants.{Loadupib}
 use Rattle.orc_ops.specs.Far.{far_size, other}
 use Rattle.orc_resample.specs.declared.turn.FarSource.{FarSource}
-use Rattle.orc_resample.specs.Code.{slot, front, bytes_code, halve_code, lower_code, upper_code, doubled_code, averages_code, between_code}
-use Rattle.orc_resample.specs.Ready.{Source, InWord, IsRead, cell, element, some_or_zero, value_at}
+use Rattle.orc_resample.specs.Code.{slot, bytes_code, halve_code, lower_code, upper_code, between_code}
+use Rattle.orc_resample.specs.Ready.{Source, InWord, IsRead, element, value_at}
 use Rattle.orc_resample.specs.Bring.{IsFarSource, AtHand, Brought, OnTurn}
-use Rattle.orc_resample.proofs.Bytes.{byte, byte_small, byte_at}
 use Rattle.orc_resample.proofs.Pushes.{by_bytes}
-use Rattle.orc_resample.proofs.Rows.{IsRow}
-use Rattle.orc_resample.proofs.Runs.{after, run_then, run_map, calm_then, calm_run, slot_then}
+use Rattle.orc_resample.proofs.Runs.{after, run_then, calm_then, calm_run, slot_then}
 use Rattle.orc_resample.proofs.Touched.{all_agree}
-use Rattle.orc_resample.proofs.Quiet.{all_quiet, Own, Cells, Leads, Ends, ended, Readable, Took, bytes_run}
+use Rattle.orc_resample.proofs.Quiet.{all_quiet, Leads, Ends, ended}
 use Rattle.orc_resample.proofs.Halves.{even_byte, odd_byte, by_parity, even_lower, odd_lower, even_place, odd_place, el, AreRead, Holds, c4, Words, Elements, AreValues, takes, halve_then, half_is, pointer_is, lower_at, upper_at, back_run, element_small}
 
 -- ---- averages of bytes

@@ -1,7 +1,7 @@
 -- The list inside a turn leads from every state with all at hand to the values.
-use Rattle.std.proofs.Common.{◌≡◌, ◌≢◌, ℕ, zero, suc, ◌+◌, ◌-◌, ◌*◌, ◌%◌, ◌^◌, ◌<◌, ◌≤◌, ◌/◌, ◌==◌, ℤ, pos, negsuc, Bool, true, false, true≢false, if◌then◌else◌, List, [], ◌∷◌, ◌++◌, Option, Some, None, Ok, refl, sym, ap, ◌∙◌, subst, arith, inl, inr, ⊎_elim}
+use Rattle.std.proofs.Common.{◌≡◌, ◌≢◌, ℕ, zero, suc, ◌+◌, ◌-◌, ◌*◌, ◌%◌, ◌^◌, ◌<◌, ◌≤◌, ◌/◌, ◌==◌, ℤ, pos, negsuc, Bool, true, false, if◌then◌else◌, List, [], ◌∷◌, ◌++◌, Option, Some, None, Ok, refl, sym, ap, ◌∙◌, subst, arith, inl, inr, ⊎_elim}
 use Rattle.std.proofs.lemmas.Bool.{cases_eq}
-use Rattle.orc_bits.specs.Lanes.{lane, byte_of}
+use Rattle.orc_bits.specs.Lanes.{byte_of}
 use Rattle.orc_bits.specs.Memory.{Memory, bind, read, number, value, word, fill, IsMapped}
 use Rattle.orc_bits.proofs.LaneLaws.{change_other, change_same}
 use Rattle.orc_bits.proofs.Memories.{fill_other, fill_mapped, store_mapped, value_small}
@@ -13,7 +13,6 @@ use Rattle.x86_ins.specs.Spelling.{IsIns}
 use Rattle.x86_ins.specs.Way.{Each}
 use Rattle.x86_ins.specs.Vectors.{shr, sub_wrap}
 use Rattle.x86_ins.specs.Machine.{Core, with_gpr, with_flags, with_memory, alu_core, moved, access, load, save, work}
-use Rattle.x86_ins.proofs.Bounds.{ok_one}
 use Rattle.x86_flow.specs.Does.{Line}
 use Rattle.x86_flow.specs.Moves.{IsWidth}
 use Rattle.x86_flow.proofs.Frame.{word_stored}
@@ -22,7 +21,6 @@ use Rattle.x86_flow.proofs.Touching.{touches_none}
 use Rattle.orc_ops.specs.declared.far.Far.{Far}
 use Rattle.orc_ops.specs.declared.far.Far.TheVariants.{Loadoffb, Loadoffw, Loadoffl, Loadupdb, Loadupib, Ldresnearb, Ldresnearl, Ldreslinb, Ldreslinl}
 use Rattle.orc_ops.specs.Far.{far_size, far_first, far_second, far_part, far_blend, other}
-use Rattle.orc_resample.specs.declared.plan.FarPlan.{FarPlan}
 use Rattle.orc_resample.specs.declared.turn.FarSource.{FarSource}
 use Rattle.orc_resample.specs.Code.{slot, scratch, bits_of, narrow_code, gather_with, plan_of, enter_code, leave_code, singly_code, bring_by, bring_code}
 use Rattle.orc_resample.specs.Ready.{IsPlan, Source, Ready, IsScratch, Keeps, Gathered, OnTheWay, cell, element, some_or_zero, IsRead, value_at, InWord, InPlan}

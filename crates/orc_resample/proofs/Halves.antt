@@ -1,35 +1,35 @@
 -- A load that doubles its elements takes them at once inside a turn: those that go to even places, and those that go to odd places.
-use Rattle.std.proofs.Common.{◌≡◌, ◌≢◌, ℕ, zero, suc, ◌+◌, ◌-◌, ◌*◌, ◌/◌, ◌%◌, ◌^◌, ◌<◌, ◌≤◌, ◌==◌, ℤ, pos, ◌*ℤ◌, true, false, if◌then◌else◌, List, [], ◌∷◌, ◌++◌, get_or, Option, Some, None, refl, sym, ap, ◌∙◌, subst, arith, inl, inr, ⊎_elim}
+use Rattle.std.proofs.Common.{◌≡◌, ℕ, suc, ◌+◌, ◌-◌, ◌*◌, ◌/◌, ◌%◌, ◌^◌, ◌<◌, ◌≤◌, pos, ◌*ℤ◌, true, List, [], ◌∷◌, ◌++◌, get_or, Option, Some, None, refl, sym, ap, ◌∙◌, subst, arith, inl, inr, ⊎_elim}
 use Rattle.std.specs.Prelude.{cond, nat_eq}
 use Rattle.std.proofs.lemmas.Bool.{cases_eq}
 use Rattle.std.proofs.Math.IntN.{pos-*ℤ-pos}
 use Rattle.orc_bits.specs.Lanes.{lane}
 use Rattle.orc_bits.specs.Memory.{Memory, bind, number, word, value}
 use Rattle.orc_bits.proofs.Memories.{value_small}
-use Rattle.orc_bits.proofs.LaneLaws.{eq_false, lane_one, change_other, change_same}
-use Rattle.x86_ins.specs.declared.ins.AluOp.TheVariants.{Add, Sub}
+use Rattle.orc_bits.proofs.LaneLaws.{lane_one, change_other, change_same}
+use Rattle.x86_ins.specs.declared.ins.AluOp.TheVariants.{Sub}
 use Rattle.x86_ins.specs.declared.ins.ShiftOp.TheVariants.{Shr}
-use Rattle.x86_ins.specs.declared.ins.VecOp.TheVariants.{Punpcklbw, Pavgb}
+use Rattle.x86_ins.specs.declared.ins.VecOp.TheVariants.{Punpcklbw}
 use Rattle.x86_ins.specs.declared.ins.Ins.{Ins}
 use Rattle.x86_ins.specs.declared.ins.Ins.TheVariants.{Vec, Load, Alu, Shift, Lea}
 use Rattle.x86_ins.specs.Spelling.{IsIns}
 use Rattle.x86_ins.specs.Way.{Each}
-use Rattle.x86_ins.specs.Vectors.{shape, lane_of, result_of, average, shr, sub_wrap}
+use Rattle.x86_ins.specs.Vectors.{shape, lane_of, result_of, shr, sub_wrap}
 use Rattle.x86_ins.specs.Machine.{Core, with_gpr, moved}
 use Rattle.x86_flow.specs.Does.{Line}
 use Rattle.x86_flow.specs.Moves.{IsWidth}
 use Rattle.x86_flow.proofs.Moves.{each_width}
 use Rattle.orc_ops.specs.declared.far.Far.{Far}
-use Rattle.orc_ops.specs.declared.far.Far.TheVariants.{Loadupdb, Loadupib}
-use Rattle.orc_ops.specs.Far.{far_size, other}
+use Rattle.orc_ops.specs.declared.far.Far.TheVariants.{Loadupdb}
+use Rattle.orc_ops.specs.Far.{far_size}
 use Rattle.orc_resample.specs.declared.turn.FarSource.{FarSource}
-use Rattle.orc_resample.specs.Code.{slot, front, bytes_code, halve_code, lower_code, upper_code, doubled_code, averages_code, between_code}
+use Rattle.orc_resample.specs.Code.{slot, front, bytes_code, halve_code, lower_code, upper_code, doubled_code}
 use Rattle.orc_resample.specs.Ready.{Source, InWord, IsRead, cell, element, some_or_zero, value_at}
 use Rattle.orc_resample.specs.Bring.{IsFarSource, AtHand, Brought, OnTurn}
 use Rattle.orc_resample.proofs.Bytes.{byte, byte_small, byte_at}
 use Rattle.orc_resample.proofs.Pushes.{by_bytes}
 use Rattle.orc_resample.proofs.Rows.{IsRow}
-use Rattle.orc_resample.proofs.Runs.{after, run_then, run_map, calm_then, calm_run, slot_then}
+use Rattle.orc_resample.proofs.Runs.{after, run_then, calm_then, calm_run, slot_then}
 use Rattle.orc_resample.proofs.Touched.{all_agree}
 use Rattle.orc_resample.proofs.Quiet.{all_quiet, Own, Cells, Leads, Ends, ended, Readable, Took, bytes_run}
 

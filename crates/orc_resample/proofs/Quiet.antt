@@ -1,5 +1,5 @@
 -- Lists of a turn that write RAX, RDI and XMM0 to XMM5 alone, and no memory; and moves of bytes that stand side by side.
-use Rattle.std.proofs.Common.{◌≡◌, ◌≢◌, ℕ, zero, suc, ◌+◌, ◌*◌, ◌%◌, ◌^◌, ◌<◌, ◌≤◌, ◌==◌, ◌||◌, ◌&&◌, not, ◌⊎◌, inl, inr, ⊎_elim, ℤ, pos, Bool, true, false, List, [], ◌∷◌, ◌++◌, get_or, Some, Result, Ok, refl, sym, ap, ◌∙◌, subst, arith, true≢false}
+use Rattle.std.proofs.Common.{◌≡◌, ◌≢◌, ℕ, ◌+◌, ◌%◌, ◌^◌, ◌<◌, ◌≤◌, ◌==◌, ◌||◌, ◌&&◌, not, inl, inr, ⊎_elim, ℤ, Bool, true, false, List, [], ◌∷◌, ◌++◌, get_or, Result, Ok, refl, sym, ap, ◌∙◌, subst, arith, true≢false}
 use Rattle.std.specs.Prelude.{nat_lt}
 use Rattle.std.proofs.lemmas.Bool.{cases_eq, eqb-true}
 use Rattle.std.proofs.lemmas.Bool.Decides.{nat_tests}
@@ -21,16 +21,15 @@ use Rattle.x86_ins.specs.Machine.{Core, Bounded, with_gpr, with_xmm, moved, addr
 use Rattle.x86_ins.proofs.Bounds.{ok_one, access_ok, aligned_ok}
 use Rattle.x86_flow.specs.Does.{Line}
 use Rattle.x86_flow.specs.Moves.{IsWidth}
-use Rattle.x86_flow.specs.Touching.{touch_weight}
 use Rattle.x86_flow.proofs.Moves.{each_width}
 use Rattle.orc_ops.specs.Far.{far_size}
 use Rattle.orc_resample.specs.declared.turn.FarSource.{FarSource}
 use Rattle.orc_resample.specs.Code.{bytes_code}
 use Rattle.orc_resample.specs.Ready.{Source, AmongCells, value_at}
-use Rattle.orc_resample.specs.Bring.{AtHand, Stays, Brought, InOwn, OnTurn}
+use Rattle.orc_resample.specs.Bring.{Stays, Brought, InOwn, OnTurn}
 use Rattle.orc_resample.proofs.Bytes.{byte, byte_small, digits, value_is, read_byte}
 use Rattle.orc_resample.proofs.Twins.{Looks}
-use Rattle.orc_resample.proofs.Runs.{Run, after, calm_run, load_then, far_vector_then}
+use Rattle.orc_resample.proofs.Runs.{Run, calm_run, load_then, far_vector_then}
 use Rattle.orc_resample.proofs.Rows.{IsRow, one_digit, two_digits}
 use Rattle.orc_resample.proofs.Gathered.{line_bounded}
 use Rattle.orc_resample.proofs.Touched.{Agrees, all_agree, agree_each}

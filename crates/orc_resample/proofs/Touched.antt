@@ -2,7 +2,7 @@
 use Rattle.std.proofs.Common.{◌≡◌, ℕ, zero, suc, ◌+◌, ◌-◌, ◌*◌, ◌≤◌, ◌==◌, ◌&&◌, Bool, true, false, not, true≢false, if◌then◌else◌, length, ℤ, List, [], ◌∷◌, ◌++◌, refl, sym, ap, ◌∙◌, subst, arith, length-append}
 use Rattle.x86_ins.specs.declared.ins.ShiftOp.TheVariants.{Shr, Sar}
 use Rattle.x86_ins.specs.declared.ins.Ins.{Ins}
-use Rattle.x86_ins.specs.declared.ins.Ins.TheVariants.{Load, Store, Shift}
+use Rattle.x86_ins.specs.declared.ins.Ins.TheVariants.{Store, Shift}
 use Rattle.x86_ins.specs.Spelling.{IsIns, IsAllowed, has_spelling}
 use Rattle.x86_ins.specs.Way.{Each}
 use Rattle.x86_flow.specs.Moves.{IsWidth}
