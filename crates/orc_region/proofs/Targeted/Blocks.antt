@@ -27,6 +27,10 @@ use Rattle.sse_laws.specs.Targets.{IsCodeFor}
 use Rattle.sse_laws.proofs.Targeted.{behind_for, either_for, renamed_for}
 use Rattle.orc_region.specs.Code.{Action, Source, FromArray, FromPattern, FromResident, FromPlace, FromSlot, FromFar, Target, ToArray, ToSum, ToResident, ToPlace, ToSlot, AreActions, AreBlocks, IsBlocksTurn, IsBlock, IsTurnOf, pointer, far_by, far_source, from_zero_code, aligned_first, first_register, second_register, rule_register, rule_code, source_far_code, brought, sources_far_code, sum_code, result_far_code, results_far_code, own_names, spares_second, action_names, action_far_code, named_code, actions_far_code, advance_code, Seats, seats_of, last_place, is_resident, resident_register, resident_code, residents_code, cleared, loaded, resident_loads_code, sum_store_code, sum_stores_code}
 
+-- so far behind the address in RAX
+abbrev from_rax : ℤ → Addr
+from_rax z = record { base = 0; disp = z }
+
 module _ (t : CodeTarget) where
   -- ---- one action
 
@@ -108,10 +112,7 @@ module _ (t : CodeTarget) where
   bytes_for : (width x r : ℕ) (z : ℤ) → IsCodeFor t (bytes_code width x r z)
   bytes_for width x r z = go (width == 1) (width == 2) (width == 4) (width == 8)
     where
-      abbrev at : Addr
-      at = record { base = 0; disp = z }
-
-      go : (one two four eight : Bool) → IsCodeFor t (if one then Load8 r at ∷ FromGpr false x r ∷ [] else if two then Load16 r at ∷ FromGpr false x r ∷ [] else if four then VecLoad Movd x at ∷ [] else if eight then VecLoad Movq x at ∷ [] else VecLoad Movdqu x at ∷ [])
+      go : (one two four eight : Bool) → IsCodeFor t (if one then Load8 r (from_rax z) ∷ FromGpr false x r ∷ [] else if two then Load16 r (from_rax z) ∷ FromGpr false x r ∷ [] else if four then VecLoad Movd x (from_rax z) ∷ [] else if eight then VecLoad Movq x (from_rax z) ∷ [] else VecLoad Movdqu x (from_rax z) ∷ [])
       go true two four eight = refl
       go false true four eight = refl
       go false false true eight = refl
