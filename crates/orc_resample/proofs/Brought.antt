@@ -395,7 +395,6 @@ module _ (count : ℕ) (source : FarSource) (is : IsFarSource source) (s : Sourc
     stays_9 : Stays source c d2
     stays_9 = still d1 d2 stays_8 refl refl refl
 
-
   singly_brought : IsWidth (count * far_size source.far) → Each IsIns (singly_code source count) → (d : Core) × Line Q (singly_code source count) c d × Brought count source s c d
   singly_brought width ranges =
       let list = gather_with source.far (plan_of source) count 0 1 7 in
