@@ -1,7 +1,7 @@
 -- The list inside a turn leads from every state with all at hand to the values.
-use Rattle.std.proofs.Common.{◌≡◌, ◌≢◌, ℕ, zero, suc, ◌+◌, ◌-◌, ◌*◌, ◌%◌, ◌^◌, ◌<◌, ◌≤◌, ◌/◌, ◌==◌, ℤ, pos, negsuc, Bool, true, false, true≢false, if◌then◌else◌, List, [], ◌∷◌, ◌++◌, Option, Some, None, Ok, refl, sym, ap, ◌∙◌, subst, arith, inl, inr, ⊎_elim}
+use Rattle.std.proofs.Common.{◌≡◌, ◌≢◌, ℕ, zero, suc, ◌+◌, ◌-◌, ◌*◌, ◌%◌, ◌^◌, ◌<◌, ◌≤◌, ◌/◌, ◌==◌, ℤ, pos, negsuc, Bool, true, false, if◌then◌else◌, List, [], ◌∷◌, ◌++◌, Option, Some, None, Ok, refl, sym, ap, ◌∙◌, subst, arith, inl, inr, ⊎_elim}
 use Rattle.std.proofs.lemmas.Bool.{cases_eq}
-use Rattle.orc_bits.specs.Lanes.{lane, byte_of}
+use Rattle.orc_bits.specs.Lanes.{byte_of}
 use Rattle.orc_bits.specs.Memory.{Memory, bind, read, number, value, word, fill, IsMapped}
 use Rattle.orc_bits.proofs.LaneLaws.{change_other, change_same}
 use Rattle.orc_bits.proofs.Memories.{fill_other, fill_mapped, store_mapped, value_small}
@@ -13,7 +13,6 @@ use Rattle.x86_ins.specs.Spelling.{IsIns}
 use Rattle.x86_ins.specs.Way.{Each}
 use Rattle.x86_ins.specs.Vectors.{shr, sub_wrap}
 use Rattle.x86_ins.specs.Machine.{Core, with_gpr, with_flags, with_memory, alu_core, moved, access, load, save, work}
-use Rattle.x86_ins.proofs.Bounds.{ok_one}
 use Rattle.x86_flow.specs.Does.{Line}
 use Rattle.x86_flow.specs.Moves.{IsWidth}
 use Rattle.x86_flow.proofs.Frame.{word_stored}
@@ -22,13 +21,15 @@ use Rattle.x86_flow.proofs.Touching.{touches_none}
 use Rattle.orc_ops.specs.declared.far.Far.{Far}
 use Rattle.orc_ops.specs.declared.far.Far.TheVariants.{Loadoffb, Loadoffw, Loadoffl, Loadupdb, Loadupib, Ldresnearb, Ldresnearl, Ldreslinb, Ldreslinl}
 use Rattle.orc_ops.specs.Far.{far_size, far_first, far_second, far_part, far_blend, other}
-use Rattle.orc_resample.specs.declared.plan.FarPlan.{FarPlan}
 use Rattle.orc_resample.specs.declared.turn.FarSource.{FarSource}
-use Rattle.orc_resample.specs.Code.{slot, scratch, bits_of, narrow_code, is_one_by_one, gather_with, plan_of, enter_code, block_code, leave_code, bring_code}
+use Rattle.orc_resample.specs.Code.{slot, scratch, bits_of, narrow_code, gather_with, plan_of, enter_code, leave_code, singly_code, bring_by, bring_code}
 use Rattle.orc_resample.specs.Ready.{IsPlan, Source, Ready, IsScratch, Keeps, Gathered, OnTheWay, cell, element, some_or_zero, IsRead, value_at, InWord, InPlan}
 use Rattle.orc_resample.specs.Bring.{pattern_at, IsKept, IsSpare, LiesIn, AreApart, IsFarSource, InWords, AtHand, Stays, Brought, InOwn, OnTurn, Brings}
 use Rattle.orc_resample.proofs.Gathered.{line_bounded, gathers}
 use Rattle.orc_resample.proofs.Touched.{Agrees, gather_agrees, agree_each}
+use Rattle.orc_resample.proofs.Offsets.{IsOffset, offset_b, offset_w, offset_l, scaled_b, scaled_w, scaled_l, beside_brought}
+use Rattle.orc_resample.proofs.Halves.{doubled_brought}
+use Rattle.orc_resample.proofs.Averages.{between_brought}
 
 -- ---- memories that agree on some bytes
 
@@ -133,35 +134,6 @@ each_front P (i ∷ x) y h = (h.0, each_front P x y h.1)
 each_behind : (P : Ins → Type 0) (x y : List Ins) → Each P (x ++ y) → Each P y
 each_behind P [] y h = h
 each_behind P (i ∷ x) y h = each_behind P x y h.1
-
--- from a state a list leads to one state
-one_end : (A B : Core → Ins → Type 0) (is : List Ins) (c d e : Core) → Line A is c d → Line B is c e → d ≡ e
-one_end A B [] c d e h k = sym h ∙ k
-one_end A B (i ∷ is) c d e h k = one_end A B is k.1.0 d e (subst (λ u. Line A is u d) (ok_one h.1.0 k.1.0 (sym h.1.1 ∙ k.1.1)) h.1.2) k.1.2
-
--- ---- elements side by side
-
--- a plan in which RDX stands for the third register, which elements side by side don't use
-abbrev other_plan : FarSource → FarPlan
-other_plan source = record {
-  array = source.array;
-  scalars = source.scalars;
-  index = source.index;
-  work = source.work;
-  scratch = 0 ∷ 1 ∷ 2 ∷ [];
-  odd = None;
-}
-
-same_code : (far : Far) (source : FarSource) (count : ℕ) → is_one_by_one far ≡ false → gather_with far (plan_of source) count 0 1 7 ≡ gather_with far (other_plan source) count 0 1 2
-same_code Loadoffb source count h = refl
-same_code Loadoffw source count h = refl
-same_code Loadoffl source count h = refl
-same_code Loadupdb source count h = absurd (true≢false h)
-same_code Loadupib source count h = absurd (true≢false h)
-same_code Ldresnearb source count h = absurd (true≢false h)
-same_code Ldresnearl source count h = absurd (true≢false h)
-same_code Ldreslinb source count h = absurd (true≢false h)
-same_code Ldreslinl source count h = absurd (true≢false h)
 
 -- a line under another fact at each step, from what holds of each instruction
 line_each : (P : Ins → Type 0) (A B : Core → Ins → Type 0) → ((u : Core) (i : Ins) → P i → A u i → B u i) → (is : List Ins) (c d : Core) → Each P is → Line A is c d → Line B is c d
@@ -351,39 +323,9 @@ module _ (count : ℕ) (source : FarSource) (is : IsFarSource source) (s : Sourc
       registers (suc (suc zero)) l = (omega arith, λ e. omega (arith, e))
       registers (suc (suc (suc j))) l = absurd (omega (arith, l))
 
-  -- the same for the other plan
-  is_other : IsPlan source.far (other_plan source)
-  is_other = record { registers = registers; different = (λ e. omega (arith, e), (λ e. omega (arith, e), λ e. omega (arith, e))); scalars = is.scalars }
-    where
-      registers : (j : ℕ) → j < 3 → (scratch (other_plan source) j < 16) × (scratch (other_plan source) j ≢ 4)
-      registers zero l = (omega arith, λ e. omega (arith, e))
-      registers (suc zero) l = (omega arith, λ e. omega (arith, e))
-      registers (suc (suc zero)) l = (omega arith, λ e. omega (arith, e))
-      registers (suc (suc (suc j))) l = absurd (omega (arith, l))
-
-  other_ready : Ready source.far count (plan_of source) s c6 → Ready source.far count (other_plan source) s c6
-  other_ready r = record { bounded = r.bounded; index = r.index; last = r.last; array = r.array; first_scalar = r.first_scalar; second_scalar = r.second_scalar; mapped = r.mapped }
-
-  not_other : (r : ℕ) → r ≢ 0 → r ≢ 1 → r ≢ 2 → IsScratch (other_plan source) r → ⊥
-  not_other r a b e (zero, l, q) = a q
-  not_other r a b e (suc zero, l, q) = b q
-  not_other r a b e (suc (suc zero), l, q) = e q
-  not_other r a b e (suc (suc (suc j)), l, q) = omega (arith, l)
-
   -- all registers but RAX and RCX are as at the beginning
   before : (r : ℕ) → r ≢ 0 → r ≢ 1 → c6.gpr r ≡ c.gpr r
   before r zero_not one_not = narrowed_others whole bits c4 r zero_not ∙ change_other c3.gpr 0 (c4.gpr 0) r zero_not ∙ change_other c2.gpr 1 s.base r one_not ∙ change_other c1.gpr 0 (moved (c.gpr source.pointer) source.ahead) r zero_not
-
-  -- RDI is so behind elements side by side
-  seven : (d : Core) → is_one_by_one source.far ≡ false → IsWidth (count * far_size source.far) → Ready source.far count (plan_of source) s c6 → Each IsIns (gather_with source.far (plan_of source) count 0 1 7)
-      → Line (OnTheWay source.far count (plan_of source) s c6) (gather_with source.far (plan_of source) count 0 1 7) c6 d → d.gpr 7 ≡ c.gpr 7
-  seven d side width r ranges line =
-      let list = gather_with source.far (plan_of source) count 0 1 7 in
-      let e : list ≡ gather_with source.far (other_plan source) count 0 1 2 = same_code source.far source count side in
-      let o = gathers source.far count (other_plan source) is_other width (subst (Each IsIns) e ranges) s c6 (other_ready r) in
-      let P = OnTheWay source.far count (plan_of source) s c6 in
-      let P' = OnTheWay source.far count (other_plan source) s c6 in
-      ap (λ u. u.gpr 7) (one_end P P' list c6 d o.0 line (subst (λ l. Line P' l c6 o.0) (sym e) o.1)) ∙ o.2.keeps.gpr 7 (not_other 7 (λ x. omega (arith, x)) (λ x. omega (arith, x)) (λ x. omega (arith, x))) ∙ before 7 (λ x. omega (arith, x)) (λ x. omega (arith, x))
 
   not_scratch : (r : ℕ) → r ≢ 0 → r ≢ 1 → r ≢ 7 → IsScratch (plan_of source) r → ⊥
   not_scratch r a b e (zero, l, q) = a q
@@ -409,14 +351,9 @@ module _ (count : ℕ) (source : FarSource) (is : IsFarSource source) (s : Sourc
 
   -- ---- behind it
 
-  module _ (d : Core) (g : Gathered source.far count (plan_of source) s c6 d) (side : is_one_by_one source.far ≡ false → d.gpr 7 ≡ c.gpr 7) where
-    -- RDI is loaded again, or stands
-    abbrev back : Bool → Core
-    back true = with_gpr d 7 (c.gpr 7)
-    back false = d
-
+  module _ (d : Core) (g : Gathered source.far count (plan_of source) s c6 d) where
     abbrev d1 : Core
-    d1 = back (is_one_by_one source.far)
+    d1 = with_gpr d 7 (c.gpr 7)
 
     abbrev d2 : Core
     d2 = with_gpr d1 1 (c.gpr 1)
@@ -424,76 +361,88 @@ module _ (count : ℕ) (source : FarSource) (is : IsFarSource source) (s : Sourc
     stays_7 : Stays source c d
     stays_7 = stays_on d g.keeps
 
-    back_memory : (t : Bool) → (back t).memory ≡ d.memory
-    back_memory true = refl
-    back_memory false = refl
-
-    back_xmm : (t : Bool) → (back t).xmm ≡ d.xmm
-    back_xmm true = refl
-    back_xmm false = refl
-
-    back_others : (t : Bool) (r : ℕ) → r ≢ 7 → (back t).gpr r ≡ d.gpr r
-    back_others true r h = change_other d.gpr 7 (c.gpr 7) r h
-    back_others false r h = refl
-
-    back_block : (t : Bool) → t ≡ is_one_by_one source.far → (back t).gpr 7 ≡ c.gpr 7
-    back_block true e = change_same d.gpr 7 (c.gpr 7)
-    back_block false e = side (sym e)
-
-    back_line : (t : Bool) → Line Q (if t then Load 7 (slot source.block) ∷ [] else []) d (back t)
-    back_line true = (at_kept d 7 source.block (inl refl) stays_7, (back true, loads d 7 source.block (c.gpr 7) stays_7 (kept_word d stays_7 source.block (inl refl) ∙ at.block), refl))
-    back_line false = refl
-
     stays_8 : Stays source c d1
-    stays_8 = still d d1 stays_7 (back_others (is_one_by_one source.far) 4 (λ e. omega (arith, e))) (back_xmm (is_one_by_one source.far)) (back_memory (is_one_by_one source.far))
+    stays_8 = still d d1 stays_7 refl refl refl
 
     waits : word d1.memory work_at ≡ Some (c.gpr 1)
     waits =
         let f = byte_of 8 (c5.gpr 0) in
-        ap (λ m. word m work_at) (back_memory (is_one_by_one source.far) ∙ g.keeps.memory)
+        ap (λ m. word m work_at) g.keeps.memory
         ∙ word_alike c6.memory c5.memory work_at
         (λ x w. fill_other 8 c5.memory index_at f x (λ j l e. words_apart (c.gpr 4) source.index source.work at.frame (is.spare source.index (inl refl)) (is.spare source.work (inr refl)) is.two x (j, l, e) w))
         ∙ ap (λ m. word m work_at) (narrowed_memory whole bits c4) ∙ word_stored c.memory work_at (c.gpr 1) (moved_in (c.gpr 4) source.work at.frame (is.spare source.work (inr refl))) (at.bounded.gpr 1)
 
     left : Line Q (leave_code source) d d2
-    left = line_append Q (block_code source) (Load 1 (slot source.work) ∷ []) d d1 d2 (back_line (is_one_by_one source.far)) (at_spare d1 1 source.work (inr refl) stays_8, (d2, loads d1 1 source.work (c.gpr 1) stays_8 waits, refl))
+    left = (
+      at_kept d 7 source.block (inl refl) stays_7,
+      (
+        d1,
+        loads d 7 source.block (c.gpr 7) stays_7 (kept_word d stays_7 source.block (inl refl) ∙ at.block),
+        (at_spare d1 1 source.work (inr refl) stays_8, (d2, loads d1 1 source.work (c.gpr 1) stays_8 waits, refl)),
+      ),
+    )
 
     as_before : (r : ℕ) → r ≢ 0 → d2.gpr r ≡ c.gpr r
     as_before r zero_not = ⊎_elim
         (λ e. subst (λ i. d2.gpr i ≡ c.gpr i) (sym e) (change_same d1.gpr 1 (c.gpr 1)))
         (λ one_not. change_other d1.gpr 1 (c.gpr 1) r one_not
         ∙ ⊎_elim
-        (λ e. subst (λ i. d1.gpr i ≡ c.gpr i) (sym e) (back_block (is_one_by_one source.far) refl))
-        (λ seven_not. back_others (is_one_by_one source.far) r seven_not ∙ g.keeps.gpr r (not_scratch r zero_not one_not seven_not) ∙ before r zero_not one_not)
+        (λ e. subst (λ i. d1.gpr i ≡ c.gpr i) (sym e) (change_same d.gpr 7 (c.gpr 7)))
+        (λ seven_not. change_other d.gpr 7 (c.gpr 7) r seven_not ∙ g.keeps.gpr r (not_scratch r zero_not one_not seven_not) ∙ before r zero_not one_not)
         (cases_eq r 7))
         (cases_eq r 1)
 
     stays_9 : Stays source c d2
     stays_9 = still d1 d2 stays_8 refl refl refl
 
-    as_gathered : d2.xmm ≡ d.xmm
-    as_gathered = back_xmm (is_one_by_one source.far)
-
-  brought : IsWidth (count * far_size source.far) → Each IsIns (bring_code source count) → (d : Core) × Line Q (bring_code source count) c d × Brought count source s c d
-  brought width ranges =
+  singly_brought : IsWidth (count * far_size source.far) → Each IsIns (singly_code source count) → (d : Core) × Line Q (singly_code source count) c d × Brought count source s c d
+  singly_brought width ranges =
       let list = gather_with source.far (plan_of source) count 0 1 7 in
       let middles = each_front IsIns list (leave_code source) (each_behind IsIns (enter_code source) (list ++ leave_code source) ranges) in
       let start = ready (each_front IsIns (enter_code source) (list ++ leave_code source) ranges) in
       let r = gathers source.far count (plan_of source) is_plan width middles s c6 start in
       let d = r.0 in
-      let side : is_one_by_one source.far ≡ false → d.gpr 7 ≡ c.gpr 7 = λ f. seven d f width start middles r.1 in
-      let e = d2 d r.2 side in
+      let e = d2 d r.2 in
       let middle : Line Q list c6 d = line_each Agrees (OnTheWay source.far count (plan_of source) s c6) Q on_turn list c6 d (agree_each list (gather_agrees source.far (plan_of source) count width)) r.1 in
-      let line : Line Q (bring_code source count) c e = line_append Q (enter_code source) (list ++ leave_code source) c c6 e entered (line_append Q list (leave_code source) c6 d e middle (left d r.2 side)) in (
+      let line : Line Q (singly_code source count) c e = line_append Q (enter_code source) (list ++ leave_code source) c c6 e entered (line_append Q list (leave_code source) c6 d e middle (left d r.2)) in (
         e,
         line,
         record {
-          values = λ j l. ap (λ x. lane (far_size source.far) j (x 0)) (as_gathered d r.2 side) ∙ r.2.values j l ∙ value_same source.far s c6.memory c.memory (s.first + j) (λ k h. element_kept c6 stays_6 j l k h);
-          gpr = as_before d r.2 side;
-          stays = stays_9 d r.2 side;
-          bounded = line_bounded Q (bring_code source count) c e ranges at.bounded line;
+          values = λ j l. r.2.values j l ∙ value_same source.far s c6.memory c.memory (s.first + j) (λ k h. element_kept c6 stays_6 j l k h);
+          gpr = as_before d r.2;
+          stays = stays_9 d r.2;
+          bounded = line_bounded Q (singly_code source count) c e ranges at.bounded line;
         },
       )
 
+-- ---- by the far load
+
+singly_brings : (count : ℕ) (source : FarSource) → IsFarSource source → IsWidth (count * far_size source.far) → Each IsIns (singly_code source count) → Brings count source (singly_code source count)
+singly_brings count source is width ranges s c at = singly_brought count source is s c at width ranges
+
+-- so many bytes are moved, and so many elements of a byte taken
+width_by : (count : ℕ) (source : FarSource) (far : Far) → source.far ≡ far → IsWidth (count * far_size source.far) → IsWidth (count * far_size far)
+width_by count source far e width = subst (λ f. IsWidth (count * far_size f)) e width
+
+all_by : (count : ℕ) (source : FarSource) (far : Far) → source.far ≡ far → count * far_size far ≡ count * far_size source.far
+all_by count source far e = ap (λ f. count * far_size f) (sym e)
+
+count_by : (count : ℕ) (source : FarSource) (far : Far) → source.far ≡ far → far_size far ≡ 1 → IsWidth (count * far_size source.far) → IsWidth count
+count_by count source far e one width = subst IsWidth (ap (λ n. count * n) one ∙ (let q : count * 1 ≡ count = omega arith in q)) (width_by count source far e width)
+
+brings_by : (count : ℕ) (source : FarSource) → IsFarSource source → IsWidth (count * far_size source.far) → (far : Far) → source.far ≡ far → Each IsIns (bring_by far source count) → Brings count source (bring_by far source count)
+brings_by count source is width Loadoffb e ranges s c at =
+    beside_brought 0 (count * 1) count source is (subst (IsOffset 0) (sym e) offset_b) scaled_b (all_by count source Loadoffb e) (width_by count source Loadoffb e width) s c at ranges
+brings_by count source is width Loadoffw e ranges s c at =
+    beside_brought 1 (count * 2) count source is (subst (IsOffset 1) (sym e) offset_w) scaled_w (all_by count source Loadoffw e) (width_by count source Loadoffw e width) s c at ranges
+brings_by count source is width Loadoffl e ranges s c at =
+    beside_brought 2 (count * 4) count source is (subst (IsOffset 2) (sym e) offset_l) scaled_l (all_by count source Loadoffl e) (width_by count source Loadoffl e width) s c at ranges
+brings_by count source is width Loadupdb e ranges s c at = doubled_brought count source is e (count_by count source Loadupdb e refl width) ranges s c at
+brings_by count source is width Loadupib e ranges s c at = between_brought count source is e (count_by count source Loadupib e refl width) ranges s c at
+brings_by count source is width Ldresnearb e ranges s c at = singly_brings count source is width ranges s c at
+brings_by count source is width Ldresnearl e ranges s c at = singly_brings count source is width ranges s c at
+brings_by count source is width Ldreslinb e ranges s c at = singly_brings count source is width ranges s c at
+brings_by count source is width Ldreslinl e ranges s c at = singly_brings count source is width ranges s c at
+
 pub brings : (count : ℕ) (source : FarSource) → IsFarSource source → IsWidth (count * far_size source.far) → Each IsIns (bring_code source count) → Brings count source (bring_code source count)
-brings count source is width ranges s c at = brought count source is s c at width ranges
+brings count source is width ranges = brings_by count source is width source.far refl ranges

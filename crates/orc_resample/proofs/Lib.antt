@@ -11,6 +11,10 @@ pub mod Longs
 pub mod Rows
 pub mod Gathered
 pub mod Touched
+pub mod Offsets
+pub mod Quiet
+pub mod Halves
+pub mod Averages
 pub mod Brought
 pub mod Ranges
 pub mod Values

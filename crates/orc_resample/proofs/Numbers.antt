@@ -49,6 +49,37 @@ scalar_of v = go (v % 2 ^ 32) (v * 2 ^ 32 % 2 ^ 64) (omega arith) (omega arith) 
         ∙ (let q : 2 ^ 64 - 1 - (2 ^ 64 - 1 - x) / 2 ^ 32 ≡ 2 ^ 64 - 1 - (2 ^ 32 - 1 - u) % 2 ^ 64 = omega (arith, w, e) in q)
         ∙ ap (wrap 64) (sym (turned u w)) ∙ ap (λ b. wrap 64 (cond b (pos u) (pos u -ℤ pos (2 ^ 32)))) (sym t)
 
+-- moved down by fewer places, they are a multiple of it
+pub twice_of : (v : ℕ) → sar 64 (shl 64 v 32) 31 ≡ wrap 64 (scalar v) * 2 ^ 1 % 2 ^ 64
+twice_of v = go (v % 2 ^ 32) (v * 2 ^ 32 % 2 ^ 64) (omega arith) (omega arith) (lt_or_le (v % 2 ^ 32) (2 ^ 31)) ∙ ap (λ x. x * 2 ^ 1 % 2 ^ 64) (scalar_of v)
+  where
+    go : (u x : ℕ) → u < 2 ^ 32 → x ≡ u * 2 ^ 32 → (u < 2 ^ 31) ⊎ (2 ^ 31 ≤ u)
+        → cond (nat_lt x (2 ^ 63)) (x / 2 ^ 31) (2 ^ 64 - 1 - (2 ^ 64 - 1 - x) / 2 ^ 31) ≡ cond (nat_lt x (2 ^ 63)) (x / 2 ^ 32) (2 ^ 64 - 1 - (2 ^ 64 - 1 - x) / 2 ^ 32) * 2 ^ 1 % 2 ^ 64
+    go u x w e (inl l) =
+        let s : nat_lt x (2 ^ 63) ≡ true = grind (arith, nat_tests) in
+        ap (λ b. cond b (x / 2 ^ 31) (2 ^ 64 - 1 - (2 ^ 64 - 1 - x) / 2 ^ 31)) s ∙ (let q : x / 2 ^ 31 ≡ x / 2 ^ 32 * 2 ^ 1 % 2 ^ 64 = omega (arith, w, e, l) in q)
+        ∙ ap (λ b. cond b (x / 2 ^ 32) (2 ^ 64 - 1 - (2 ^ 64 - 1 - x) / 2 ^ 32) * 2 ^ 1 % 2 ^ 64) (sym s)
+    go u x w e (inr l) =
+        let s : nat_lt x (2 ^ 63) ≡ false = grind (arith, nat_tests) in
+        ap (λ b. cond b (x / 2 ^ 31) (2 ^ 64 - 1 - (2 ^ 64 - 1 - x) / 2 ^ 31)) s
+        ∙ (let q : 2 ^ 64 - 1 - (2 ^ 64 - 1 - x) / 2 ^ 31 ≡ (2 ^ 64 - 1 - (2 ^ 64 - 1 - x) / 2 ^ 32) * 2 ^ 1 % 2 ^ 64 = omega (arith, w, e, l) in q)
+        ∙ ap (λ b. cond b (x / 2 ^ 32) (2 ^ 64 - 1 - (2 ^ 64 - 1 - x) / 2 ^ 32) * 2 ^ 1 % 2 ^ 64) (sym s)
+
+pub four_times_of : (v : ℕ) → sar 64 (shl 64 v 32) 30 ≡ wrap 64 (scalar v) * 2 ^ 2 % 2 ^ 64
+four_times_of v = go (v % 2 ^ 32) (v * 2 ^ 32 % 2 ^ 64) (omega arith) (omega arith) (lt_or_le (v % 2 ^ 32) (2 ^ 31)) ∙ ap (λ x. x * 2 ^ 2 % 2 ^ 64) (scalar_of v)
+  where
+    go : (u x : ℕ) → u < 2 ^ 32 → x ≡ u * 2 ^ 32 → (u < 2 ^ 31) ⊎ (2 ^ 31 ≤ u)
+        → cond (nat_lt x (2 ^ 63)) (x / 2 ^ 30) (2 ^ 64 - 1 - (2 ^ 64 - 1 - x) / 2 ^ 30) ≡ cond (nat_lt x (2 ^ 63)) (x / 2 ^ 32) (2 ^ 64 - 1 - (2 ^ 64 - 1 - x) / 2 ^ 32) * 2 ^ 2 % 2 ^ 64
+    go u x w e (inl l) =
+        let s : nat_lt x (2 ^ 63) ≡ true = grind (arith, nat_tests) in
+        ap (λ b. cond b (x / 2 ^ 30) (2 ^ 64 - 1 - (2 ^ 64 - 1 - x) / 2 ^ 30)) s ∙ (let q : x / 2 ^ 30 ≡ x / 2 ^ 32 * 2 ^ 2 % 2 ^ 64 = omega (arith, w, e, l) in q)
+        ∙ ap (λ b. cond b (x / 2 ^ 32) (2 ^ 64 - 1 - (2 ^ 64 - 1 - x) / 2 ^ 32) * 2 ^ 2 % 2 ^ 64) (sym s)
+    go u x w e (inr l) =
+        let s : nat_lt x (2 ^ 63) ≡ false = grind (arith, nat_tests) in
+        ap (λ b. cond b (x / 2 ^ 30) (2 ^ 64 - 1 - (2 ^ 64 - 1 - x) / 2 ^ 30)) s
+        ∙ (let q : 2 ^ 64 - 1 - (2 ^ 64 - 1 - x) / 2 ^ 30 ≡ (2 ^ 64 - 1 - (2 ^ 64 - 1 - x) / 2 ^ 32) * 2 ^ 2 % 2 ^ 64 = omega (arith, w, e, l) in q)
+        ∙ ap (λ b. cond b (x / 2 ^ 32) (2 ^ 64 - 1 - (2 ^ 64 - 1 - x) / 2 ^ 32) * 2 ^ 2 % 2 ^ 64) (sym s)
+
 -- ---- sums and products of registers that hold exact numbers
 
 both_negative : (i n : ℕ) → (2 ^ 64 - 1 - i % 2 ^ 64 + (2 ^ 64 - 1 - n % 2 ^ 64)) % 2 ^ 64 ≡ 2 ^ 64 - 1 - suc (i + n) % 2 ^ 64

@@ -1,12 +1,13 @@
 -- The numbers of the instructions of the code inside a turn are in the ranges of their types.
-use Rattle.std.proofs.Common.{ℕ, zero, suc, ◌+◌, ◌-◌, ◌*◌, ◌^◌, ◌<◌, ◌≤◌, ◌==◌, ℤ, pos, negsuc, Bool, true, false, if◌then◌else◌, List, [], ◌∷◌, ◌++◌, refl, inl, inr, arith}
+use Rattle.std.proofs.Common.{ℕ, zero, suc, ◌+◌, ◌-◌, ◌*◌, ◌^◌, ◌<◌, ◌≤◌, ◌==◌, ℤ, pos, negsuc, Bool, true, false, if◌then◌else◌, List, [], ◌∷◌, ◌++◌, ◌≡◌, refl, sym, subst, inl, inr, arith}
 use Rattle.std.specs.Int.{w32}
 use Rattle.std.specs.Int.RustNames.{FitsSigned}
 use Rattle.x86_ins.specs.declared.ins.AluOp.TheVariants.{Add}
 use Rattle.x86_ins.specs.declared.ins.MoveOp.TheVariants.{Movd}
+use Rattle.x86_ins.specs.declared.ins.VecOp.TheVariants.{Punpcklbw, Pavgb}
 use Rattle.x86_ins.specs.declared.ins.ShiftOp.TheVariants.{Shr}
 use Rattle.x86_ins.specs.declared.ins.Ins.{Ins}
-use Rattle.x86_ins.specs.declared.ins.Ins.TheVariants.{VecLoad, Move, Load, Store, Load8, Alu, Shift, Imul}
+use Rattle.x86_ins.specs.declared.ins.Ins.TheVariants.{Vec, VecLoad, Move, Load, Store, Load8, Alu, Shift, Imul}
 use Rattle.x86_ins.specs.Spelling.{IsIns}
 use Rattle.x86_ins.specs.Way.{Each}
 use Rattle.x86_flow.specs.Moves.{away}
@@ -15,8 +16,8 @@ use Rattle.orc_ops.specs.declared.far.Far.TheVariants.{Loadoffb, Loadoffw, Loado
 use Rattle.orc_ops.specs.Far.{far_size, far_scalars}
 use Rattle.orc_resample.specs.declared.plan.FarPlan.{FarPlan}
 use Rattle.orc_resample.specs.declared.turn.FarSource.{FarSource}
-use Rattle.orc_resample.specs.Code.{slot, scalar_at, scalar_code, bits_of, scale_code, narrow_code, element_code, place_code, half_code, mix_code, address_code, push_code, push_gpr_code, spread_code, join_code, average_code, near_byte_code, near_long_code, mixed_byte_code, mixed_long_code, element_of, elements_code, row_code, sum_code, start_code, offset_code, is_one_by_one, gather_with, plan_of, enter_code, block_code, leave_code, bring_code}
-use Rattle.orc_resample.specs.Bring.{LiesIn, IsFarSource}
+use Rattle.orc_resample.specs.Code.{slot, scalar_at, scalar_code, bits_of, scale_code, narrow_code, element_code, place_code, half_code, mix_code, address_code, push_code, push_gpr_code, spread_code, join_code, average_code, near_byte_code, near_long_code, mixed_byte_code, mixed_long_code, element_of, elements_code, row_code, sum_code, start_code, offset_code, gather_with, plan_of, enter_code, leave_code, singly_code, bytes_code, shifted_code, beside_code, halve_code, lower_code, upper_code, half_count, odd_places_code, doubled_code, averages_code, between_code, bring_by, bring_code}
+use Rattle.orc_resample.specs.Bring.{pattern_at, LiesIn, IsFarSource}
 
 -- ---- lists in parts
 
@@ -177,10 +178,10 @@ module _ (plan : FarPlan) (index : FitsSigned w32 plan.index) (array : FitsSigne
   gather_ins Ldreslinb at count few = elements_ins Ldreslinb count few (linear_byte_ins (at 0 (omega arith)) (at 1 (omega arith))) count
   gather_ins Ldreslinl at count few = elements_ins Ldreslinl count few (linear_long_ins (at 0 (omega arith)) (at 1 (omega arith))) count
 
--- ---- the whole list
+-- ---- inside a turn, element by element
 
-pub bring_ins : (source : FarSource) (count : ℕ) → IsFarSource source → source.pointer < 16 → FitsSigned w32 source.ahead → count ≤ 16 → Each IsIns (bring_code source count)
-bring_ins source count is pointer ahead few =
+singly_ins : (source : FarSource) (count : ℕ) → IsFarSource source → source.pointer < 16 → FitsSigned w32 source.ahead → count ≤ 16 → Each IsIns (singly_code source count)
+singly_ins source count is pointer ahead few =
     let list = gather_with source.far (plan_of source) count 0 1 7 in
     let bits = bits_of (far_size source.far) in
     let index : FitsSigned w32 source.index = lies_fits source.index (is.spare source.index (inl refl)) in
@@ -190,7 +191,93 @@ bring_ins source count is pointer ahead few =
     let number : Each IsIns (narrow_code bits 0 ++ Store 0 (slot source.index) ∷ []) =
     both_parts IsIns (narrow_code bits 0) (Store 0 (slot source.index) ∷ []) (either_part IsIns (bits == 0) _ _ tt ((is_0, bits_small (far_size source.far)), tt)) ((is_0, (is_4, index)), tt) in
     let enter : Each IsIns (enter_code source) = ((is_1, (is_4, work)), ((is_0, (pointer, ahead)), ((is_1, (is_4, array)), ((is_0, is_1), number)))) in
-    let back : Each IsIns (block_code source) = either_part IsIns (is_one_by_one source.far) _ _ ((is_7, (is_4, block)), tt) tt in
-    let leave : Each IsIns (leave_code source) = both_parts IsIns (block_code source) (Load 1 (slot source.work) ∷ []) back ((is_1, (is_4, work)), tt) in
+    let leave : Each IsIns (leave_code source) = ((is_7, (is_4, block)), ((is_1, (is_4, work)), tt)) in
     let middle : Each IsIns list = gather_ins (plan_of source) index array source.far (λ j l. lies_fits (scalar_at (plan_of source) j) (is.kept (scalar_at (plan_of source) j) (inr (inr (j, l, refl))))) count few in
     both_parts IsIns (enter_code source) (list ++ leave_code source) enter (both_parts IsIns list (leave_code source) middle leave)
+
+-- ---- elements side by side
+
+bytes_ins : (width x t : ℕ) (z : ℤ) → x < 16 → t < 16 → FitsSigned w32 z → Each IsIns (bytes_code width x t z)
+bytes_ins width x t z to through fit =
+    either_part IsIns (width == 1) _ _ ((through, (is_0, fit)), ((to, through), tt))
+    (either_part IsIns (width == 2) _ _ ((through, (is_0, fit)), ((to, through), tt))
+    (either_part IsIns (width == 4) _ _ ((to, (is_0, fit)), tt) (either_part IsIns (width == 8) _ _ ((to, (is_0, fit)), tt) ((to, (is_0, fit)), tt))))
+
+lower_ins : Each IsIns lower_code
+lower_ins = ((is_0, is_7), tt)
+
+module _ (source : FarSource) (is : IsFarSource source) (pointer : source.pointer < 16) (ahead : FitsSigned w32 source.ahead) where
+  block_ins : Each IsIns (Load 7 (slot source.block) ∷ [])
+  block_ins = ((is_7, (is_4, lies_fits source.block (is.kept source.block (inl refl)))), tt)
+
+  array_fits : FitsSigned w32 source.array
+  array_fits = lies_fits source.array (is.kept source.array (inr (inl refl)))
+
+  beside_ins : (bits width : ℕ) → 0 < far_scalars source.far → 32 - bits < 2 ^ 8 → Each IsIns (beside_code source bits width)
+  beside_ins bits width one small =
+      let z = pattern_at source 0 in
+      let shifted : Each IsIns (shifted_code source bits) = ((is_0, (is_4, lies_fits z (is.kept z (inr (inr (0, one, refl)))))), ((is_0, omega arith), ((is_0, small), ((is_0, pointer), tt)))) in
+      both_parts IsIns (shifted_code source bits) (bytes_code width 0 0 source.ahead) shifted (bytes_ins width 0 0 source.ahead is_0 is_0 ahead)
+
+  halve_ins : Each IsIns (halve_code source)
+  halve_ins = ((is_0, (is_4, array_fits)), ((is_7, (pointer, ahead)), ((is_7, is_0), ((is_7, omega arith), tt))))
+
+  upper_ins : Each IsIns (upper_code source)
+  upper_ins = ((is_0, (pointer, ahead)), ((is_0, is_7), tt))
+
+  odd_places_ins : (count : ℕ) → Each IsIns (odd_places_code source count)
+  odd_places_ins count =
+      let weave = Vec Punpcklbw 0 1 ∷ [] in
+      let row = bytes_code (half_count count) 1 0 (pos 0) in
+      either_part IsIns (count == 1) _ _ tt (both_parts IsIns (upper_code source) (row ++ weave) upper_ins (both_parts IsIns row weave (bytes_ins (half_count count) 1 0 (pos 0) is_1 is_0 fits_0) ((is_0, is_1), tt)))
+
+  doubled_ins : (count : ℕ) → Each IsIns (doubled_code source count)
+  doubled_ins count =
+      let last = Load 7 (slot source.block) ∷ [] in
+      let row = bytes_code (half_count count) 0 0 (pos 0) in
+      let odd = odd_places_code source count in
+      both_parts IsIns (halve_code source) (lower_code ++ (row ++ (odd ++ last))) halve_ins
+      (both_parts IsIns lower_code (row ++ (odd ++ last)) lower_ins (both_parts IsIns row (odd ++ last) (bytes_ins (half_count count) 0 0 (pos 0) is_0 is_0 fits_0) (both_parts IsIns odd last (odd_places_ins count) block_ins)))
+
+  averages_ins : (count : ℕ) → Each IsIns (averages_code count)
+  averages_ins count =
+      let row = bytes_code (half_count count) 2 7 (pos 1) in
+      let weave = Vec Pavgb 0 1 ∷ Vec Pavgb 2 1 ∷ Vec Punpcklbw 0 2 ∷ [] in
+      either_part IsIns (count == 1) _ _ ((is_0, is_1), tt) (both_parts IsIns row weave (bytes_ins (half_count count) 2 7 (pos 1) is_2 is_7 (fits 1 (omega arith))) ((is_0, is_1), ((is_2, is_1), ((is_0, is_2), tt))))
+
+  between_ins : (count : ℕ) → Each IsIns (between_code source count)
+  between_ins count =
+      let last = Load 7 (slot source.block) ∷ [] in
+      let n = half_count count in
+      let means = averages_code count ++ last in
+      let lower = bytes_code n 0 7 (pos 0) ++ means in
+      let again = Load 0 (slot source.array) ∷ lower_code in
+      let upper = bytes_code n 1 0 (pos 0) ++ (again ++ lower) in
+      both_parts IsIns (halve_code source) (upper_code source ++ upper) halve_ins
+      (both_parts IsIns (upper_code source) upper upper_ins
+      (both_parts IsIns (bytes_code n 1 0 (pos 0)) (again ++ lower) (bytes_ins n 1 0 (pos 0) is_1 is_0 fits_0)
+      (both_parts IsIns again lower ((is_0, (is_4, array_fits)), lower_ins)
+      (both_parts IsIns (bytes_code n 0 7 (pos 0)) means (bytes_ins n 0 7 (pos 0) is_0 is_7 fits_0) (both_parts IsIns (averages_code count) last (averages_ins count) block_ins)))))
+
+-- ---- the whole list, by the far load
+
+pub bring_ins : (source : FarSource) (count : ℕ) → IsFarSource source → source.pointer < 16 → FitsSigned w32 source.ahead → count ≤ 16 → Each IsIns (bring_code source count)
+bring_ins source count is pointer ahead few = go source.far refl
+  where
+    single : Each IsIns (singly_code source count)
+    single = singly_ins source count is pointer ahead few
+
+    -- an offset load has a scalar
+    one : (far : Far) → source.far ≡ far → 0 < far_scalars far → 0 < far_scalars source.far
+    one far e l = subst (λ f. 0 < far_scalars f) (sym e) l
+
+    go : (far : Far) → source.far ≡ far → Each IsIns (bring_by far source count)
+    go Loadoffb e = beside_ins source is pointer ahead 0 (count * 1) (one Loadoffb e (omega arith)) (omega arith)
+    go Loadoffw e = beside_ins source is pointer ahead 1 (count * 2) (one Loadoffw e (omega arith)) (omega arith)
+    go Loadoffl e = beside_ins source is pointer ahead 2 (count * 4) (one Loadoffl e (omega arith)) (omega arith)
+    go Loadupdb e = doubled_ins source is pointer ahead count
+    go Loadupib e = between_ins source is pointer ahead count
+    go Ldresnearb e = single
+    go Ldresnearl e = single
+    go Ldreslinb e = single
+    go Ldreslinl e = single

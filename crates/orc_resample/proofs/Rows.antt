@@ -33,14 +33,36 @@ use Rattle.orc_resample.proofs.Blocks.{Scales, Kept, kept_at, element_run, At, N
 pub record IsRow (width : ℕ) (mem : Memory) (a : ℕ) (x : List ℕ) : Type 0 where
   pub bytes : (i : ℕ) → i < width → get_or x i 0 ≡ byte mem (a + i)
 
-one_digit : (f : ℕ → ℕ) → ((j : ℕ) → f j < 256) → (i : ℕ) → i < 1 → byte_of 4 (digits 1 f) i ≡ f i
+pub one_digit : (f : ℕ → ℕ) → ((j : ℕ) → f j < 256) → (i : ℕ) → i < 1 → byte_of 4 (digits 1 f) i ≡ f i
 one_digit f h zero l = let q : (f 0 + 256 * 0) / 256 ^ 0 % 256 ≡ f 0 = omega (arith, h 0) in q
 one_digit f h (suc i) l = absurd (omega (arith, l))
 
-two_digits : (f : ℕ → ℕ) → ((j : ℕ) → f j < 256) → (i : ℕ) → i < 2 → byte_of 4 (digits 2 f) i ≡ f i
+pub two_digits : (f : ℕ → ℕ) → ((j : ℕ) → f j < 256) → (i : ℕ) → i < 2 → byte_of 4 (digits 2 f) i ≡ f i
 two_digits f h zero l = let q : (f 0 + 256 * (f 1 + 256 * 0)) / 256 ^ 0 % 256 ≡ f 0 = omega (arith, h 0) in q
 two_digits f h (suc zero) l = let q : (f 0 + 256 * (f 1 + 256 * 0)) / 256 ^ 1 % 256 ≡ f 1 = omega (arith, h 0, h 1) in q
 two_digits f h (suc (suc i)) l = absurd (omega (arith, l))
+
+-- ---- bytes of elements that stand side by side
+
+pub positive : (n bits : ℕ) → n ≡ 2 ^ bits → 0 < n
+positive n bits e = subst (λ m. 0 < m) (sym e) (pow_pos bits)
+
+pub split : (i n count : ℕ) → 0 < n → i < count * n → (i / n < count) × (i % n < n) × (i / n * n + i % n ≡ i)
+split i n count p l =
+    let d = mod-add-div i n in
+    let m = mod-lt i p in
+    let e : i / n * n + i % n ≡ i = omega (arith, d) in
+    (⊎_elim (λ h. h) (λ h. let q : count * n ≤ i / n * n = mul-le-mul_right n h in absurd (omega (arith, q, e, l))) (cases_lt (i / n) count), m, e)
+
+pub inside : (j o n count : ℕ) → j < count → o < n → j * n + o < count * n
+inside j o n count l m = let p : suc j * n ≤ count * n = mul-le-mul_right n (omega (arith, l)) in omega (arith, p, m)
+
+-- the element so many behind the first
+nth : (first j : ℕ) (z : ℤ) → pos (first + j) +ℤ z ≡ (pos first +ℤ z) +ℤ pos j
+nth first j z = grind arith
+
+pub cell_on : (far : Far) (s : Source) (j : ℕ) → cell far s.base (pos (s.first + j) +ℤ scalar s.p) ≡ (cell far s.base (pos s.first +ℤ scalar s.p) + j * far_size far) % 2 ^ 64
+cell_on far s j = ap (cell far s.base) (nth s.first j (scalar s.p)) ∙ element_on s.base (pos s.first +ℤ scalar s.p) j (far_size far)
 
 module _ (far : Far) (count : ℕ) (plan : FarPlan) (s : Source) (c : Core) (ready : Ready far count plan s c) where
   -- so many bytes from the address in the first scratch register on
@@ -106,16 +128,6 @@ module _ (far : Far) (count : ℕ) (plan : FarPlan) (s : Source) (c : Core) (rea
       (run_map (Near far count plan s c ready) (Cells far count plan s c ready) (element_code plan bits 0 1) v3 (λ d. Kept v3 d × (d.gpr 0 ≡ moved s.base (z *ℤ pos (2 ^ bits)))) P (element_run far count plan s c ready bits z v3 scales t3 is)
       (λ d k. (kept_at far count plan s c ready v3 d t3 k.0, k.1)))))
 
-  -- the element so many behind the first
-  nth : (j : ℕ) → pos (s.first + j) +ℤ scalar s.p ≡ (pos s.first +ℤ scalar s.p) +ℤ pos j
-  nth j = go (scalar s.p)
-    where
-      go : (z : ℤ) → pos (s.first + j) +ℤ z ≡ (pos s.first +ℤ z) +ℤ pos j
-      go z = grind arith
-
-  cell_on : (j : ℕ) → cell far s.base (pos (s.first + j) +ℤ scalar s.p) ≡ (cell far s.base (pos s.first +ℤ scalar s.p) + j * far_size far) % 2 ^ 64
-  cell_on j = ap (cell far s.base) (nth j) ∙ element_on s.base (pos s.first +ℤ scalar s.p) j (far_size far)
-
   pub offset_run : (bits : ℕ) (v : Core) → Scales bits → far_size far ≡ 2 ^ bits → 0 < far_scalars far → ((i : ℕ) → far_first far i s.p s.q ≡ pos i +ℤ scalar s.p) → IsWidth (count * far_size far) → At c v
       → Leads far count plan s c ready (start_code plan bits 0 1 ++ row_code (count * far_size far) 0) v
       (λ d. At c d × ((j : ℕ) → j < count → lane (far_size far) j (d.xmm 0) ≡ element far c.memory s.base (far_first far (s.first + j) s.p s.q)))
@@ -128,7 +140,7 @@ module _ (far : Far) (count : ℕ) (plan : FarPlan) (s : Source) (c : Core) (rea
       let among : (i : ℕ) → i < count * n → AmongCells far count s ((a + i) % 2 ^ 64) =
       λ i l.
       let d = split i n count (positive n bits size) l in
-      subst (AmongCells far count s) (ap (λ b. (b + i % n) % 2 ^ 64) (cell_on (i / n)) ∙ (let q : ((a + i / n * n) % 2 ^ 64 + i % n) % 2 ^ 64 ≡ (a + i) % 2 ^ 64 = omega (arith, d.2) in q)) (is_read (i / n) (i % n) d.0 d.1) in
+      subst (AmongCells far count s) (ap (λ b. (b + i % n) % 2 ^ 64) (cell_on far s (i / n)) ∙ (let q : ((a + i / n * n) % 2 ^ 64 + i % n) % 2 ^ 64 ≡ (a + i) % 2 ^ 64 = omega (arith, d.2) in q)) (is_read (i / n) (i % n) d.0 d.1) in
       let ok : Readable (count * n) a = (λ j l. ready.mapped ((a + j) % 2 ^ 64) (among j l), among) in
       run_then (Near far count plan s c ready) (Cells far count plan s c ready) (start_code plan bits 0 1) (row_code (count * n) 0) v (λ d. At c d × (d.gpr 0 ≡ moved s.base (z *ℤ pos (2 ^ bits)))) _ (start_run bits v scales one t)
       (λ d h.
@@ -141,20 +153,7 @@ module _ (far : Far) (count : ℕ) (plan : FarPlan) (s : Source) (c : Core) (rea
         λ j l.
             lane_is n j (e.xmm 0)
             ∙ digits_same n (λ o. get_or (e.xmm 0) (j * n + o) 0) (λ o. byte c.memory (cell far s.base (pos (s.first + j) +ℤ scalar s.p) + o))
-            (λ o m. g.1.bytes (j * n + o) (inside j o n count l m) ∙ ap (byte c.memory) (let q : a + (j * n + o) ≡ a + j * n + o = omega arith in q) ∙ sym (byte_at c.memory (a + j * n) o) ∙ ap (λ b. byte c.memory (b + o)) (sym (cell_on j)))
+            (λ o m. g.1.bytes (j * n + o) (inside j o n count l m) ∙ ap (byte c.memory) (let q : a + (j * n + o) ≡ a + j * n + o = omega arith in q) ∙ sym (byte_at c.memory (a + j * n) o) ∙ ap (λ b. byte c.memory (b + o)) (sym (cell_on far s j)))
             ∙ sym (element_digits far count plan s c ready (pos (s.first + j) +ℤ scalar s.p) (λ x i. (j, l, (pos (s.first + j) +ℤ scalar s.p, inl (sym (firsts (s.first + j))), i))))
             ∙ ap (element far c.memory s.base) (sym (firsts (s.first + j))),
       )))
-    where
-      positive : (n bits : ℕ) → n ≡ 2 ^ bits → 0 < n
-      positive n bits e = subst (λ m. 0 < m) (sym e) (pow_pos bits)
-
-      split : (i n count : ℕ) → 0 < n → i < count * n → (i / n < count) × (i % n < n) × (i / n * n + i % n ≡ i)
-      split i n count p l =
-          let d = mod-add-div i n in
-          let m = mod-lt i p in
-          let e : i / n * n + i % n ≡ i = omega (arith, d) in
-          (⊎_elim (λ h. h) (λ h. let q : count * n ≤ i / n * n = mul-le-mul_right n h in absurd (omega (arith, q, e, l))) (cases_lt (i / n) count), m, e)
-
-      inside : (j o n count : ℕ) → j < count → o < n → j * n + o < count * n
-      inside j o n count l m = let p : suc j * n ≤ count * n = mul-le-mul_right n (omega (arith, l)) in omega (arith, p, m)

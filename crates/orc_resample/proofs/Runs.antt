@@ -3,6 +3,7 @@ use Rattle.std.proofs.Common.{◌≡◌, ℕ, ◌+◌, ◌%◌, ◌^◌, ◌<◌
 use Rattle.orc_bits.specs.Lanes.{from_bytes}
 use Rattle.orc_bits.specs.Memory.{word, value, read}
 use Rattle.x86_ins.specs.declared.ins.MoveOp.{MoveOp}
+use Rattle.x86_ins.specs.declared.ins.Addr.{Addr}
 use Rattle.x86_ins.specs.declared.ins.Ins.{Ins}
 use Rattle.x86_ins.specs.declared.ins.Ins.TheVariants.{Vec, VecImm, VecLoad, FromGpr, ToGpr, Move, Load, Load8, Load16, Alu, AluImm, Shift, Imul, Lea, Shuffle, VecStore, Store, Store8, Store16, MovImm, Test, Push, Pop, Jump, JumpIf, Ret}
 use Rattle.x86_ins.specs.declared.state.Trap.{Trap}
@@ -100,7 +101,7 @@ module _ (Near Far : ℕ → Type 0) where
   calm_looks (JumpIf q rel) h v x t = absurd (true≢false (sym h))
   calm_looks Ret h v x t = absurd (true≢false (sym h))
 
-  touched : (i : Ins) (n a : ℕ) (v : Core) → span i v ≡ (a, n) → ((j : ℕ) → j < n → Far ((a + j) % 2 ^ 64)) → (y : ℕ) → Touches i v y → Far y
+  pub touched : (i : Ins) (n a : ℕ) (v : Core) → span i v ≡ (a, n) → ((j : ℕ) → j < n → Far ((a + j) % 2 ^ 64)) → (y : ℕ) → Touches i v y → Far y
   touched i n a v s far y (j, l, p) = subst Far (sym (p ∙ ap (λ z. (z.0 + j) % 2 ^ 64) s)) (far j (subst (λ k. j < k) (ap (λ z. z.1) s) l))
 
   calm_line : (is : List Ins) → all_calm is ≡ true → (v : Core) → Line (Looks Near Far) is v (after is v)
@@ -144,7 +145,7 @@ module _ (Near Far : ℕ → Type 0) where
   )
 
   -- bytes by another register as a number, and what follows
-  load_then : (i : Ins) (n r a : ℕ) (js : List Ins) (v : Core) (x : ℕ) (P : Core → Type 0) → touch_weight is_pointer i ≡ 1 → span i v ≡ (a, n) → work i v ≡ access n v.memory a (value n v.memory a) (λ w. with_gpr v r w)
+  pub load_then : (i : Ins) (n r a : ℕ) (js : List Ins) (v : Core) (x : ℕ) (P : Core → Type 0) → touch_weight is_pointer i ≡ 1 → span i v ≡ (a, n) → work i v ≡ access n v.memory a (value n v.memory a) (λ w. with_gpr v r w)
       → value n v.memory a ≡ Some x → ((j : ℕ) → j < n → Far ((a + j) % 2 ^ 64)) → Run js (with_gpr v r x) P → Run (i ∷ js) v P
   load_then i n r a js v x P by s w e far k = (
     k.0,
@@ -167,6 +168,20 @@ module _ (Near Far : ℕ → Type 0) where
         k.0,
         (
           λ y t. inr (ap (λ z. if z then 1 else 0) by, touched (VecLoad op r (away b d)) (move_size op) a v refl far y t),
+          (w, free a _ ∙ ap (λ o. access (move_size op) v.memory a o (λ bs. with_xmm v r (from_bytes (λ j. get_or bs j 0)))) e, k.1),
+        ),
+        k.2,
+      )
+
+  -- the same from any address
+  pub far_vector_then : (op : MoveOp) → ((x : ℕ) (o : Result Core Trap) → aligned op x o ≡ o) → (r : ℕ) (at : Addr) (js : List Ins) (v : Core) (bs : List ℕ) (P : Core → Type 0) → is_pointer at.base ≡ true → read (move_size op) v.memory (address v at) ≡ Some bs → ((j : ℕ) → j < move_size op → Far ((address v at + j) % 2 ^ 64))
+      → Run js (with_xmm v r (from_bytes (λ j. get_or bs j 0))) P → Run (VecLoad op r at ∷ js) v P
+  far_vector_then op free r at js v bs P by e far k =
+      let a = address v at in
+      let w : Core = with_xmm v r (from_bytes (λ j. get_or bs j 0)) in (
+        k.0,
+        (
+          λ y t. inr (ap (λ z. if z then 1 else 0) by, touched (VecLoad op r at) (move_size op) a v refl far y t),
           (w, free a _ ∙ ap (λ o. access (move_size op) v.memory a o (λ bs. with_xmm v r (from_bytes (λ j. get_or bs j 0)))) e, k.1),
         ),
         k.2,

@@ -35,13 +35,14 @@ abbrev pub AreApart : ℤ → ℤ → Type 0
 AreApart (pos a) (pos b) = (a + 8 ≤ b) ⊎ (b + 8 ≤ a)
 AreApart _ _ = ⊥
 
--- each scalar has its pattern, all words lie in the frame, and those that are written overlap no other
+-- each scalar has its pattern, all words lie in the frame, those that are written overlap no other, and the address is in neither RAX nor RDI
 pub record IsFarSource (source : FarSource) : Type 0 where
   pub scalars : length source.scalars.items ≡ far_scalars source.far
   pub kept : (z : ℤ) → IsKept source z → LiesIn z
   pub spare : (z : ℤ) → IsSpare source z → LiesIn z
   pub apart : (y z : ℤ) → IsSpare source y → IsKept source z → AreApart y z
   pub two : AreApart source.index source.work
+  pub pointer : (source.pointer ≢ 0) × (source.pointer ≢ 7)
 
 -- ---- states
 

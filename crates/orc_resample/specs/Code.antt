@@ -1,7 +1,7 @@
 -- The code that gathers a far load's values: the compiler's plan.
-use Rattle.std.specs.Prelude.{ℕ, zero, suc, ◌+◌, ◌-◌, ◌*◌, ◌==◌, ℤ, pos, Bool, true, false, List, [], ◌∷◌, ◌++◌, get_or, None, if◌then◌else◌}
+use Rattle.std.specs.Prelude.{ℕ, zero, suc, ◌+◌, ◌-◌, ◌*◌, ◌/◌, ◌==◌, ℤ, pos, Bool, true, false, List, [], ◌∷◌, ◌++◌, get_or, None, if◌then◌else◌}
 use Rattle.x86_ins.specs.declared.ins.Addr.{Addr}
-use Rattle.x86_ins.specs.declared.ins.VecOp.TheVariants.{Punpcklbw, Packuswb, Por, Pxor}
+use Rattle.x86_ins.specs.declared.ins.VecOp.TheVariants.{Punpcklbw, Packuswb, Pavgb, Por, Pxor}
 use Rattle.x86_ins.specs.declared.ins.VecImmOp.TheVariants.{Pslldq, Psrlw}
 use Rattle.x86_ins.specs.declared.ins.MoveOp.TheVariants.{Movd, Movq, Movdqu}
 use Rattle.x86_ins.specs.declared.ins.AluOp.TheVariants.{Add, Sub, And}
@@ -183,12 +183,75 @@ number_code source = narrow_code (bits_of (far_size source.far)) 0 ++ Store 0 (s
 abbrev pub enter_code : FarSource → List Ins
 enter_code source = distance_code source ++ number_code source
 
--- RDI, which elements side by side don't use, and RCX are as before
-abbrev pub block_code : FarSource → List Ins
-block_code source = if is_one_by_one source.far then Load 7 (slot source.block) ∷ [] else []
-
+-- RDI and RCX are as before
 abbrev pub leave_code : FarSource → List Ins
-leave_code source = block_code source ++ Load 1 (slot source.work) ∷ []
+leave_code source = Load 7 (slot source.block) ∷ Load 1 (slot source.work) ∷ []
+
+-- element by element
+abbrev pub singly_code : FarSource → ℕ → List Ins
+singly_code source count = enter_code source ++ (gather_with source.far (plan_of source) count 0 1 7 ++ leave_code source)
+
+-- ---- inside a turn, elements side by side: RAX holds their address
+
+-- the first element's address, if elements were not doubled
+abbrev pub front : FarSource → Addr
+front source = record { base = source.pointer; disp = source.ahead }
+
+-- so many bytes from z bytes behind RAX on become the low bytes of register x; 1 and 2 bytes go through register t
+abbrev pub bytes_code : ℕ → ℕ → ℕ → ℤ → List Ins
+bytes_code width x t z =
+    if width == 1 then Load8 t (record { base = 0; disp = z }) ∷ FromGpr false x t ∷ []
+    else if width == 2 then Load16 t (record { base = 0; disp = z }) ∷ FromGpr false x t ∷ []
+    else if width == 4 then VecLoad Movd x (record { base = 0; disp = z }) ∷ []
+    else if width == 8 then VecLoad Movq x (record { base = 0; disp = z }) ∷ []
+    else VecLoad Movdqu x (record { base = 0; disp = z }) ∷ []
+
+-- RAX becomes the pointer plus the offset in bytes, of elements of 2 ^ bits bytes
+abbrev pub shifted_code : FarSource → ℕ → List Ins
+shifted_code source bits = Load 0 (slot (get_or source.scalars.items 0 (pos 0))) ∷ Shift Shl 0 32 ∷ Shift Sar 0 (32 - bits) ∷ Alu Add 0 source.pointer ∷ []
+
+abbrev pub beside_code : FarSource → ℕ → ℕ → List Ins
+beside_code source bits width = shifted_code source bits ++ bytes_code width 0 0 source.ahead
+
+-- RDI becomes half of the first element's number, rounded down, and RAX the address of element 0
+abbrev pub halve_code : FarSource → List Ins
+halve_code source = Load 0 (slot source.array) ∷ Lea 7 (front source) ∷ Alu Sub 7 0 ∷ Shift Shr 7 1 ∷ []
+
+-- RAX becomes the address of the element at half the number, rounded down or up
+abbrev pub lower_code : List Ins
+lower_code = Alu Add 0 7 ∷ []
+
+abbrev pub upper_code : FarSource → List Ins
+upper_code source = Lea 0 (front source) ∷ Alu Sub 0 7 ∷ []
+
+-- how many of the elements have an even place, or the one that there is
+abbrev pub half_count : ℕ → ℕ
+half_count count = if count == 1 then 1 else count / 2
+
+-- the elements that have even places go to XMM0, those that have odd places to XMM1, and both are interleaved
+abbrev pub odd_places_code : FarSource → ℕ → List Ins
+odd_places_code source count = if count == 1 then [] else upper_code source ++ (bytes_code (half_count count) 1 0 (pos 0) ++ Vec Punpcklbw 0 1 ∷ [])
+
+abbrev pub doubled_code : FarSource → ℕ → List Ins
+doubled_code source count = halve_code source ++ (lower_code ++ (bytes_code (half_count count) 0 0 (pos 0) ++ (odd_places_code source count ++ Load 7 (slot source.block) ∷ [])))
+
+-- the same of averages: the elements between, in XMM1, go with those below, in XMM0, and with those behind, in XMM2
+abbrev pub averages_code : ℕ → List Ins
+averages_code count = if count == 1 then Vec Pavgb 0 1 ∷ [] else bytes_code (half_count count) 2 7 (pos 1) ++ Vec Pavgb 0 1 ∷ Vec Pavgb 2 1 ∷ Vec Punpcklbw 0 2 ∷ []
+
+abbrev pub between_code : FarSource → ℕ → List Ins
+between_code source count =
+    halve_code source ++ (upper_code source ++ (bytes_code (half_count count) 1 0 (pos 0) ++ ((Load 0 (slot source.array) ∷ lower_code) ++ (bytes_code (half_count count) 0 7 (pos 0) ++ (averages_code count ++ Load 7 (slot source.block) ∷ [])))))
+
+-- ---- the list inside a turn
+
+abbrev pub bring_by : Far → FarSource → ℕ → List Ins
+bring_by Loadoffb source count = beside_code source 0 (count * 1)
+bring_by Loadoffw source count = beside_code source 1 (count * 2)
+bring_by Loadoffl source count = beside_code source 2 (count * 4)
+bring_by Loadupdb source count = doubled_code source count
+bring_by Loadupib source count = between_code source count
+bring_by _ source count = singly_code source count
 
 abbrev pub bring_code : FarSource → ℕ → List Ins
-bring_code source count = enter_code source ++ (gather_with source.far (plan_of source) count 0 1 7 ++ leave_code source)
+bring_code source count = bring_by source.far source count

@@ -2,6 +2,7 @@
 #![tactic(auto)]
 
 mod assembly;
+mod beside;
 mod pieces;
 mod plan;
 mod turn;

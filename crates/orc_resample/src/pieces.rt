@@ -42,7 +42,7 @@ pub fn alu(op: AluOp, dst: Gpr, src: Gpr) -> Ins
 }
 
 /// `op dst, count`.
-fn shift(op: ShiftOp, dst: Gpr, count: u8) -> Ins
+pub fn shift(op: ShiftOp, dst: Gpr, count: u8) -> Ins
     ensures { result ≡ ins.Shift op dst count }
 {
     Ins::Shift { op, dst, count }
@@ -242,7 +242,7 @@ fn load_long(dst: Xmm, base: Gpr, by: usize) -> Ins
 }
 
 /// `op dst, src`, of vector registers.
-fn vector(op: VecOp, dst: Xmm, src: Xmm) -> Ins
+pub fn vector(op: VecOp, dst: Xmm, src: Xmm) -> Ins
     ensures { result ≡ ins.Vec op dst src }
 {
     Ins::Vec { op, dst, src }

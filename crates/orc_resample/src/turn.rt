@@ -6,10 +6,11 @@ ghost use Rattle.x86_ins.specs.Spelling.{IsIns, IsAllowed};
 ghost use Rattle.x86_ins.specs.Way.{Each};
 ghost use Rattle.x86_flow.specs.Moves.{IsWidth};
 ghost use Rattle.orc_ops.specs.Far.{far_size, far_scalars, far_weight};
-ghost use Rattle.orc_resample.specs.Code.{slot, plan_of, distance_code, number_code, enter_code, block_code, leave_code, bring_code};
+ghost use Rattle.orc_resample.specs.Code.{slot, plan_of, distance_code, number_code, enter_code, leave_code, singly_code, bring_code};
 ghost use Rattle.orc_resample.specs.Bring.{IsFarSource, Brings, array_count};
 
-use crate::assembly::{is_single, push_values};
+use crate::assembly::push_values;
+use crate::beside::{push_beside, push_between, push_doubled};
 use crate::pieces::{alu, bits_of, load, look_through, push_each, push_narrow, slot};
 use crate::plan::FarPlan;
 use arrayvec::ArrayVec;
@@ -124,29 +125,45 @@ fn push_enter(list: &mut InsList, source: &FarSource) -> Result<(), AllocError>
     push_number(list, source)
 }
 
-/// Adds what loads RDI again, where the values' part used it.
-#[tactic(auto, using(crate::proofs::Appends::unscaled))]
-fn push_block(list: &mut InsList, source: &FarSource) -> Result<(), AllocError>
-    ensures { OnOk result (list.new ≡ list.old ++ block_code source.now) }
-{
-    if is_single(source.far) {
-        list.push(load(BLOCK, source.block))
-    } else {
-        Ok(())
-    }
-}
-
 /// Adds what loads RDI and RCX again.
-#[tactic(auto, using(crate::proofs::Appends::extended))]
 fn push_leave(list: &mut InsList, source: &FarSource) -> Result<(), AllocError>
     ensures { OnOk result (list.new ≡ list.old ++ leave_code source.now) }
 {
-    push_block(list, source)?;
-    push_each(list, &[load(COUNTER, source.work)])
+    push_each(
+        list,
+        &[load(BLOCK, source.block), load(COUNTER, source.work)],
+    )
 }
 
-/// Adds the whole code.
+/// Adds the code that goes element by element.
 #[tactic(auto, using(crate::proofs::Appends::extended_3))]
+fn push_singly(
+    list: &mut InsList,
+    source: &FarSource,
+    plan: &FarPlan,
+    count: u8,
+) -> Result<(), AllocError>
+    requires plan { plan.now ≡ plan_of source.now }
+    requires scalars { length source.now.scalars.items ≡ far_scalars source.now.far }
+    requires few { count ≤ 16 }
+    requires room { count * far_size source.now.far ≤ 16 }
+    requires width { IsWidth (count * far_size source.now.far) }
+    ensures { OnOk result (list.new ≡ list.old ++ singly_code source.now count) }
+{
+    push_enter(list, source)?;
+    push_values(
+        list,
+        plan,
+        source.far,
+        usize::from(count),
+        RESULT,
+        COUNTER,
+        BLOCK,
+    )?;
+    push_leave(list, source)
+}
+
+/// Adds the code of any far load.
 fn push_bring(
     list: &mut InsList,
     source: &FarSource,
@@ -160,17 +177,15 @@ fn push_bring(
     requires width { IsWidth (count * far_size source.now.far) }
     ensures { OnOk result (list.new ≡ list.old ++ bring_code source.now count) }
 {
-    push_enter(list, source)?;
-    push_values(
-        list,
-        plan,
-        source.far,
-        usize::from(count),
-        RESULT,
-        COUNTER,
-        BLOCK,
-    )?;
-    push_leave(list, source)
+    let number = usize::from(count);
+    match source.far {
+        Far::Loadoffb => push_beside(list, source, 0, number),
+        Far::Loadoffw => push_beside(list, source, 1, number * 2),
+        Far::Loadoffl => push_beside(list, source, 2, number * 4),
+        Far::Loadupdb => push_doubled(list, source, number),
+        Far::Loadupib => push_between(list, source, number),
+        _ => push_singly(list, source, plan, count),
+    }
 }
 
 /// The list inside a turn.

@@ -12,6 +12,7 @@ use Rattle.orc_resample.specs.Bring.{IsKept, LiesIn, AreApart, IsFarSource, Brin
 use Rattle.orc_resample.specs.Code.{bring_code}
 use Rattle.orc_resample.proofs.Brought.{brings}
 use Rattle.orc_region.specs.Code.{far_source}
+use Rattle.orc_region.proofs.Block.Registers.{not_0, not_7}
 
 -- the pattern of a scalar has its slot
 pub scalar_slot : (js : List ℕ) → Each (λ j. j < 48) js → (j : ℕ) → j < length js → (k : ℕ) × (k < 48) × (get_or (map (λ j. pos (pattern_slot j)) js) j (pos 0) ≡ pos (pattern_slot k))
@@ -44,6 +45,7 @@ module _ (ahead : ℕ) (load : Far) (array : ℕ) (js : List ℕ) (few : array <
         ⊎_elim (λ e. subst (λ (a : ℤ). AreApart a z) (sym e) (subst (λ (b : ℤ). AreApart (pos index_slot) b) (sym x.2) (inr l)))
         (λ e. subst (λ (a : ℤ). AreApart a z) (sym e) (subst (λ (b : ℤ). AreApart (pos work_slot) b) (sym x.2) (inr (omega (arith, l))))) s;
     two = inl (omega arith);
+    pointer = (not_0 array, not_7 array);
   }
 
   -- so its code leads from every state with all at hand to the values

@@ -1,5 +1,6 @@
 -- The steps of actions: two instructions for each array that is read or written and for each sum of the frame, the instructions that bring a far load's values, one for each other source and for a result that goes to a spill slot, none for one that goes to a register of its own, and a rule.
-use Rattle.std.proofs.Common.{ℕ, ◌+◌, ◌*◌, List, [], ◌∷◌, length}
+use Rattle.std.proofs.Common.{ℕ, ◌+◌, List, [], ◌∷◌, length}
+use Rattle.std.specs.Prelude.{min}
 use Rattle.orc_ops.specs.declared.far.Far.{Far}
 use Rattle.orc_ops.specs.declared.far.Far.TheVariants.{Loadupdb, Loadupib}
 use Rattle.orc_ops.specs.Far.{far_weight}
@@ -7,8 +8,8 @@ use Rattle.orc_region.specs.Code.{Action, Source, FromArray, FromPattern, FromRe
 
 -- how many instructions at most bring a far load's values for so many elements to their register
 abbrev pub far_length : Far → ℕ → ℕ
-far_length Loadupdb n = 9 + 9 * n
-far_length Loadupib n = 9 + 19 * n
+far_length Loadupdb n = 18
+far_length Loadupib n = 18 + min n 1
 far_length load n = far_weight load n + 2
 
 -- where so many elements are done at once

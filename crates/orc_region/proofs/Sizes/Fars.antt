@@ -1,5 +1,5 @@
 -- The code that brings a far load's values: its instructions are allowed and few, and those that go by other registers than RSP and RDI are at most two for each element.
-use Rattle.std.proofs.Common.{◌≡◌, ℕ, zero, suc, ◌+◌, ◌-◌, ◌*◌, ◌^◌, ◌<◌, ◌≤◌, ◌==◌, ◌||◌, not, Bool, true, false, if◌then◌else◌, List, [], ◌∷◌, ◌++◌, length, Option, None, Some, true≢false, refl, sym, ap, ◌∙◌, arith, length-append}
+use Rattle.std.proofs.Common.{◌≡◌, ℕ, zero, suc, ◌+◌, ◌-◌, ◌*◌, ◌^◌, ◌<◌, ◌≤◌, ◌==◌, ◌||◌, not, Bool, true, false, if◌then◌else◌, List, [], ◌∷◌, ◌++◌, length, Option, None, Some, true≢false, refl, sym, ap, ◌∙◌, subst, arith, length-append}
 use Rattle.std.proofs.lemmas.Bool.{eqb-true}
 use Rattle.x86_ins.specs.declared.ins.Ins.{Ins}
 use Rattle.x86_ins.specs.declared.ins.Ins.TheVariants.{Vec}
@@ -7,6 +7,7 @@ use Rattle.x86_ins.specs.declared.ins.VecOp.TheVariants.{Movdqa}
 use Rattle.x86_ins.specs.Way.{Each}
 use Rattle.x86_flow.specs.Moves.{IsWidth}
 use Rattle.x86_flow.specs.Touching.{weight_by, touch_weight, base_of}
+use Rattle.x86_flow.proofs.Moves.{each_width}
 use Rattle.x86_flow.proofs.Plans.{weigh, weigh_append}
 use Rattle.x86_flow.proofs.Spelled.{IsFine, fits_up, fine_vec}
 use Rattle.orc_ops.specs.declared.far.Far.{Far}
@@ -14,7 +15,7 @@ use Rattle.orc_ops.specs.declared.far.Far.TheVariants.{Loadoffb, Loadoffw, Loado
 use Rattle.orc_ops.specs.Far.{far_size, far_scalars, far_weight}
 use Rattle.orc_resample.specs.declared.plan.FarPlan.{FarPlan}
 use Rattle.orc_resample.specs.declared.turn.FarSource.{FarSource}
-use Rattle.orc_resample.specs.Code.{element_of, elements_code, gather_with, plan_of, enter_code, leave_code, bring_code}
+use Rattle.orc_resample.specs.Code.{element_of, elements_code, gather_with, plan_of, enter_code, leave_code, singly_code, doubled_code, between_code, bring_code}
 use Rattle.orc_resample.specs.Bring.{is_array, array_count}
 use Rattle.orc_resample.proofs.Touched.{bring_touches, bring_short, bring_allowed}
 use Rattle.orc_resample.proofs.Ranges.{bring_ins}
@@ -56,6 +57,19 @@ elements_long far plan m each count (suc n) =
     let r : n * m + m ≡ suc n * m = grind arith in
     length-append (elements_code far plan count 0 1 7 n) (element_of far plan (count - 1 - n) 0 1 7) ∙ ap (λ l. l + length (element_of far plan (count - 1 - n) 0 1 7)) (elements_long far plan m each count n) ∙ ap (λ l. n * m + l) (each (count - 1 - n)) ∙ r
 
+-- the instructions for elements that are doubled, however many
+doubled_few : (source : FarSource) (count : ℕ) → IsWidth count → length (doubled_code source count) ≤ 17
+doubled_few source count is = each_width (λ n. length (doubled_code source n) ≤ 17) (omega arith) (omega arith) (omega arith) (omega arith) (omega arith) count is
+
+between_few : (source : FarSource) (count : ℕ) → IsWidth count → length (between_code source count) ≤ 18
+between_few source count is = each_width (λ n. length (between_code source n) ≤ 18) (omega arith) (omega arith) (omega arith) (omega arith) (omega arith) count is
+
+count_of : (count : ℕ) → IsWidth (count * 1) → IsWidth count
+count_of count is = subst IsWidth (let q : count * 1 ≡ count = omega arith in q) is
+
+some_width : (width : ℕ) → IsWidth width → 1 ≤ width
+some_width width is = each_width (λ w. 1 ≤ w) (omega arith) (omega arith) (omega arith) (omega arith) (omega arith) width is
+
 module _ (ahead array : ℕ) (js : List ℕ) (count : ℕ) where
   abbrev of_load : Far → FarSource
   of_load load = far_source ahead load array js
@@ -63,7 +77,7 @@ module _ (ahead array : ℕ) (js : List ℕ) (count : ℕ) where
   abbrev values : Far → List Ins
   values load = gather_with load (plan_of (of_load load)) count 0 1 7
 
-  in_parts : (load : Far) → length (bring_code (of_load load) count) ≡ length (enter_code (of_load load)) + (length (values load) + length (leave_code (of_load load)))
+  in_parts : (load : Far) → length (singly_code (of_load load) count) ≡ length (enter_code (of_load load)) + (length (values load) + length (leave_code (of_load load)))
   in_parts load = length-append (enter_code (of_load load)) (values load ++ leave_code (of_load load)) ∙ ap (λ n. length (enter_code (of_load load)) + n) (length-append (values load) (leave_code (of_load load)))
 
   one_by_one : (load : Far) (m : ℕ) → ((k : ℕ) → length (element_of load (plan_of (of_load load)) k 0 1 7) ≡ m) → length (elements_code load (plan_of (of_load load)) count 0 1 7 count) ≡ count * m
@@ -76,8 +90,8 @@ module _ (ahead array : ℕ) (js : List ℕ) (count : ℕ) where
       short Loadoffb w = omega (arith, bring_short (of_load Loadoffb) count w)
       short Loadoffw w = omega (arith, bring_short (of_load Loadoffw) count w)
       short Loadoffl w = omega (arith, bring_short (of_load Loadoffl) count w)
-      short Loadupdb w = (let n = one_by_one Loadupdb 9 (λ k. refl) in omega (arith, in_parts Loadupdb, n))
-      short Loadupib w = (let n = one_by_one Loadupib 19 (λ k. refl) in omega (arith, in_parts Loadupib, n))
+      short Loadupdb w = omega (arith, doubled_few (of_load Loadupdb) count (count_of count w))
+      short Loadupib w = omega (arith, between_few (of_load Loadupib) count (count_of count w), some_width count (count_of count w))
       short Ldresnearb w = omega (arith, bring_short (of_load Ldresnearb) count w)
       short Ldresnearl w = omega (arith, bring_short (of_load Ldresnearl) count w)
       short Ldreslinb w = omega (arith, bring_short (of_load Ldreslinb) count w)
@@ -88,8 +102,8 @@ module _ (ahead array : ℕ) (js : List ℕ) (count : ℕ) where
   far_light Loadoffb l = omega arith
   far_light Loadoffw l = omega arith
   far_light Loadoffl l = omega arith
-  far_light Loadupdb l = (let n = one_by_one Loadupdb 9 (λ k. refl) in omega (arith, in_parts Loadupdb, n, l))
-  far_light Loadupib l = (let n = one_by_one Loadupib 19 (λ k. refl) in omega (arith, in_parts Loadupib, n, l))
+  far_light Loadupdb l = omega arith
+  far_light Loadupib l = omega arith
   far_light Ldresnearb l = (let n = one_by_one Ldresnearb 17 (λ k. refl) in omega (arith, in_parts Ldresnearb, n, l))
   far_light Ldresnearl l = (let n = one_by_one Ldresnearl 17 (λ k. refl) in omega (arith, in_parts Ldresnearl, n, l))
   far_light Ldreslinb l = (let n = one_by_one Ldreslinb 26 (λ k. refl) in omega (arith, in_parts Ldreslinb, n, l))

@@ -1,11 +1,12 @@
 -- Blocks and turns have instructions of their target alone: those of the rules are the target's, and all others are of SSE2.
-use Rattle.std.proofs.Common.{ℕ, zero, suc, ◌+◌, ◌-◌, ◌*◌, ◌==◌, Bool, true, false, if◌then◌else◌, pos, List, [], ◌∷◌, ◌++◌, map, refl, sym, subst}
+use Rattle.std.proofs.Common.{ℕ, zero, suc, ◌+◌, ◌-◌, ◌*◌, ◌==◌, Bool, true, false, if◌then◌else◌, ℤ, pos, List, [], ◌∷◌, ◌++◌, map, refl, sym, subst}
+use Rattle.x86_ins.specs.declared.ins.Addr.{Addr}
 use Rattle.x86_ins.specs.declared.ins.AluOp.TheVariants.{Add, Sub}
 use Rattle.x86_ins.specs.declared.ins.ShiftOp.TheVariants.{Shr}
 use Rattle.x86_ins.specs.declared.ins.Ins.{Ins}
 use Rattle.x86_ins.specs.declared.ins.Ins.TheVariants.{Vec, VecLoad, VecStore, FromGpr, ToGpr, Load, Store, Load8, Load16, Store8, Store16, Shift, AluImm}
 use Rattle.x86_ins.specs.declared.ins.MoveOp.TheVariants.{Movdqu, Movq, Movd}
-use Rattle.x86_ins.specs.declared.ins.VecOp.TheVariants.{Movdqa}
+use Rattle.x86_ins.specs.declared.ins.VecOp.TheVariants.{Movdqa, Punpcklbw, Pavgb}
 use Rattle.x86_ins.specs.Renaming.{renamed, renaming}
 use Rattle.x86_ins.specs.Way.{Each}
 use Rattle.x86_flow.specs.Moves.{away, load_far_code, store_far_code, aligned_store_far_code}
@@ -14,7 +15,7 @@ use Rattle.orc_ops.specs.declared.far.Far.TheVariants.{Loadoffb, Loadoffw, Loado
 use Rattle.orc_ops.specs.Far.{far_size}
 use Rattle.orc_resample.specs.declared.plan.FarPlan.{FarPlan}
 use Rattle.orc_resample.specs.declared.turn.FarSource.{FarSource}
-use Rattle.orc_resample.specs.Code.{slot, bits_of, narrow_code, is_one_by_one, plan_of, row_code, start_code, element_of, elements_code, gather_with, distance_code, enter_code, block_code, leave_code, bring_code}
+use Rattle.orc_resample.specs.Code.{slot, bits_of, narrow_code, plan_of, row_code, start_code, element_of, elements_code, gather_with, distance_code, enter_code, leave_code, singly_code, bytes_code, shifted_code, beside_code, halve_code, lower_code, upper_code, half_count, odd_places_code, doubled_code, averages_code, between_code, bring_by, bring_code}
 use Rattle.orc_ops.specs.declared.target.Target.{Target as CodeTarget}
 use Rattle.orc_plan.specs.declared.steps.Step.{Step}
 use Rattle.orc_plan.specs.Lowered.{steps_of}
@@ -25,6 +26,10 @@ use Rattle.orc_frame.specs.Layout.{sum_slot}
 use Rattle.sse_laws.specs.Targets.{IsCodeFor}
 use Rattle.sse_laws.proofs.Targeted.{behind_for, either_for, renamed_for}
 use Rattle.orc_region.specs.Code.{Action, Source, FromArray, FromPattern, FromResident, FromPlace, FromSlot, FromFar, Target, ToArray, ToSum, ToResident, ToPlace, ToSlot, AreActions, AreBlocks, IsBlocksTurn, IsBlock, IsTurnOf, pointer, far_by, far_source, from_zero_code, aligned_first, first_register, second_register, rule_register, rule_code, source_far_code, brought, sources_far_code, sum_code, result_far_code, results_far_code, own_names, spares_second, action_names, action_far_code, named_code, actions_far_code, advance_code, Seats, seats_of, last_place, is_resident, resident_register, resident_code, residents_code, cleared, loaded, resident_loads_code, sum_store_code, sum_stores_code}
+
+-- so far behind the address in RAX
+abbrev from_rax : ℤ → Addr
+from_rax z = record { base = 0; disp = z }
 
 module _ (t : CodeTarget) where
   -- ---- one action
@@ -97,12 +102,66 @@ module _ (t : CodeTarget) where
       behind_for t (distance_code source) (narrow ++ last) refl (behind_for t narrow last (narrow_for (bits_of (far_size source.far)) 0) refl)
 
   leave_for : (source : FarSource) → IsCodeFor t (leave_code source)
-  leave_for source = behind_for t (block_code source) (Load 1 (slot source.work) ∷ []) (either_for t (is_one_by_one source.far) (Load 7 (slot source.block) ∷ []) [] refl refl) refl
+  leave_for source = refl
 
-  bring_for : (source : FarSource) (count : ℕ) → IsCodeFor t (bring_code source count)
-  bring_for source count =
+  singly_for : (source : FarSource) (count : ℕ) → IsCodeFor t (singly_code source count)
+  singly_for source count =
       behind_for t (enter_code source) (gather_with source.far (plan_of source) count 0 1 7 ++ leave_code source) (enter_for source)
       (behind_for t (gather_with source.far (plan_of source) count 0 1 7) (leave_code source) (gather_for source.far (plan_of source) count) (leave_for source))
+
+  bytes_for : (width x r : ℕ) (z : ℤ) → IsCodeFor t (bytes_code width x r z)
+  bytes_for width x r z = go (width == 1) (width == 2) (width == 4) (width == 8)
+    where
+      go : (one two four eight : Bool) → IsCodeFor t (if one then Load8 r (from_rax z) ∷ FromGpr false x r ∷ [] else if two then Load16 r (from_rax z) ∷ FromGpr false x r ∷ [] else if four then VecLoad Movd x (from_rax z) ∷ [] else if eight then VecLoad Movq x (from_rax z) ∷ [] else VecLoad Movdqu x (from_rax z) ∷ [])
+      go true two four eight = refl
+      go false true four eight = refl
+      go false false true eight = refl
+      go false false false true = refl
+      go false false false false = refl
+
+  beside_for : (source : FarSource) (bits width : ℕ) → IsCodeFor t (beside_code source bits width)
+  beside_for source bits width = behind_for t (shifted_code source bits) (bytes_code width 0 0 source.ahead) refl (bytes_for width 0 0 source.ahead)
+
+  doubled_for : (source : FarSource) (count : ℕ) → IsCodeFor t (doubled_code source count)
+  doubled_for source count =
+      let last = Load 7 (slot source.block) ∷ [] in
+      let even = bytes_code (half_count count) 0 0 (pos 0) in
+      let odd = bytes_code (half_count count) 1 0 (pos 0) in
+      let weave = Vec Punpcklbw 0 1 ∷ [] in
+      let places = odd_places_code source count in
+      let more : IsCodeFor t places = either_for t (count == 1) [] (upper_code source ++ (odd ++ weave)) refl (behind_for t (upper_code source) (odd ++ weave) refl (behind_for t odd weave (bytes_for (half_count count) 1 0 (pos 0)) refl)) in
+      behind_for t (halve_code source) (lower_code ++ (even ++ (places ++ last))) refl
+      (behind_for t lower_code (even ++ (places ++ last)) refl (behind_for t even (places ++ last) (bytes_for (half_count count) 0 0 (pos 0)) (behind_for t places last more refl)))
+
+  between_for : (source : FarSource) (count : ℕ) → IsCodeFor t (between_code source count)
+  between_for source count =
+      let n = half_count count in
+      let last = Load 7 (slot source.block) ∷ [] in
+      let behind = bytes_code n 2 7 (pos 1) in
+      let weave = Vec Pavgb 0 1 ∷ Vec Pavgb 2 1 ∷ Vec Punpcklbw 0 2 ∷ [] in
+      let means = averages_code count in
+      let more : IsCodeFor t means = either_for t (count == 1) (Vec Pavgb 0 1 ∷ []) (behind ++ weave) refl (behind_for t behind weave (bytes_for n 2 7 (pos 1)) refl) in
+      let lower = bytes_code n 0 7 (pos 0) ++ (means ++ last) in
+      let again = Load 0 (slot source.array) ∷ lower_code in
+      let upper = bytes_code n 1 0 (pos 0) ++ (again ++ lower) in
+      behind_for t (halve_code source) (upper_code source ++ upper) refl
+      (behind_for t (upper_code source) upper refl
+      (behind_for t (bytes_code n 1 0 (pos 0)) (again ++ lower) (bytes_for n 1 0 (pos 0))
+      (behind_for t again lower refl (behind_for t (bytes_code n 0 7 (pos 0)) (means ++ last) (bytes_for n 0 7 (pos 0)) (behind_for t means last more refl)))))
+
+  bring_by_for : (load : Far) (source : FarSource) (count : ℕ) → IsCodeFor t (bring_by load source count)
+  bring_by_for Loadoffb source count = beside_for source 0 (count * 1)
+  bring_by_for Loadoffw source count = beside_for source 1 (count * 2)
+  bring_by_for Loadoffl source count = beside_for source 2 (count * 4)
+  bring_by_for Loadupdb source count = doubled_for source count
+  bring_by_for Loadupib source count = between_for source count
+  bring_by_for Ldresnearb source count = singly_for source count
+  bring_by_for Ldresnearl source count = singly_for source count
+  bring_by_for Ldreslinb source count = singly_for source count
+  bring_by_for Ldreslinl source count = singly_for source count
+
+  bring_for : (source : FarSource) (count : ℕ) → IsCodeFor t (bring_code source count)
+  bring_for source count = bring_by_for source.far source count
 
   from_zero_for : (x : ℕ) → IsCodeFor t (from_zero_code x)
   from_zero_for x = go (x == 0)
