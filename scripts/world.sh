@@ -46,13 +46,13 @@ try() {
     printf '%-22s %s, %s s\n' "$name" "$result" $(($(date +%s) - begun)) >> "$table"
 }
 
-tests=$(pkg-config --variable=includedir orc-test-0.4 2> /dev/null)/orc-test/orctest.h
+tests=$(pkg-config --variable=includedir orc-test-0.4 2> /dev/null)/orc-0.4/orc-test/orctest.h
 try try-objects make cc -- "$top/scripts/try-objects.sh" "$orcc"
 try try-prototypes make cc objcopy -- "$top/scripts/try-prototypes.sh" "$orcc"
 try try-entries python3 gcc nm "$tests" "${ORC_TOOL:-/usr/bin/orcc}" -- python3 "$top/scripts/try-entries.py" "$orcc"
 try try-c python3 gcc clang -- python3 "$top/scripts/try-c.py" "$orcc"
 try check-processor python3 as ld -- python3 "$top/scripts/check-processor.py"
-try refuse-allocations python3 cc "$top/crates/orcc/out/orcc" -- python3 "$top/scripts/refuse-allocations.py"
+try refuse-allocations python3 cc -- python3 "$top/scripts/refuse-allocations.py" "$orcc"
 
 echo
 cat "$table"
