@@ -1,4 +1,6 @@
 /* The argument block by which code of orcc is called, for objects of `orcc obj` on x86-64 (C11 or later, or C++11).
+ * Functions of `orcc lib` and `orcc lib41` take plain arguments: their header is what `orcc header` writes, and this one
+ * isn't needed.
  *
  * A kernel `volume` of an object is declared as
  *

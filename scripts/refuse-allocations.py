@@ -1,10 +1,10 @@
 #!/usr/bin/env python3
 """Refuses each allocation of the program in turn, and looks at what it answers.
 
-Usage: python3 scripts/refuse-allocations.py
-It needs the program (rt run in crates/orcc), an x86-64 Linux with glibc, and cc.
+Usage: python3 scripts/refuse-allocations.py [ORCC]
+ORCC is the program, crates/orcc/out/orcc unless given. It needs an x86-64 Linux with glibc, and cc.
 
-For each command an input that it accepts is run with the first call for memory
+For each command but gen, whose every run takes long, an input that it accepts is run with the first call for memory
 refused, then with the second one, and so on until a run makes none that is refused.
 Each of these runs must end with status 5 and nothing written, or else with the
 status and the bytes of the run that is refused nothing.
@@ -20,7 +20,7 @@ import sys
 import tempfile
 
 TOP = pathlib.Path(__file__).resolve().parent.parent
-PROGRAM = TOP / "crates" / "orcc" / "out" / "orcc"
+PROGRAM = sys.argv[1] if len(sys.argv) > 1 else TOP / "crates" / "orcc" / "out" / "orcc"
 
 # Refuses the call whose number REFUSED says, and tells so on the descriptor TOLD.
 REFUSING = """
@@ -38,12 +38,12 @@ void *malloc(size_t size) { return refused() ? NULL : __libc_malloc(size); }
 void *realloc(void *block, size_t size) { return refused() ? NULL : __libc_realloc(block, size); }
 """
 
-JOB = (b'{"function":"volume","n":3,"m":1,"arrays":[{"base":4096,"stride":0}],"params":[1024],'
+JOB = (b'{"function":"volume","n":3,"m":1,"arrays":[{"base":4096,"stride":0,"size":2}],"params":[1024],'
        b'"memory":[{"at":4096,"bytes":"e80318fcff7f"}],"budget":1000}')
 
 
-def run(word, text, environment=None, told=()):
-    ran = subprocess.run([PROGRAM, word], input=text, capture_output=True,
+def run(words, text, environment=None, told=()):
+    ran = subprocess.run([PROGRAM, *words.split()], input=text, capture_output=True,
                          env=environment or {}, pass_fds=told)
     return ran.returncode, ran.stdout, ran.stderr
 
@@ -71,14 +71,17 @@ def refuse(word, text, library):
 def main():
     add8, volume = ((TOP / "kernels" / name).read_bytes() for name in ("add8.orc", "volume.orc"))
     image = run("asm", volume)[1]
-    inputs = [("asm", add8), ("asm", volume), ("obj", add8), ("c", add8), ("check", volume),
-              ("fmt", volume), ("dis", image), ("run", image + JOB), ("emulate", volume + b"%%\n" + JOB)]
+    compilers = ["asm", "asm41", "obj", "lib", "lib41", "header", "c", "check", "check41", "fmt"]
+    inputs = [(word, text) for word in compilers for text in (add8, volume)]
+    inputs += [("dis", image), ("dis", run("obj", add8)[1]), ("run", image + JOB), ("jobs 2 5", image + JOB),
+               ("emulate", volume + b"%%\n" + JOB)]
     with tempfile.TemporaryDirectory() as folder:
         source, library = f"{folder}/refusing.c", f"{folder}/refusing.so"
         pathlib.Path(source).write_text(REFUSING)
         subprocess.run(["cc", "-shared", "-fPIC", "-o", library, source], check=True)
         for word, text in inputs:
             refusals, others = refuse(word, text, library)
+            assert refusals > 0, (word, "the program's calls for memory aren't seen")
             print(f"{word}: {refusals} refusals, {others} without effect")
 
 

@@ -1,0 +1,17 @@
+# Completes the commands of orcc in fish.
+complete -c @NAME@ -f
+complete -c @NAME@ -n __fish_use_subcommand -a asm -d 'an image with code for SSE2'
+complete -c @NAME@ -n __fish_use_subcommand -a asm41 -d 'an image with code for SSSE3 and SSE4.1'
+complete -c @NAME@ -n __fish_use_subcommand -a c -d 'C11'
+complete -c @NAME@ -n __fish_use_subcommand -a check -d 'need, lanes and cost of each function'
+complete -c @NAME@ -n __fish_use_subcommand -a check41 -d 'the same for code of asm41'
+complete -c @NAME@ -n __fish_use_subcommand -a dis -d 'the listing of an image or an object'
+complete -c @NAME@ -n __fish_use_subcommand -a emulate -d 'the result of a job, by the meaning of the text'
+complete -c @NAME@ -n __fish_use_subcommand -a fmt -d 'the canonical text'
+complete -c @NAME@ -n __fish_use_subcommand -a gen -d 'sums and steps of functions made from a number'
+complete -c @NAME@ -n __fish_use_subcommand -a header -d 'a C header with the prototypes'
+complete -c @NAME@ -n __fish_use_subcommand -a jobs -d 'the result of a job in parts'
+complete -c @NAME@ -n __fish_use_subcommand -a lib -d 'an object called by prototype, for SSE2'
+complete -c @NAME@ -n __fish_use_subcommand -a lib41 -d 'an object called by prototype, for SSSE3 and SSE4.1'
+complete -c @NAME@ -n __fish_use_subcommand -a obj -d 'an object called by a block'
+complete -c @NAME@ -n __fish_use_subcommand -a run -d 'the result of a job, by the code of an image'
