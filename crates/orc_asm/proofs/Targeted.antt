@@ -1,5 +1,5 @@
 -- The code of a function has instructions of its target alone.
-use Rattle.std.proofs.Common.{◌≡◌, ℕ, zero, suc, ◌+◌, ◌≤◌, Bool, true, false, List, [], ◌∷◌, ◌++◌, length, refl, sym, subst}
+use Rattle.std.proofs.Common.{◌≡◌, ℕ, zero, suc, ◌+◌, ◌≤◌, Bool, true, false, List, [], ◌∷◌, ◌++◌, length, refl, sym, ap, ◌∙◌, subst}
 use Rattle.orc_ops.specs.declared.target.Target.{Target}
 use Rattle.orc_ops.specs.declared.target.Target.TheVariants.{Sse2}
 use Rattle.orc_program.specs.Kept.{is_function}
@@ -7,10 +7,10 @@ use Rattle.orc_program.specs.Program.{FunctionValue}
 use Rattle.x86_ins.specs.declared.ins.Cond.TheVariants.{Ne}
 use Rattle.x86_ins.specs.declared.ins.Ins.{Ins}
 use Rattle.x86_ins.specs.declared.ins.Ins.TheVariants.{Ret}
-use Rattle.x86_ins.specs.Spelling.{IsAllowed}
+use Rattle.x86_ins.specs.Spelling.{IsAllowed, spelling}
 use Rattle.x86_ins.specs.Way.{Each}
 use Rattle.x86_flow.specs.declared.tree.Flow.{Flow as Tree}
-use Rattle.x86_flow.specs.Flow.{Plain, flat, size, again_jump, loop_code, spell_all, with_return}
+use Rattle.x86_flow.specs.Flow.{Plain, flat, size, again_jump, loop_code, spell_all}
 use Rattle.x86_flow.specs.Tree.{flat_of}
 use Rattle.x86_flow.proofs.Spelled.{each_both, all_allowed}
 use Rattle.sse_laws.specs.Targets.{IsCodeFor}
@@ -25,6 +25,7 @@ use Rattle.orc_region.proofs.Sizes.Loops.{Fits}
 use Rattle.orc_region.proofs.Targeted.Blocks.{resident_loads_for, sum_stores_for}
 use Rattle.orc_asm.specs.Function.{HasOnly}
 use Rattle.orc_asm.specs.Rows.{slots_code, arrays_code, base_code, pointer_code, start_code, stride_code, count_code, counter_code, one_less_code, rows_code, row_entry_code, one_row_code, row_step_code, row_flow, rows_flow, whole_flow}
+use Rattle.orc_asm.proofs.Row.Built.{one_more}
 use Rattle.orc_asm.proofs.Row.Counts.{rows_allowed}
 
 -- ---- around the elements of a row
@@ -58,10 +59,15 @@ module _ (t : Target) where
       behind_for t (rows_code dests sources) (loop_code Ne row) (starts_for dests sources) (behind_for t row (again_jump Ne (size row) ∷ []) row_is refl)
   rows_for elements false dests sources k = behind_for t (one_row_code dests sources) elements (one_row_for dests sources) k
 
-  whole_for : (first elements last : List Ins) (two_d : Bool) (dests sources : ℕ) → IsCodeFor t first → IsCodeFor t elements → IsCodeFor t last → IsCodeFor t (with_return (whole_flow first (Plain elements) last two_d dests sources))
+  whole_for : (first elements last : List Ins) (two_d : Bool) (dests sources : ℕ) → IsCodeFor t first → IsCodeFor t elements → IsCodeFor t last → IsCodeFor t (flat (whole_flow first (Plain elements) last two_d dests sources))
   whole_for first elements last two_d dests sources h k m =
       let rows = flat (rows_flow (Plain elements) two_d dests sources) in
-      behind_for t (first ++ (rows ++ last)) (Ret ∷ []) (behind_for t first (rows ++ last) h (behind_for t rows last (rows_for elements two_d dests sources k) m)) refl
+      behind_for t first (rows ++ last) h (behind_for t rows last (rows_for elements two_d dests sources k) m)
+
+  -- and a return behind them
+  pub return_for : (body bytes : List ℕ) → bytes ≡ body ++ spelling Ret → HasOnly t body → HasOnly t bytes
+  return_for body bytes e (list, is, allowed, for) =
+      (list ++ Ret ∷ [], e ∙ ap (λ l. l ++ spelling Ret) is ∙ sym (one_more list Ret), each_both IsAllowed list (Ret ∷ []) allowed ((tt, refl), tt), behind_for t list (Ret ∷ []) for refl)
 
 -- ---- the code of a function
 
@@ -78,11 +84,11 @@ module _ (target : Target) (f : FunctionValue) (h : is_function f ≡ true) (l :
   fits_tree : (tree : Tree) → IsElements f target at tree → Fits 960000 (flat_of tree)
   fits_tree tree (parts, wide, aligned, large, turns, e) = subst (Fits 960000) (sym e) (fits_elements f h at parts wide aligned large turns)
 
-  -- by the lists around the rows and the tree that does a row's elements
-  pub has_only : (first last : List Ins) → Each IsAllowed first → Each IsAllowed last → IsCodeFor Sse2 first → IsCodeFor Sse2 last → (tree : Tree) → IsElements f target at tree → IsCodeFor target (flat_of tree)
+  -- before the return, by the lists around the rows and the tree that does a row's elements
+  pub body_only : (first last : List Ins) → Each IsAllowed first → Each IsAllowed last → IsCodeFor Sse2 first → IsCodeFor Sse2 last → (tree : Tree) → IsElements f target at tree → IsCodeFor target (flat_of tree)
       → (begins ends : List Ins) → begins ≡ first ++ resident_loads_code at sums (length l.patterns.items) → ends ≡ sum_stores_code at sums ++ last → (two_d : Bool) (d s : ℕ) → d ≤ 4 → s ≤ 8
-      → (bytes : List ℕ) → bytes ≡ spell_all (with_return (whole_flow begins (Plain (flat_of tree)) ends two_d d s)) → HasOnly target bytes
-  has_only first last first_allowed last_allowed first_is last_is tree are elements_is begins ends p q two_d d s few_dests few_sources bytes e =
+      → HasOnly target (spell_all (flat (whole_flow begins (Plain (flat_of tree)) ends two_d d s)))
+  body_only first last first_allowed last_allowed first_is last_is tree are elements_is begins ends p q two_d d s few_dests few_sources =
       let loads = resident_loads_code at sums (length l.patterns.items) in
       let stores = sum_stores_code at sums in
       let fits = fits_tree tree are in
@@ -92,8 +98,8 @@ module _ (target : Target) (f : FunctionValue) (h : is_function f ≡ true) (l :
       let front_is : IsCodeFor target begins = subst (IsCodeFor target) (sym p) (behind_for target first loads (for_each target first first_is) (resident_loads_for target at sums (length l.patterns.items))) in
       let behind_is : IsCodeFor target ends = subst (IsCodeFor target) (sym q) (behind_for target stores last (sum_stores_for target at sums) (for_each target last last_is)) in
       let middle : Each IsAllowed rows = rows_allowed d s few_dests few_sources (Plain (flat_of tree)) two_d fits.bytes fits.allowed in (
-        with_return (whole_flow begins (Plain (flat_of tree)) ends two_d d s),
-        e,
-        each_both IsAllowed (begins ++ (rows ++ ends)) (Ret ∷ []) (each_both IsAllowed begins (rows ++ ends) front_allowed (each_both IsAllowed rows ends middle behind_allowed)) ((tt, refl), tt),
+        flat (whole_flow begins (Plain (flat_of tree)) ends two_d d s),
+        refl,
+        each_both IsAllowed begins (rows ++ ends) front_allowed (each_both IsAllowed rows ends middle behind_allowed),
         whole_for target begins (flat_of tree) ends two_d d s front_is elements_is behind_is,
       )

@@ -29,13 +29,13 @@ RunsQuietly f target bytes = runs.RunsQuietly (subject_of f) (steps f target) by
 abbrev pub RunsFully : FunctionValue → Target → List ℕ → Type 0
 RunsFully f target bytes = runs.RunsFully (subject_of f) (steps f target) bytes
 
--- the code ends with a return, and what stands before it does all the rest: wherever that stands in code, each such call leads to the place behind it, quietly
-abbrev pub EndsByReturn : FunctionValue → Target → List ℕ → Type 0
-EndsByReturn f target bytes = (body : List ℕ) × (bytes ≡ body ++ spelling Ret) × passing.PassesQuietly (subject_of f) (steps f target) body
-
 -- the code is instructions of the target, one behind another, and nothing else (Intel SDM, volume 2A, chapter 2): code for SSE2 has none with an opcode of the map 0F 38, which came with SSSE3 and SSE4.1 (CPUID, leaf 1, bits 9 and 19 of ECX)
 abbrev pub HasOnly : Target → List ℕ → Type 0
 HasOnly target bytes = (list : List Ins) × (bytes ≡ spell_all list) × Each IsAllowed list × IsCodeFor target list
+
+-- the code ends with a return, and what stands before it, instructions of the target too, does all the rest: wherever that stands in code, each call whose memory, cut down to the parts, makes a good call leads to the place behind it, in at most one step less than is stated, with all that is promised of the way
+abbrev pub EndsByReturn : FunctionValue → Target → List ℕ → Type 0
+EndsByReturn f target bytes = (body : List ℕ) × (bytes ≡ body ++ spelling Ret) × passing.PassesFully (subject_of f) (steps f target) body × HasOnly target body
 
 -- ---- functions that need too many values at once
 

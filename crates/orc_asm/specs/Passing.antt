@@ -1,12 +1,12 @@
 -- Code without its return, wherever it stands in other code.
 use Rattle.std.specs.Prelude.{◌≡◌, ℕ, ◌+◌, ◌^◌, ◌<◌, ◌≤◌, List, ◌++◌, length, Some, None}
 use Rattle.orc_bits.specs.Memory.{Memory, IsMapped, word}
-use Rattle.x86_ins.specs.Machine.{Core, Point}
+use Rattle.x86_ins.specs.Machine.{Point}
 use Rattle.x86_ins.specs.Way.{Placed, Way, Moment, Each}
 use Rattle.orc_frame.specs.Parts.{InFrame, InSums, sum_word}
 use Rattle.orc_frame.specs.Subject.{Call, End, Subject, rows}
 use Rattle.orc_frame.specs.GoodCall.{GoodCall, lowered}
-use Rattle.orc_asm.specs.RunsAs.{Saved, Promise, Within, quiet}
+use Rattle.orc_asm.specs.RunsAs.{Saved, Promise, Within, fully}
 
 -- the bytes stand in the code, and the point is at the first of them
 pub record StandsAt (bytes : List ℕ) (code : Placed) (s : Point) : Type 0 where
@@ -23,6 +23,7 @@ pub record Passes (f : Subject) (bound : ℕ → ℕ → ℕ) (More : List Momen
   pub way : List Moment
   pub t : Point
   pub runs : Way code s way t
+  -- one step is left for a return
   pub short : length way + 1 ≤ bound call.n (rows f call)
   pub behind : t.rip ≡ to
   -- RSP is as before, and on the way never above that
@@ -42,6 +43,6 @@ PassesWith f bound P bytes = (code : Placed) (s : Point) (small : Memory) (call 
     GoodCall f (record { bytes = bytes; start = s.rip }) (record s { core = record (s.core) { memory = small } }) call any →
     Passes f bound (P s small call) code s small call (s.rip + length bytes)
 
--- and is quiet on its way
-abbrev pub PassesQuietly : Subject → (ℕ → ℕ → ℕ) → List ℕ → Type 0
-PassesQuietly f bound = PassesWith f bound (quiet f)
+-- and is quiet and wide on its way: all that the compiler's code promises
+abbrev pub PassesFully : Subject → (ℕ → ℕ → ℕ) → List ℕ → Type 0
+PassesFully f bound = PassesWith f bound (fully f)

@@ -23,7 +23,9 @@ use std::alloc::{AllocError, Global};
 /// Code of a function, which does in every good call what the function means, in at most as many steps as are stated for the target. It does so inside any
 /// larger memory too, and on the way changes no byte but those of dests' cells, of accumulators' words and of the frame. Few of its steps touch cells,
 /// at most one in a turn for each operand that is an array, but two for each element of a far load, and where the first dest can be stored by aligned stores in every row, and is no
-/// other dest, it is. The code is instructions of the target alone, and has 1 to 1,048,576 bytes.
+/// other dest, it is. The code is instructions of the target alone, and has 1 to 1,048,576 bytes, and at most 1,040,000, which leaves room for lists around it.
+/// It ends with a return, and what stands before that may stand inside other code: there each such call leads to the place behind it, with RSP as before, in at
+/// most one step less, and with all that is promised above.
 /// A function is refused exactly where some instruction needs more values of temps at once than there are places for them: with the first
 /// such instruction's line and need.
 #[tactic(auto, using(crate::proofs::Calls::Weaker::runs_as, crate::proofs::Function::Pressed::none_pressed, crate::proofs::Function::Pressed::first_pressed))]
@@ -33,6 +35,7 @@ pub fn assemble_for(alloc: Global, f: &Function, target: Target) -> Result<Code,
     ensures passes { IfOk result (λ code. EndsByReturn f.now target code) }
     ensures target { IfOk result (λ code. HasOnly target code) }
     ensures bytes { IfOk result (λ code. (1 ≤ length code) × (length code ≤ 1048576)) }
+    ensures room { IfOk result (λ code. length code ≤ 1040000) }
     ensures few { OnOk result (first_pressure f.now ≡ None) }
     ensures refusal { IfErr result (λ e. IsRefusal f.now e) }
 {
@@ -53,8 +56,10 @@ pub fn assemble_for(alloc: Global, f: &Function, target: Target) -> Result<Code,
 pub fn assemble(alloc: Global, f: &Function) -> Result<Code, AsmError>
     ensures runs { IfOk result (λ code. RunsAs f.now Sse2 code) }
     ensures inside { IfOk result (λ code. RunsFully f.now Sse2 code) }
+    ensures passes { IfOk result (λ code. EndsByReturn f.now Sse2 code) }
     ensures target { IfOk result (λ code. HasOnly Sse2 code) }
     ensures bytes { IfOk result (λ code. (1 ≤ length code) × (length code ≤ 1048576)) }
+    ensures room { IfOk result (λ code. length code ≤ 1040000) }
     ensures few { OnOk result (first_pressure f.now ≡ None) }
     ensures refusal { IfErr result (λ e. IsRefusal f.now e) }
 {
@@ -94,6 +99,7 @@ fn code_of(alloc: Global, f: &Function, placed: &Placed, target: Target) -> Resu
     ensures passes { IfOk result (λ code. EndsByReturn f.now target code) }
     ensures target { IfOk result (λ code. HasOnly target code) }
     ensures bytes { IfOk result (λ code. (1 ≤ length code) × (length code ≤ 1048576)) }
+    ensures room { IfOk result (λ code. length code ≤ 1040000) }
 {
     let counts = counts_of(f);
     let layout = layout(f);

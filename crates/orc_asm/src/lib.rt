@@ -1,4 +1,4 @@
-//! Code of functions, which runs as emulation says in good calls and inside larger memories.
+//! Code of functions, which runs as emulation says in good calls, inside larger memories, and, but for its return, inside other code.
 #![tactic(auto)]
 
 mod assembly;

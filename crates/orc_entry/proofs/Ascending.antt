@@ -1,11 +1,11 @@
 -- The words that a function's entry fills lie in ascending order within the entry's bytes.
-use Rattle.std.proofs.Common.{◌≡◌, ℕ, zero, suc, ◌+◌, ◌*◌, ◌<◌, ◌≤◌, ◌++◌, Bool, List, [], ◌∷◌, refl, sym, ap, ◌∙◌, subst, arith}
+use Rattle.std.proofs.Common.{ℕ, zero, suc, ◌+◌, ◌*◌, ◌≤◌, ◌++◌, Bool, List, [], ◌∷◌, arith}
 use Rattle.orc_program.specs.Program.{FunctionValue}
-use Rattle.orc_frame.specs.Parts.{base_word, stride_word, param_word}
+use Rattle.orc_frame.specs.Parts.{param_word}
 use Rattle.orc_prototype.specs.declared.arguments.Class.TheVariants as class
 use Rattle.orc_entry.specs.declared.sources.Source.{Source}
 use Rattle.orc_prototype.specs.Arguments.{IsSmall, shape_of, sum_argument}
-use Rattle.orc_entry.specs.Arguments.{argument, elements_source, rows_source, base_source, stride_source, param_source}
+use Rattle.orc_entry.specs.Arguments.{argument, param_source}
 use Rattle.orc_entry.specs.Code.{Ascend, stack_size, block_at, pointer_at, joined_fills, array_fills, fills_of}
 
 -- from one place to another

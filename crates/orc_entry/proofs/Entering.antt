@@ -1,20 +1,19 @@
 -- The list before a function's code leads to a core with the block filled and RDI at it.
-use Rattle.std.proofs.Common.{◌≡◌, ◌≢◌, ℕ, zero, suc, ◌+◌, ◌-◌, ◌*◌, ◌%◌, ◌^◌, ◌<◌, ◌≤◌, ◌⊎◌, Bool, true, false, nat_lt, if◌then◌else◌, pos, List, [], ◌∷◌, ◌++◌, Some, Ok, refl, sym, ap, ◌∙◌, subst, arith, inl, inr, ⊎_elim}
+use Rattle.std.proofs.Common.{◌≡◌, ◌≢◌, ℕ, ◌+◌, ◌-◌, ◌^◌, ◌<◌, ◌≤◌, pos, List, [], ◌∷◌, ◌++◌, refl, sym, ap, ◌∙◌, subst, arith}
 use Rattle.orc_bits.specs.Numbers.{wrap}
-use Rattle.orc_bits.specs.Memory.{Memory, word, IsMapped}
+use Rattle.orc_bits.specs.Memory.{IsMapped}
 use Rattle.orc_bits.proofs.LaneLaws.{change_other, change_same}
 use Rattle.x86_ins.specs.declared.ins.AluOp.TheVariants.{Sub}
 use Rattle.x86_ins.specs.declared.ins.Ins.{Ins}
 use Rattle.x86_ins.specs.declared.ins.Ins.TheVariants.{AluImm, Lea}
-use Rattle.x86_ins.specs.Machine.{Core, with_gpr, work, alu_core, alu_result, address}
+use Rattle.x86_ins.specs.Machine.{Core, with_gpr, alu_core, alu_result, address}
 use Rattle.x86_flow.specs.Moves.{away}
 use Rattle.x86_flow.specs.Does.{Line}
 use Rattle.x86_flow.proofs.Moves.{line_append}
 use Rattle.x86_flow.proofs.Words.{at_away}
 use Rattle.orc_entry.specs.declared.sources.Source.{Source}
-use Rattle.orc_entry.specs.Arguments.{argument_at, in_registers, register_of, stack_word}
 use Rattle.orc_entry.specs.Code.{fills_code, Ascend, stack_size, block_at}
-use Rattle.orc_entry.proofs.Fills.{Near, IsThere, AllReady, AllFilled, Filling, fills_line}
+use Rattle.orc_entry.proofs.Fills.{Near, AllReady, AllFilled, fills_line}
 
 -- c is the core at the entry
 module _ (c : Core) (room : stack_size ≤ c.gpr 4) (low : c.gpr 4 + 1024 < 2 ^ 61) where

@@ -1,23 +1,22 @@
 -- A word of the function's own bytes is filled with an argument or a number.
-use Rattle.std.proofs.Common.{◌≡◌, ◌≢◌, ℕ, zero, suc, ◌+◌, ◌-◌, ◌*◌, ◌/◌, ◌%◌, ◌^◌, ◌<◌, ◌≤◌, ◌⊎◌, ◌==◌, Bool, true, false, nat_lt, if◌then◌else◌, pos, List, [], ◌∷◌, ◌++◌, Some, None, Ok, refl, sym, ap, ◌∙◌, subst, arith, inl, inr, ⊎_elim}
-use Rattle.std.proofs.lemmas.Bool.{cases_lt, lt-ltb}
+use Rattle.std.proofs.Common.{◌≡◌, ◌≢◌, ℕ, zero, suc, ◌+◌, ◌-◌, ◌*◌, ◌%◌, ◌^◌, ◌<◌, ◌≤◌, ◌⊎◌, Bool, true, false, nat_lt, if◌then◌else◌, pos, List, [], ◌∷◌, Some, None, Ok, refl, sym, ap, ◌∙◌, subst, arith, inl, inr, ⊎_elim}
 use Rattle.orc_bits.specs.Numbers.{wrap}
 use Rattle.orc_bits.specs.Lanes.{byte_of}
 use Rattle.orc_bits.specs.Memory.{Memory, word, fill, IsMapped}
 use Rattle.orc_bits.proofs.Bits.{and_zero_r, and_ones_r}
-use Rattle.orc_bits.proofs.LaneLaws.{change_other, change_same}
+use Rattle.orc_bits.proofs.LaneLaws.{change_other}
 use Rattle.orc_bits.proofs.Memories.{some_one, fill_out, fill_mapped}
 use Rattle.x86_ins.specs.declared.ins.AluOp.TheVariants.{Sub, And}
-use Rattle.x86_ins.specs.declared.ins.ShiftOp.TheVariants.{Shl, Shr, Sar}
+use Rattle.x86_ins.specs.declared.ins.ShiftOp.TheVariants.{Shl, Sar}
 use Rattle.x86_ins.specs.declared.ins.Ins.{Ins}
-use Rattle.x86_ins.specs.declared.ins.Ins.TheVariants.{Move, Load, Store, MovImm, Alu, AluImm, Shift}
+use Rattle.x86_ins.specs.declared.ins.Ins.TheVariants.{Move, Load, Store, Shift}
 use Rattle.x86_ins.specs.Vectors.{shl, shr, sar}
-use Rattle.x86_ins.specs.Machine.{Core, with_gpr, with_flags, with_memory, work, alu_core, alu_result, shift_result}
+use Rattle.x86_ins.specs.Machine.{Core, with_gpr, with_flags, with_memory, work, alu_core, alu_result}
 use Rattle.x86_flow.specs.Moves.{away}
 use Rattle.x86_flow.specs.Does.{Line}
 use Rattle.x86_flow.proofs.Moves.{line_append}
 use Rattle.x86_flow.proofs.Words.{store_word, load_word}
-use Rattle.x86_flow.proofs.Frame.{word_stored, word_apart, word_same}
+use Rattle.x86_flow.proofs.Frame.{word_stored, word_same}
 use Rattle.orc_prototype.specs.declared.arguments.Class.{Class}
 use Rattle.orc_prototype.specs.declared.arguments.Class.TheVariants as class
 use Rattle.orc_entry.specs.declared.sources.Source.{Source}

@@ -1,3 +1,17 @@
 pub mod Fills
 pub mod Entering
 pub mod Ascending
+pub mod Known
+pub mod Listed
+pub mod Holding
+pub mod Ready
+pub mod Front
+pub mod Called
+pub mod Built
+pub mod Sizes
+pub mod Around
+pub mod Emulated
+pub mod Bounds
+pub mod Leaving
+pub mod Passed
+pub mod Entered

@@ -1,5 +1,5 @@
 -- Where the arguments of a C call are at the entry, and which words of an argument block they become.
-use Rattle.std.specs.Prelude.{ℕ, zero, suc, ◌+◌, ◌-◌, ◌*◌, ◌==◌, Bool, nat_lt, if◌then◌else◌, List, Option, Some}
+use Rattle.std.specs.Prelude.{ℕ, zero, suc, ◌+◌, ◌-◌, ◌*◌, ◌<◌, ◌==◌, Bool, nat_lt, if◌then◌else◌, List, Option, Some}
 use Rattle.orc_bits.specs.Memory.{word}
 use Rattle.orc_program.specs.Program.{FunctionValue}
 use Rattle.x86_ins.specs.Machine.{Core}
@@ -37,6 +37,11 @@ module _ (s : Shape) where
 
   abbrev pub stride_source : ℕ → Source
   stride_source k = stride_of (base_argument k)
+
+-- an argument by a number below 100: no function has as many
+abbrev pub IsNear : Source → Type 0
+IsNear (source.Argument c i) = i < 100
+IsNear (source.Number n) = Unit {0}
 
 -- `longs` says which parameters are said by `.longparam`
 abbrev pub param_source : FunctionValue → List Bool → ℕ → Source

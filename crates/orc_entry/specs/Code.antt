@@ -1,10 +1,12 @@
 -- The lists before and behind a function's code: the compiler's plan.
-use Rattle.std.specs.Prelude.{ℕ, zero, suc, ◌+◌, ◌-◌, ◌*◌, ◌≤◌, ◌==◌, Bool, nat_lt, if◌then◌else◌, pos, List, [], ◌∷◌, ◌++◌}
+use Rattle.std.specs.Prelude.{◌≡◌, ℕ, zero, suc, ◌+◌, ◌*◌, ◌≤◌, ◌==◌, Bool, nat_lt, if◌then◌else◌, pos, List, [], ◌∷◌, ◌++◌}
 use Rattle.x86_ins.specs.declared.ins.AluOp.TheVariants.{Add, Sub, And}
 use Rattle.x86_ins.specs.declared.ins.ShiftOp.TheVariants.{Shl, Shr, Sar}
 use Rattle.x86_ins.specs.declared.ins.MoveOp.TheVariants.{Movd}
 use Rattle.x86_ins.specs.declared.ins.Ins.{Ins}
-use Rattle.x86_ins.specs.declared.ins.Ins.TheVariants.{VecLoad, VecStore, Move, Load, Store, Load16, Store16, MovImm, Alu, AluImm, Shift, Lea}
+use Rattle.x86_ins.specs.declared.ins.Ins.TheVariants.{VecLoad, VecStore, Move, Load, Store, Load16, Store16, MovImm, Alu, AluImm, Shift, Lea, Ret}
+use Rattle.x86_ins.specs.Spelling.{spelling}
+use Rattle.x86_flow.specs.Flow.{spell_all}
 use Rattle.x86_flow.specs.Moves.{away, here}
 use Rattle.orc_frame.specs.Parts.{elements_word, rows_word, base_word, stride_word, param_word, sum_word}
 use Rattle.orc_frame.specs.Code.{joined}
@@ -14,8 +16,8 @@ use Rattle.orc_prototype.specs.declared.arguments.Class.TheVariants as class
 use Rattle.orc_entry.specs.declared.sources.Source.{Source}
 use Rattle.orc_entry.specs.declared.sources.Source.TheVariants as source
 use Rattle.orc_prototype.specs.declared.arguments.Shape.{Shape}
-use Rattle.orc_prototype.specs.Arguments.{shape_of, sum_argument, sum_size}
-use Rattle.orc_entry.specs.Arguments.{in_registers, register_of, stack_word, argument, elements_source, rows_source, base_source, stride_source, param_source}
+use Rattle.orc_prototype.specs.Arguments.{shape_of, sum_argument, param_argument, sum_size, is_long, class_of}
+use Rattle.orc_entry.specs.Arguments.{in_registers, register_of, stack_word, argument, elements_source, rows_source, base_source, stride_source}
 
 -- ---- the bytes that an entry takes from the stack: a word that nothing uses, the block, and the accumulators' pointers
 
@@ -69,14 +71,22 @@ joined_fills fills (suc n) = joined_fills fills n ++ fills n
 abbrev pub array_fills : Shape → ℕ → List (Source × ℕ)
 array_fills s k = (base_source s k, block_at + base_word k) ∷ (stride_source s k, block_at + stride_word k) ∷ []
 
+-- the word of a parameter
+abbrev pub param_fills : Shape → List Bool → ℕ → List (Source × ℕ)
+param_fills s longs j = (argument (class_of (is_long longs j)) (param_argument s j), block_at + param_word j) ∷ []
+
+-- the pointer of an accumulator
+abbrev pub pointer_fills : Shape → ℕ → List (Source × ℕ)
+pointer_fills s g = (argument class.Word (sum_argument s g), pointer_at g) ∷ []
+
 -- the words of the block that a function uses, and its accumulators' pointers
 abbrev pub fills_of : FunctionValue → List Bool → List (Source × ℕ)
 fills_of f longs =
     let s = shape_of f in
     (elements_source s, block_at + elements_word) ∷ (rows_source s, block_at + rows_word) ∷ (joined_fills (array_fills s) s.dests
     ++ (joined_fills (λ k. array_fills s (4 + k)) s.sources
-    ++ (joined_fills (λ j. (param_source f longs j, block_at + param_word j) ∷ []) s.params
-    ++ joined_fills (λ g. (argument class.Word (sum_argument s g), pointer_at g) ∷ []) s.sums)))
+    ++ (joined_fills (param_fills s longs) s.params
+    ++ joined_fills (pointer_fills s) s.sums)))
 
 -- RSP goes down, the words are filled, and RDI points at the block
 abbrev pub entry_code : FunctionValue → List Bool → List Ins
@@ -90,3 +100,9 @@ sum_code size g = Load 1 (away 4 (pointer_at g)) ∷ (if size == 2 then Load16 0
 
 abbrev pub exit_code : FunctionValue → List Ins
 exit_code f = joined (λ g. sum_code (sum_size f g) g) (shape_of f).sums ++ AluImm Add 4 (pos stack_size) ∷ []
+
+-- ---- the whole
+
+-- the code of an entry: the lists before and behind a body, and a return
+abbrev pub IsEntryCode : FunctionValue → List Bool → List ℕ → List ℕ → Type 0
+IsEntryCode f longs body bytes = bytes ≡ spell_all (entry_code f longs) ++ (body ++ (spell_all (exit_code f) ++ spelling Ret))

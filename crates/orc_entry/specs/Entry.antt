@@ -1,5 +1,5 @@
 -- Calls from C by a function's prototype: what a good one is, and what the code then does.
-use Rattle.std.specs.Prelude.{◌≡◌, ◌≢◌, ℕ, ◌+◌, ◌-◌, ◌*◌, ◌%◌, ◌^◌, ◌<◌, ◌≤◌, true, Bool, List, length, Some, None}
+use Rattle.std.specs.Prelude.{◌≡◌, ◌≢◌, ℕ, ◌+◌, ◌-◌, ◌*◌, ◌%◌, ◌^◌, ◌<◌, ◌≤◌, true, Bool, List, length, Some}
 use Rattle.orc_bits.specs.Memory.{Memory, IsMapped, value, word}
 use Rattle.orc_ops.specs.declared.target.Target.{Target}
 use Rattle.orc_program.specs.declared.program.VarKind.TheVariants as kind
@@ -9,7 +9,7 @@ use Rattle.x86_ins.specs.Machine.{Core, Point, Bounded}
 use Rattle.x86_ins.specs.Way.{Placed, Way, Moment, Each, AtMost, IsOver}
 use Rattle.orc_frame.specs.Layout.{frame_size}
 use Rattle.orc_frame.specs.Parts.{Between, InReturn, InCode}
-use Rattle.orc_frame.specs.Subject.{Call, End, rows, InDests}
+use Rattle.orc_frame.specs.Subject.{End, rows, InDests}
 use Rattle.orc_frame.specs.Function.{subject_of}
 use Rattle.orc_region.specs.Stores.{TouchesCell, StoresFirst}
 use Rattle.orc_asm.specs.RunsAs.{Saved, Within, Aligned, stop}

@@ -1,3 +1,4 @@
 pub mod Arguments
 pub mod Code
 pub mod Entry
+pub mod Whole

@@ -9,5 +9,5 @@ mod entry;
 mod lists;
 mod sources;
 
-pub use entry::entry_for;
+pub use entry::{EntryCode, entry_for};
 pub use sources::Source;

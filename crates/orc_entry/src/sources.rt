@@ -2,9 +2,11 @@
 
 ghost use Rattle.std.specs.Prelude.{◌≡◌, ◌<◌};
 ghost use Rattle.orc_prototype.specs.Arguments.{IsSmall};
-ghost use Rattle.orc_entry.specs.Arguments.{elements_source, rows_source, stride_of, base_argument};
+ghost use Rattle.orc_entry.specs.Arguments.{IsNear, elements_source, rows_source, stride_of, base_argument};
 
-use orc_prototype::{Class, Shape, dest_argument, elements_argument, rows_argument, source_argument};
+use orc_prototype::{
+    Class, Shape, dest_argument, elements_argument, rows_argument, source_argument,
+};
 
 /// Where a word of a function's block comes from.
 #[derive(Clone, Copy, Debug, PartialEq, Eq)]
@@ -37,7 +39,8 @@ pub fn base_argument(shape: Shape, slot: usize) -> usize
 /// Where the number of elements comes from.
 pub fn elements_source(shape: Shape) -> Source
     requires small { IsSmall shape }
-    ensures { result ≡ elements_source shape }
+    ensures value { result ≡ elements_source shape }
+    ensures near { IsNear result }
 {
     if shape.elements == 0 {
         Source::Argument {
@@ -52,7 +55,8 @@ pub fn elements_source(shape: Shape) -> Source
 /// Where the number of rows comes from.
 pub fn rows_source(shape: Shape) -> Source
     requires small { IsSmall shape }
-    ensures { result ≡ rows_source shape }
+    ensures value { result ≡ rows_source shape }
+    ensures near { IsNear result }
 {
     if !shape.two_d {
         Source::Number(1)
@@ -69,7 +73,8 @@ pub fn rows_source(shape: Shape) -> Source
 /// Where a stride comes from, by the argument that is its array's address.
 pub fn stride_of(shape: Shape, base: usize) -> Source
     requires few { base < 64 }
-    ensures { result ≡ stride_of shape base }
+    ensures value { result ≡ stride_of shape base }
+    ensures near { IsNear result }
 {
     if shape.two_d {
         Source::Argument {

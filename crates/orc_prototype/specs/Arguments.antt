@@ -1,8 +1,11 @@
 -- The arguments of a function's prototype in C: their order, and which word each becomes.
-use Rattle.std.specs.Prelude.{ℕ, ◌+◌, ◌-◌, ◌*◌, ◌%◌, ◌^◌, ◌≤◌, ◌==◌, Bool, false, nat_lt, if◌then◌else◌, List, slice_index, slice_index_or}
+use Rattle.std.specs.Prelude.{ℕ, ◌+◌, ◌-◌, ◌*◌, ◌%◌, ◌^◌, ◌≤◌, ◌==◌, Bool, false, nat_lt, if◌then◌else◌, List, [], ◌∷◌, ◌++◌, map, slice_index, slice_index_or}
+use Rattle.std.specs.List.{flat_map, range_with_len}
 use Rattle.orc_program.specs.declared.program.VarKind.TheVariants as kind
 use Rattle.orc_program.specs.Program.{FunctionValue, var_at, count_of, places_of}
 use Rattle.orc_program.specs.Facts.{facts_of}
+use Rattle.orc_prototype.specs.declared.arguments.Argument.{Argument}
+use Rattle.orc_prototype.specs.declared.arguments.Argument.TheVariants as argument
 use Rattle.orc_prototype.specs.declared.arguments.Class.{Class}
 use Rattle.orc_prototype.specs.declared.arguments.Class.TheVariants as class
 use Rattle.orc_prototype.specs.declared.arguments.Shape.{Shape}
@@ -32,8 +35,33 @@ pub record IsSmall (s : Shape) : Type 0 where
   pub sources : s.sources ≤ 8
   pub params : s.params ≤ 8
 
--- The dests, the accumulators, the sources, the parameters, each in order of declaration, and then n and m. An array's address has its stride behind it where there are rows. There is no n where the text states its one value, and no m where it does so or where there are no rows.
+-- an array's address, and behind it its stride where there are rows
+abbrev pub array_arguments : Bool → Argument → Argument → List Argument
+array_arguments two_d address stride = address ∷ (if two_d then stride ∷ [] else [])
+
+abbrev pub dest_arguments : Bool → ℕ → List Argument
+dest_arguments two_d k = array_arguments two_d (argument.Dest k) (argument.DestStride k)
+
+abbrev pub source_arguments : Bool → ℕ → List Argument
+source_arguments two_d k = array_arguments two_d (argument.Source k) (argument.SourceStride k)
+
 module _ (s : Shape) where
+  -- m is an argument where there are rows, and the text doesn't state its one value
+  abbrev pub has_rows_argument : Bool
+  has_rows_argument = if s.two_d then s.rows == 0 else false
+
+  -- The arguments: the dests, the accumulators, the sources and the parameters, each in order of declaration, then n where the text doesn't state its one value, and m.
+  abbrev pub arguments : List Argument
+  arguments = flat_map (dest_arguments s.two_d) (range_with_len 0 s.dests)
+      ++ (map argument.Sum (range_with_len 0 s.sums)
+      ++ (flat_map (source_arguments s.two_d) (range_with_len 0 s.sources)
+      ++ (map argument.Param (range_with_len 0 s.params)
+      ++ ((if s.elements == 0 then argument.Elements ∷ [] else [])
+      ++ (if has_rows_argument then argument.Rows ∷ [] else [])))))
+
+  -- ---- their numbers in that list, counted from 0
+
+  -- how many arguments an array has
   abbrev pub width : ℕ
   width = if s.two_d then 2 else 1
 
@@ -54,9 +82,6 @@ module _ (s : Shape) where
 
   abbrev pub rows_argument : ℕ
   rows_argument = elements_argument + (if s.elements == 0 then 1 else 0)
-
-  abbrev pub has_rows_argument : Bool
-  has_rows_argument = if s.two_d then s.rows == 0 else false
 
   abbrev pub argument_count : ℕ
   argument_count = rows_argument + (if has_rows_argument then 1 else 0)

@@ -1,1 +1,4 @@
 pub mod Arguments
+pub mod Header
+pub mod Laws
+pub mod Longs

@@ -8,7 +8,7 @@ use Rattle.orc_program.specs.Kept.{is_function}
 use Rattle.x86_ins.specs.declared.ins.Ins.{Ins}
 use Rattle.x86_ins.specs.declared.ins.Ins.TheVariants.{Ret}
 use Rattle.x86_ins.specs.Spelling.{IsAllowed, spelling, has_spelling}
-use Rattle.x86_ins.specs.Way.{Placed, Each, AtMost}
+use Rattle.x86_ins.specs.Way.{Placed, Moment, Each, AtMost}
 use Rattle.x86_flow.specs.declared.tree.Flow.{Flow as Tree}
 use Rattle.x86_flow.specs.Flow.{Flow, Plain, flat, size, spell_all, with_return}
 use Rattle.x86_flow.specs.Tree.{flat_of}
@@ -28,8 +28,8 @@ use Rattle.x86_ins.specs.Machine.{Point}
 use Rattle.orc_frame.specs.Subject.{rows as rows_of}
 use Rattle.orc_asm.specs.RunsAs.{quiet, fully}
 use Rattle.orc_asm.specs.RunsAs.{wide as wide_promise}
-use Rattle.orc_asm.specs.Function.{RunsFully, EndsByReturn}
-use Rattle.orc_asm.specs.Passing.{PassesQuietly}
+use Rattle.orc_asm.specs.Function.{RunsFully}
+use Rattle.orc_asm.specs.Passing.{PassesFully}
 use Rattle.orc_region.specs.Regions.{TurnParts}
 use Rattle.orc_region.specs.Code.{Turns, IsElements, elements_of, resident_loads_code, sum_stores_code}
 use Rattle.orc_asm.specs.Rows.{rows_flow, whole_flow}
@@ -43,10 +43,9 @@ use Rattle.orc_region.proofs.Sizes.Steps.{regions_of}
 use Rattle.orc_asm.proofs.Row.Counts.{rows_bytes, rows_allowed}
 use Rattle.orc_asm.proofs.Row.Path.{own_free, Parts}
 use Rattle.orc_region.proofs.Calls.Wide.{cell_weight}
-use Rattle.orc_asm.proofs.Row.Built.{one_more}
 use Rattle.orc_asm.proofs.Row.Runs.{AreShort, runs_with, passes_with}
 use Rattle.orc_asm.proofs.Function.WideSteps.{WideAt, own_wide, wide_way}
-use Rattle.orc_asm.proofs.Calls.Inside.{lift, quiet_lifts, wide_lifts, both_lift}
+use Rattle.orc_asm.proofs.Calls.Inside.{Lifts as LiftsPromise, lift, quiet_lifts, wide_lifts, both_lift}
 use Rattle.orc_asm.proofs.Function.Parts.{parts}
 use Rattle.orc_region.proofs.Calls.Cells.{Arrays}
 use Rattle.orc_region.proofs.Calls.Blocks.{arrays_known}
@@ -68,9 +67,9 @@ pub record Lists (f : FunctionValue) (l : Layout) (first last : List Ins) : Type
   pub last_bytes : size last ≤ 11 * length last
   pub last_short : length last ≤ 7 + 13 * length l.acc_sizes.items
 
--- a length within the limits of code
+-- a length within the limits of code, with room for lists around it
 abbrev pub HasCodeLength : List ℕ → Type 0
-HasCodeLength bytes = (1 ≤ length bytes) × (length bytes ≤ 1048576)
+HasCodeLength bytes = (1 ≤ length bytes) × (length bytes ≤ 1040000)
 
 ret_bytes : size (Ret ∷ []) ≡ 1
 unfolding spelling
@@ -188,45 +187,53 @@ module _ {target : Target} (f : FunctionValue) (h : is_function f ≡ true) (l :
   parts_do code s args back good = subst (λ y. Parts f known code s args back good (WideAt (subject_of f) args) (first ++ resident_loads_code at (length y.acc_sizes.items) (length y.patterns.items)) elements (sum_stores_code at (length y.acc_sizes.items) ++ last) (regions_of (most_besides f) ((subject_of f).turns args.n) (most_turn f target)) ((subject_of f).turns args.n * some)) (sym x.layout)
       (parts f h at fewer wide aligned large turns code s args back good first last (subst (λ y. Prepares y first) x.layout x.prepares) (subst (λ y. Finishes y last) x.layout x.finishes))
 
+  -- the way through the code of such a call keeps the whole promise
+  full : (s : Point) (args : Call) (way : List Moment) (t : Point) → quiet (subject_of f) s s.core.memory args way t → Each (λ m. WideAt (subject_of f) args m.point.core m.ins) way
+      → ((R : Moment → Type 0) → ((m : Moment) → WideAt (subject_of f) args m.point.core m.ins → cell_weight m.ins ≡ 0 → R m → ⊥) → AtMost (weigh cell_weight front + rows_of (subject_of f) args * ((subject_of f).turns args.n * some) + weigh cell_weight behind) R way)
+      → fully (subject_of f) s s.core.memory args way t
+  full s args way t q each counted =
+      let bound : weigh cell_weight front + rows_of (subject_of f) args * ((subject_of f).turns args.n * some) + weigh cell_weight behind ≡ 0 + rows_of (subject_of f) args * ((subject_of f).turns args.n * some) + 0
+      = ap₂ (λ a b. a + rows_of (subject_of f) args * ((subject_of f).turns args.n * some) + b) first_free last_free in
+      (q, wide_way (subject_of f) s args way t each (λ R sees. subst (λ k. AtMost k R way) bound (counted R sees)))
+
+  full_lifts : LiftsPromise (fully (subject_of f))
+  full_lifts = both_lift (quiet (subject_of f)) (wide_promise (subject_of f)) (quiet_lifts (subject_of f)) (wide_lifts (subject_of f))
+
   code_runs : RunsFully f target (spell_all (with_return flow))
   code_runs =
       let subject = subject_of f in
-      lift subject (steps f target) (fully subject) (both_lift (quiet subject) (wide_promise subject) (quiet_lifts subject) (wide_lifts subject)) (spell_all (with_return flow))
+      lift subject (steps f target) (fully subject) full_lifts (spell_all (with_return flow))
       (runs_with f known front elements behind (most_turn f target) (most_besides f) some short (λ s args. WideAt subject args) (λ code s args back good. own_wide f known code s args back good) parts_do
-      (fully subject)
-      (λ s args way t q each counted. (q, wide_way subject s args way t each (λ R sees. subst (λ k. AtMost k R way) (bound args) (counted R sees))))
-      allowed)
-    where
-      bound : (args : Call) → weigh cell_weight front + rows_of (subject_of f) args * ((subject_of f).turns args.n * some) + weigh cell_weight behind ≡ 0 + rows_of (subject_of f) args * ((subject_of f).turns args.n * some) + 0
-      bound args = ap₂ (λ a b. a + rows_of (subject_of f) args * ((subject_of f).turns args.n * some) + b) first_free last_free
+      (fully subject) full allowed)
 
   -- what stands before the return passes
-  code_passes : PassesQuietly (subject_of f) (steps f target) (spell_all (flat flow))
+  code_passes : PassesFully (subject_of f) (steps f target) (spell_all (flat flow))
   code_passes =
       let subject = subject_of f in
       passes_with f known front elements behind (most_turn f target) (most_besides f) some short (λ s args. WideAt subject args) (λ code s args back good. own_wide f known code s args back good) parts_do
-      (quiet subject) (quiet_lifts subject) (λ s args way t q. q) body_allowed
-
-  code_ends : EndsByReturn f target (spell_all (with_return flow))
-  code_ends = (spell_all (flat flow), one_more (flat flow) Ret, code_passes)
+      (fully subject) full_lifts full body_allowed
 
 -- the code of a row's elements may stand in the flow as its list
-same_list : (first : List Ins) (elements : Flow) (last : List Ins) (two_d : Bool) (d s : ℕ) → with_return (whole_flow first (Plain (flat elements)) last two_d d s) ≡ with_return (whole_flow first elements last two_d d s)
-same_list first elements last true d s = refl
-same_list first elements last false d s = refl
+same_list : (first : List Ins) (row : Flow) (last : List Ins) (two_d : Bool) (d s : ℕ) → flat (whole_flow first (Plain (flat row)) last two_d d s) ≡ flat (whole_flow first row last two_d d s)
+same_list first row last true d s = refl
+same_list first row last false d s = refl
 
 -- as the bytes are built from the lists around the rows and the tree that does their elements
 pub whole_runs : (target : Target) (f : FunctionValue) → is_function f ≡ true → (l : Layout) (first last : List Ins) → Lists f l first last → (at : List ℕ) (tree : Tree) → IsElements f target at tree → (begins ends : List Ins) → begins ≡ first ++ resident_loads_code at (length l.acc_sizes.items) (length l.patterns.items) → ends ≡ sum_stores_code at (length l.acc_sizes.items) ++ last → (bytes : List ℕ) (two_d : Bool) (d s : ℕ) → two_d ≡ f.two_d → d ≡ count_of kind.Dest f.vars → s ≡ count_of kind.Source f.vars
-    → bytes ≡ spell_all (with_return (whole_flow begins (Plain (flat_of tree)) ends two_d d s)) → RunsFully f target bytes × HasCodeLength bytes × EndsByReturn f target bytes
+    → bytes ≡ spell_all (with_return (whole_flow begins (Plain (flat_of tree)) ends two_d d s)) → RunsFully f target bytes × HasCodeLength bytes × PassesFully (subject_of f) (steps f target) (spell_all (flat (whole_flow begins (Plain (flat_of tree)) ends two_d d s)))
 whole_runs target f h l first last x at tree (fewer, wide, aligned, large, turns, t) begins ends p q bytes two_d d s a b c e =
     let loads = first ++ resident_loads_code at (length l.acc_sizes.items) (length l.patterns.items) in
     let stores = sum_stores_code at (length l.acc_sizes.items) ++ last in
-    let is : bytes ≡ spell_all (with_return (flow f h l first last x at fewer wide aligned large turns)) =
-    e ∙ ap₂ (λ y z. spell_all (with_return (whole_flow y (Plain (flat_of tree)) z two_d d s))) p q
-    ∙ ap (λ r. spell_all (with_return (whole_flow loads (Plain (flat_of tree)) stores r d s))) a ∙ ap₂ (λ d s. spell_all (with_return (whole_flow loads (Plain (flat_of tree)) stores f.two_d d s))) b c
-    ∙ ap (λ t. spell_all (with_return (whole_flow loads (Plain t) stores f.two_d (count_of kind.Dest f.vars) (count_of kind.Source f.vars)))) t
-    ∙ ap spell_all (same_list loads (elements_of f fewer wide aligned large) stores f.two_d (count_of kind.Dest f.vars) (count_of kind.Source f.vars)) in
-    (subst (RunsFully f target) (sym is) (code_runs f h l first last x at fewer wide aligned large turns), subst HasCodeLength (sym is) (code_length f h l first last x at fewer wide aligned large turns), subst (EndsByReturn f target) (sym is) (code_ends f h l first last x at fewer wide aligned large turns))
+    let body : flat (whole_flow begins (Plain (flat_of tree)) ends two_d d s) ≡ flat (flow f h l first last x at fewer wide aligned large turns) =
+    ap₂ (λ y z. flat (whole_flow y (Plain (flat_of tree)) z two_d d s)) p q
+    ∙ ap (λ r. flat (whole_flow loads (Plain (flat_of tree)) stores r d s)) a ∙ ap₂ (λ d s. flat (whole_flow loads (Plain (flat_of tree)) stores f.two_d d s)) b c
+    ∙ ap (λ t. flat (whole_flow loads (Plain t) stores f.two_d (count_of kind.Dest f.vars) (count_of kind.Source f.vars))) t
+    ∙ same_list loads (elements_of f fewer wide aligned large) stores f.two_d (count_of kind.Dest f.vars) (count_of kind.Source f.vars) in
+    let is : bytes ≡ spell_all (with_return (flow f h l first last x at fewer wide aligned large turns)) = e ∙ ap (λ list. spell_all (list ++ Ret ∷ [])) body in (
+      subst (RunsFully f target) (sym is) (code_runs f h l first last x at fewer wide aligned large turns),
+      subst HasCodeLength (sym is) (code_length f h l first last x at fewer wide aligned large turns),
+      subst (λ list. PassesFully (subject_of f) (steps f target) (spell_all list)) (sym body) (code_passes f h l first last x at fewer wide aligned large turns),
+    )
 
 -- ---- the lists around the rows are spelled
 

@@ -16,8 +16,8 @@ use Rattle.x86_ins.specs.Way.{Placed, Way, Moment, Each, AtMost}
 use Rattle.x86_flow.specs.Flow.{Flow, flat, size, spell_all, with_return}
 use Rattle.x86_flow.proofs.Plans.{weigh}
 use Rattle.x86_flow.proofs.Returning.{returned, returns, each_map}
-use Rattle.x86_flow.proofs.Counting.{at_most_back}
-use Rattle.x86_flow.proofs.Flow.{Leads, flow_leads, listed_length}
+use Rattle.x86_flow.proofs.Counting.{at_most_back, at_most_more, at_most_weigh}
+use Rattle.x86_flow.proofs.Flow.{Leads, flow_leads, listed, listed_length}
 use Rattle.x86_flow.proofs.Larger.{LargerWay, big, way_larger, value_larger, alike_length, alike_each}
 use Rattle.x86_flow.proofs.Ways.{HasAt, has_all}
 use Rattle.orc_bits.proofs.Memories.{mapped_value}
@@ -25,7 +25,7 @@ use Rattle.orc_frame.specs.Parts.{sum_word}
 use Rattle.orc_frame.specs.Subject.{Call as Arguments, rows}
 use Rattle.orc_frame.specs.GoodCall.{GoodCall}
 use Rattle.orc_asm.specs.RunsAs.{Saved, Promise, RunsWith, quiet}
-use Rattle.orc_asm.specs.Passing.{StandsAt, Passes, PassesWith}
+use Rattle.orc_asm.specs.Passing.{PassesWith}
 use Rattle.orc_asm.proofs.Calls.Inside.{Lifts, same_register}
 use Rattle.orc_frame.specs.Function.{subject_of}
 use Rattle.orc_frame.specs.Frame.{saved}
@@ -94,9 +94,13 @@ module _ {target : Target} (f : FunctionValue) (known : Arrays f) (first : List 
   abbrev pub flow : Flow
   flow = whole_flow first elements last f.two_d (count_of kind.Dest f.vars) (count_of kind.Source f.vars)
 
+  -- the instructions that go by pointers, at most
+  abbrev pub pointing : Arguments → ℕ
+  pointing args = weigh cell_weight first + rows (subject_of f) args * (turns f args.n * touches) + weigh cell_weight last
+
   -- of the moments of a way, at most so many have a property that an instruction which goes by no pointer doesn't have
   abbrev pub Counted : Point → Arguments → List Moment → Type 1
-  Counted s args way = (R : Moment → Type 0) → ((m : Moment) → Tame s args m.point.core m.ins → cell_weight m.ins ≡ 0 → R m → ⊥) → AtMost (weigh cell_weight first + rows (subject_of f) args * (turns f args.n * touches) + weigh cell_weight last) R way
+  Counted s args way = (R : Moment → Type 0) → ((m : Moment) → Tame s args m.point.core m.ins → cell_weight m.ins ≡ 0 → R m → ⊥) → AtMost (pointing args) R way
 
   -- each good call of the code returns, with what follows from its being quiet, from Tame at each step and from the count
   pub runs_with : (P : Promise) → ((s : Point) (args : Arguments) (way : List Moment) (t : Point) → quiet (subject_of f) s s.core.memory args way t → Each (λ m. Tame s args m.point.core m.ins) way → Counted s args way → P s s.core.memory args way t) → Each IsAllowed (with_return flow) → RunsWith (subject_of f) (steps f target) P (spell_all (with_return flow))
@@ -138,11 +142,11 @@ module _ {target : Target} (f : FunctionValue) (known : Arrays f) (first : List 
         more = promised s args b.way (returned d back)
             (each_map _ _ (λ m q a nd ns nf. q.0.quiet a nd nf ns) b.way b.each, λ a nd ns nf. h.still.quiet a nd nf ns)
             (each_map _ _ (λ m q. q.1) b.way b.each)
-            (λ R sees. at_most_back cell_weight R Q code s.core done d back (weigh cell_weight first + rows (subject_of f) args * (turns f args.n * touches) + weigh cell_weight last) b refl h.light (λ m q. sees m q.1));
+            (λ R sees. at_most_back cell_weight R Q code s.core done d back (pointing args) b refl h.light (λ m q. sees m q.1));
       }
 
-  -- wherever the flow's bytes stand, each call leads to the place behind them, with what follows from its being quiet
-  pub passes_with : (P : Promise) → Lifts P → ((s : Point) (args : Arguments) (way : List Moment) (t : Point) → quiet (subject_of f) s s.core.memory args way t → P s s.core.memory args way t) → Each IsAllowed (flat flow) → PassesWith (subject_of f) (steps f target) P (spell_all (flat flow))
+  -- wherever the flow's bytes stand, each call leads to the place behind them, with what follows from its being quiet, from Tame at each step and from the count
+  pub passes_with : (P : Promise) → Lifts P → ((s : Point) (args : Arguments) (way : List Moment) (t : Point) → quiet (subject_of f) s s.core.memory args way t → Each (λ m. Tame s args m.point.core m.ins) way → Counted s args way → P s s.core.memory args way t) → Each IsAllowed (flat flow) → PassesWith (subject_of f) (steps f target) P (spell_all (flat flow))
   passes_with P lifts promised allowed code s small args any at within good =
       let own_code : Placed = record { bytes = spell_all (flat flow); start = s.rip } in
       let large = s.core.memory in
@@ -163,6 +167,7 @@ module _ {target : Target} (f : FunctionValue) (known : Arrays f) (first : List 
       let b : LargerWay small large code leads.way t s = way_larger code p leads.way t large within runs in
       let beside = b.beside in
       let register : (r : ℕ) → b.end.core.gpr r ≡ d.gpr r = same_register small large t b.end beside in
+      let weight : weigh cell_weight (listed leads.way) ≡ weigh cell_weight done = ap (weigh cell_weight) leads.list in
       let count : length leads.way ≡ length done = sym (listed_length leads.way) ∙ ap length leads.list in
       let count_more : length b.more ≡ length done = alike_length small large leads.way b.more b.alike ∙ count in
       let bound = steps_rows f known first last turn besides args.n args.m short in
@@ -182,5 +187,7 @@ module _ {target : Target} (f : FunctionValue) (known : Arrays f) (first : List 
         rest = beside.rest;
         saved = saved_again s.core b.end.core (λ j l. register (saved j) ∙ h.registers j l);
         more = lifts s small args leads.way b.more t b.end within b.alike beside
-            (promised p args leads.way t (each_map _ _ (λ m q a nd ns nf. q.0.quiet a nd nf ns) leads.way leads.each, λ a nd ns nf. h.still.quiet a nd nf ns));
+            (promised p args leads.way t (each_map _ _ (λ m q a nd ns nf. q.0.quiet a nd nf ns) leads.way leads.each, λ a nd ns nf. h.still.quiet a nd nf ns)
+            (each_map _ _ (λ m q. q.1) leads.way leads.each)
+            (λ R sees. at_most_more R (weigh cell_weight (listed leads.way)) (pointing args) leads.way (omega (arith, weight, h.light)) (at_most_weigh cell_weight R leads.way (each_map (λ m. Q m.point.core m.ins) _ (λ m q. sees m q.1) leads.way leads.each))));
       }

@@ -1,0 +1,6 @@
+use Rattle.orc_prototype.specs.Arguments.{dest_arguments}
+use Rattle.orc_prototype.proofs.Pieces.{grown}
+use Rattle.orc_prototype.proofs.arguments.put_dests.Goals as goal
+
+pub loop-k-preserved : goal.loop-k-preserved
+loop-k-preserved c = grown (dest_arguments c.args.two_d) c.loop-k.k _ _ _ c.loop-k.invariant c.in_ok-put_array.ensures
