@@ -4,7 +4,7 @@ use Rattle.orc_ops.specs.declared.target.Target.{Target}
 use Rattle.orc_program.specs.Program.{FunctionValue, ProgramValue}
 use Rattle.orc_elf.specs.Entries.{EntryValue}
 use Rattle.orc_elf.specs.Fields.{ElfGives}
-use Rattle.orc_elf.specs.Library.{LibraryGives}
+use Rattle.orc_elf.specs.LibraryFields.{LibraryGives}
 use Rattle.orc_image.specs.Spelling.{ImageValue, ImageOf}
 use Rattle.orcc_top.specs.declared.assembly.Form.{Form}
 use Rattle.orcc_top.specs.declared.assembly.Form.TheVariants.{Image, Object, Library}
@@ -13,7 +13,7 @@ use Rattle.orcc_top.specs.declared.command.Command.TheVariants.{Asm, Obj, Lib}
 use Rattle.orcc_top.specs.Assembly.{EntriesOf, version_of}
 use Rattle.orc_text.specs.Each.{OneForEach}
 use Rattle.orcc_top.specs.Objects.{CompiledOf}
-use Rattle.orcc_top.specs.Libraries.{EnteredOf, init_function}
+use Rattle.orcc_top.specs.Libraries.{EnteredOf, init_of}
 
 -- the command that writes it
 abbrev pub command_for : Form → Command
@@ -31,7 +31,7 @@ HoldsObject fs bytes = (entries : List EntryValue) × ElfGives bytes entries × 
 
 -- or an object with functions that C calls, and behind them the one after `.init`
 abbrev pub HoldsLibrary : List ℕ → Target → ProgramValue → List ℕ → Type 0
-HoldsLibrary text target p bytes = (entries : List EntryValue) × LibraryGives bytes (entries ++ init_function p.init p.functions) × OneForEach (EnteredOf text target) p.functions entries
+HoldsLibrary text target p bytes = (entries : List EntryValue) × LibraryGives bytes (entries ++ init_of p) × OneForEach (EnteredOf text target) p.functions entries
 
 -- what the form asks, of the program of a text
 abbrev pub HoldsCode : Form → List ℕ → ProgramValue → List ℕ → Type 0

@@ -1,7 +1,5 @@
 -- The header of a text, and the object with the functions that it declares.
-use Rattle.std.specs.Prelude.{◌≡◌, ℕ, List, [], ◌∷◌, ◌++◌, Option, Some, None, if◌then◌else◌}
-use Rattle.std.specs.List.{list_any}
-use Rattle.std.specs.Str.{bytes_eq}
+use Rattle.std.specs.Prelude.{◌≡◌, ℕ, List, [], ◌∷◌, ◌++◌, map, Option, Some, None, if◌then◌else◌}
 use Rattle.orc_ops.specs.declared.target.Target.{Target}
 use Rattle.orc_program.specs.Program.{FunctionValue, ProgramValue}
 use Rattle.x86_ins.specs.declared.ins.Ins.TheVariants.{Ret}
@@ -12,8 +10,8 @@ use Rattle.orc_asm.specs.Function.{HasOnly}
 use Rattle.orc_prototype.specs.Longs.{long_params}
 use Rattle.orc_prototype.specs.Header.{header_text}
 use Rattle.orc_entry.specs.Entry.{EntersAs}
-use Rattle.orc_elf.specs.Entries.{EntryValue}
-use Rattle.orc_elf.specs.Library.{LibraryGives}
+use Rattle.orc_elf.specs.Entries.{EntryValue, is_among}
+use Rattle.orc_elf.specs.LibraryFields.{LibraryGives}
 
 -- ---- the header
 
@@ -31,15 +29,19 @@ pub record EnteredOf (text : List ℕ) (target : Target) (f : FunctionValue) (en
   pub enters : EntersAs f (long_params text f.name) target entry.code
   pub only : HasOnly target entry.code
 
--- the function after `.init`, which does nothing; there is none where the text names none, or names one of its functions so
-abbrev pub init_function : Option (List ℕ) → List FunctionValue → List EntryValue
-init_function None fs = []
-init_function (Some name) fs = if list_any (λ f. bytes_eq f.name name) fs then [] else record { name = name; code = spelling Ret } ∷ []
+-- the function after `.init`, which does nothing; there is none where no name stands there, or one of these, which are the other functions'
+abbrev pub init_function : Option (List ℕ) → List (List ℕ) → List EntryValue
+init_function None others = []
+init_function (Some name) others = if is_among others name then [] else record { name = name; code = spelling Ret } ∷ []
+
+-- that of a program
+abbrev pub init_of : ProgramValue → List EntryValue
+init_of p = init_function p.init (map (λ f. f.name) p.functions)
 
 -- the bytes are an object, for linkers, with a function for each function of the program that the text reads as, in order, and behind them the one after `.init`
 pub record IsLibrary (target : Target) (text bytes : List ℕ) : Type 0 where
   pub program : ProgramValue
   pub reads : Reads text program
   pub entries : List EntryValue
-  pub gives : LibraryGives bytes (entries ++ init_function program.init program.functions)
+  pub gives : LibraryGives bytes (entries ++ init_of program)
   pub entered : OneForEach (EnteredOf text target) program.functions entries
