@@ -11,4 +11,5 @@ pub mod HeaderLaws
 pub mod Strings
 pub mod SymbolLaws
 pub mod Laid
+pub mod Known
 pub mod Whole

@@ -78,3 +78,14 @@ pub struct Places {
     /// The names of the sections.
     pub section_names: Place,
 }
+
+/// A section's header.
+#[derive(Clone, Copy)]
+pub struct SectionHeader {
+    /// The section's kind.
+    pub kind: SectionKind,
+    /// sh_name, the offset of its name in section 4.
+    pub name: u32,
+    /// Where its contents stand.
+    pub place: Place,
+}
