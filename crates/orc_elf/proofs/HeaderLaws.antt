@@ -103,6 +103,10 @@ pub size_is : (bytes : List ℕ) (at : ℕ) (s : SectionHeader) → HasHeader by
 unfolding number_at header_bytes
 size_is bytes at s h lt = number_after bytes h.front (header_bytes s ++ h.back) at 32 8 h.whole h.place ∙ number_8 s.place.size lt
 
+pub name_is : (bytes : List ℕ) (at : ℕ) (s : SectionHeader) → HasHeader bytes at s → s.name < 2 ^ 32 → number_at bytes at 4 ≡ s.name
+unfolding number_at header_bytes
+name_is bytes at s h lt = number_here bytes h.front (header_bytes s ++ h.back) at 4 h.whole h.place ∙ number_4 s.name lt
+
 pub section_header_good : (bytes : List ℕ) (at : ℕ) (s : SectionHeader) (fits : ℕ → Bool) → HasHeader bytes at s → IsKind s.kind → s.place.offset < 2 ^ 32 → s.place.size < 2 ^ 32 → fits s.place.size ≡ true
     → first_refused bytes (header_fields bytes s.kind fits at) ≡ None
 unfolding number_at header_bytes

@@ -13,7 +13,7 @@ use Rattle.orc_elf.specs.Layout.{symbols_from, code_part, name_part, contents_pa
 use Rattle.orc_elf.proofs.Refusals.{refused_append}
 use Rattle.orc_elf.proofs.Sizes.{AreSmall, parts_small, gap_small}
 use Rattle.orc_elf.proofs.Offsets.{part_here, good}
-use Rattle.orc_elf.proofs.HeaderLaws.{HasHeader, IsKind, first, has_header, shoff_is, identification_good, file_kind_good, file_sizes_good, offset_is, size_is, section_header_good, null_header_good}
+use Rattle.orc_elf.proofs.HeaderLaws.{HasHeader, IsKind, first, has_header, shoff_is, identification_good, file_kind_good, file_sizes_good, offset_is, size_is, name_is, section_header_good, null_header_good}
 use Rattle.orc_elf.proofs.SymbolLaws.{Stands}
 use Rattle.orc_elf.proofs.Laid.{Sits, sits, IsLaid, laid, contents_size}
 
@@ -82,6 +82,7 @@ pub record IsFound (bytes : List ℕ) (i : ℕ) (h : SectionHeader) (fits : ℕ 
   pub size : size_of bytes i ≡ h.place.size
   pub fields : first_refused bytes (header_fields bytes h.kind fits (header_at bytes i)) ≡ None
   pub within : h.place.offset + h.place.size ≤ length bytes
+  pub name : h.name < 2 ^ 32 → number_at bytes (header_at bytes i) 4 ≡ h.name
 
 pub find : (bytes : List ℕ) (p : Places) (es : List EntryValue) (firsts ks : List ℕ) (at : ℕ) (hs : List SectionHeader) → Known bytes p es firsts ks at hs
     → (i : ℕ) (h : SectionHeader) (fits : ℕ → Bool) → i < length hs → get_or hs i h ≡ h → IsKind h.kind → h.place.offset + h.place.size ≤ at → fits h.place.size ≡ true → IsFound bytes i h fits
@@ -92,6 +93,7 @@ find bytes p es firsts ks at hs k i h fits lt is kind low allowed =
       size = size_is bytes (header_at bytes i) h header (omega (arith, k.low, low));
       fields = section_header_good bytes (header_at bytes i) h fits header kind (omega (arith, k.low, low)) (omega (arith, k.low, low)) allowed;
       within = omega (arith, k.parts.ends, low);
+      name = name_is bytes (header_at bytes i) h header;
     }
 
 text_kind : IsKind text

@@ -13,3 +13,4 @@ pub mod SymbolLaws
 pub mod Laid
 pub mod Known
 pub mod Whole
+pub mod LibraryWhole

@@ -212,6 +212,7 @@ pub fn places(code: usize, symbols: usize, names: usize, section_names: usize) -
     requires symbols_in { symbols < 2 ^ 12 }
     requires names_in { names < 2 ^ 13 }
     ensures places { result ≡ places code symbols names section_names }
+    ensures low { result.section_names.offset < 2 ^ 30 }
 {
     let symbols_at = 64 + code + gap(8, code);
     let names_at = symbols_at + symbols;
