@@ -81,7 +81,9 @@ impl Library {
         requires room { length self.old.entries < 65 }
         requires new { is_among (names self.old.entries) e.name ≡ false }
         ensures ok { OnOk result (self.new ≡ record {
-            entries = self.old.entries ++ e ∷ []; unwinds = self.old.unwinds ++ unwind ∷ [] }) }
+          entries = self.old.entries ++ e ∷ [];
+          unwinds = self.old.unwinds ++ unwind ∷ [];
+        }) }
         ensures err { OnErr result (self.new ≡ self.old) }
         ensures kept { IsLibrary self.new }
     {

@@ -12,7 +12,10 @@ ghost use Rattle.orc_elf.specs.LibraryFields.{LibraryGives};
 use crate::elf::ElfEntry;
 use crate::library::Library;
 use crate::section::{LIBRARY_SYMTAB, NO_STACK, Place, Places, SectionHeader};
-use crate::writing::{assemble, code_part, contents_part, gap, header, headers_of, name_part, places, put_symbol, put_symbols};
+use crate::writing::{
+    assemble, code_part, contents_part, gap, header, headers_of, name_part, places, put_symbol,
+    put_symbols,
+};
 use std::alloc::{AllocError, Global};
 
 /// The names of the sections.
@@ -36,7 +39,14 @@ fn more_headers(p: &Places) -> [SectionHeader; 1]
 {
     let names_end = p.section_names.offset + p.section_names.size;
     let end = names_end + gap(8, names_end);
-    [header(NO_STACK, 33, Place { offset: end, size: 0 })]
+    [header(
+        NO_STACK,
+        33,
+        Place {
+            offset: end,
+            size: 0,
+        },
+    )]
 }
 
 /// An object whose sections 1 to 3 have these contents.
