@@ -14,7 +14,10 @@ use Rattle.orc_plan.specs.declared.steps.Pressure.{Pressure}
 use Rattle.orc_asm.specs.declared.refusal.AsmError.{AsmError}
 use Rattle.orc_asm.specs.declared.refusal.AsmError.TheVariants as refusal
 use Rattle.orc_asm.specs.Function.{first_pressure, IsRefusal}
-use Rattle.orc_elf.specs.Entries.{EntryValue}
+use Rattle.x86_ins.specs.declared.ins.Ins.TheVariants.{Ret}
+use Rattle.x86_ins.specs.Spelling.{spelling}
+use Rattle.orc_program.specs.Words.{is_name}
+use Rattle.orc_elf.specs.Entries.{EntryValue, IsEntry}
 use Rattle.orc_image.specs.Spelling as image
 use Rattle.orcc_top.specs.Assembly.{EntryOf, version_of, first_pressure_in, TellsPressure}
 use Rattle.orcc_top.specs.Objects.{CompiledOf, uncounted}
@@ -65,6 +68,11 @@ compiled_named f e one = one.name
 
 pub entered_named : (text : List ℕ) (target : Target) → AreNamed (EnteredOf text target) (λ f. f.name) (λ e. e.name)
 entered_named text target f e one = one.name
+
+-- a function that returns at once
+pub ret_entry : (name code : List ℕ) → is_name name ≡ true → code ≡ spelling Ret → IsEntry (record { name = name; code = code })
+unfolding spelling
+ret_entry name code named is = let one : length code ≡ 1 = ap length is in record { name = named; some_code = omega (arith, one); few_code = omega (arith, one) }
 
 abbrev pub Uncounts : EntryValue → image.FunctionValue → Type 0
 Uncounts e f = f ≡ uncounted e

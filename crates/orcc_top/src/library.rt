@@ -98,18 +98,20 @@ fn empty_function(alloc: Global, name: &Name) -> Result<ElfEntry, AllocError>
     })
 }
 
-/// Adds the function after `.init` where the library has none of its name.
-fn add_init(alloc: Global, library: &mut Library, name: Option<&Name>) -> Result<(), AllocError>
-    requires { length library.old.entries ≤ 64 }
-    ensures { OnOk result (library.new.entries ≡ library.old.entries ++ init_function name.now (names library.old.entries)) }
+/// The library and behind its functions the one after `.init`, where none of them has its name.
+fn with_init(alloc: Global, library: Library, name: &Option<Name>) -> Result<Library, AllocError>
+    requires { length library.entries ≤ 64 }
+    ensures { IfOk result (λ whole. whole.entries ≡ library.entries ++ init_function name.now (names library.entries)) }
 {
+    let mut whole = library;
     let Some(name) = name else {
-        return Ok(());
+        return Ok(whole);
     };
-    if library.contains(name.as_slice()) {
-        return Ok(());
+    if whole.contains(name.as_slice()) {
+        return Ok(whole);
     }
-    library.push(empty_function(alloc, name)?, None)
+    whole.push(empty_function(alloc, name)?, None)?;
+    Ok(whole)
 }
 
 /// The bytes of the object of a program's functions for C, and of the function after `.init`; `text` is what reads as the program.
@@ -125,11 +127,11 @@ pub fn library_bytes(
     ensures placed { OnOk result (first_pressure_in program.now.functions ≡ None) }
     ensures pressure { IfErr result (λ e. TellsPressure (first_pressure_in program.now.functions) e) }
 {
-    let mut library = library_of(alloc, text, program.functions.as_slice(), target)?;
-    if add_init(alloc, &mut library, program.init.as_ref()).is_err() {
+    let library = library_of(alloc, text, program.functions.as_slice(), target)?;
+    let Ok(whole) = with_init(alloc, library, &program.init) else {
         return Err(AsmError::Memory);
-    }
-    match write_library(alloc, &library) {
+    };
+    match write_library(alloc, &whole) {
         Ok(bytes) => Ok(bytes),
         Err(AllocError) => Err(AsmError::Memory),
     }

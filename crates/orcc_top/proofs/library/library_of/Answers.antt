@@ -12,7 +12,7 @@ returns-in_err-entered-clause-pressure c =
     rw (p.1, p.2) (tells_further c.args.functions.now c.loop-f.f-index c.f-item.result c.in_err-entered.field-0.0 c.loop-f-test.true c.f-item.is c.loop-f.invariant.placed c.in_err-entered.ensures.pressure)
 
 pub push-requires-clause-room : goal.push-requires-clause-room
-push-requires-clause-room c = next_room (EnteredOf c.args.text.now c.args.target) c.args.functions.now _ c.loop-f.f-index c.loop-f-test.true c.requires.few c.loop-f.invariant.entries
+push-requires-clause-room c = omega (arith, next_room (EnteredOf c.args.text.now c.args.target) c.args.functions.now _ c.loop-f.f-index c.loop-f-test.true c.requires.few c.loop-f.invariant.entries)
 
 pub push-requires-clause-new : goal.push-requires-clause-new
 push-requires-clause-new c = next_new (EnteredOf c.args.text.now c.args.target) _ _ (entered_named c.args.text.now c.args.target) c.args.functions.now _ c.loop-f.f-index c.f-item.result c.in_ok-entered.entered.entry c.loop-f-test.true c.f-item.is c.requires.distinct c.loop-f.invariant.entries c.in_ok-entered.ensures.entered

@@ -6,6 +6,6 @@ use Rattle.orcc_top.proofs.library.library_of.Given as goal
 
 abbrev pub invariant-loop-f : goal.invariant-loop-f
 invariant-loop-f l = record {
-  entries : OneForEach (EnteredOf l.text.now l.target) (take l.f-index l.functions) l.library.entries;
+  entries : OneForEach (EnteredOf l.text l.target) (take l.f-index l.functions) l.library.entries;
   placed : first_pressure_in (take l.f-index l.functions) ≡ None;
 }
