@@ -1,10 +1,12 @@
 -- One function more.
-use Rattle.std.proofs.Common.{◌≡◌, ℕ, ◌<◌, Bool, true, false, ◌||◌, List, [], ◌∷◌, ◌++◌, length, map, refl, ap, ◌∙◌, arith, length-append}
+use Rattle.std.proofs.Common.{◌≡◌, ℕ, ◌<◌, Bool, true, false, ◌||◌, Option, List, [], ◌∷◌, ◌++◌, length, map, refl, ap, ◌∙◌, arith, length-append}
 use Rattle.std.specs.List.{list_any}
 use Rattle.std.specs.Str.{bytes_eq}
 use Rattle.std.proofs.lemmas.List.Folds.{list_any-append}
 use Rattle.std.proofs.lemmas.Slice.Eq.{bytes_eq-Decides}
 use Rattle.orc_program.specs.Kept.{all_distinct}
+use Rattle.orc_elf.specs.declared.library.Unwind.{Unwind}
+use Rattle.orc_elf.specs.Library.{IsLibrary}
 use Rattle.orc_elf.specs.Entries.{EntryValue, IsEntry, IsElf, AreEntries, names, is_among}
 
 pub list_any-map : {A B : Type 0} (f : A → B) (p : B → Bool) (xs : List A) → list_any p (map f xs) ≡ list_any (λ x. p (f x)) xs
@@ -40,4 +42,12 @@ elf_pushed fs f i h few new = record {
   few = omega (arith, length-append fs (f ∷ []));
   each = entries_pushed fs f i.each h;
   distinct = rw names_pushed (distinct_pushed (names fs) f.name i.distinct new);
+}
+
+pub library_pushed : (fs : List EntryValue) (us : List (Option Unwind)) (f : EntryValue) (u : Option Unwind) → IsLibrary (record { entries = fs; unwinds = us }) → IsEntry f → length fs < 65 → is_among (names fs) f.name ≡ false → IsLibrary (record { entries = fs ++ f ∷ []; unwinds = us ++ u ∷ [] })
+library_pushed fs us f u i h few new = record {
+  few = omega (arith, length-append fs (f ∷ []));
+  each = entries_pushed fs f i.each h;
+  distinct = rw names_pushed (distinct_pushed (names fs) f.name i.distinct new);
+  paired = omega (arith, i.paired, length-append fs (f ∷ []), length-append us (u ∷ []));
 }

@@ -11,4 +11,6 @@ pub mod HeaderLaws
 pub mod Strings
 pub mod SymbolLaws
 pub mod Laid
+pub mod Known
 pub mod Whole
+pub mod LibraryWhole

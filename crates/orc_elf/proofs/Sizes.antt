@@ -2,9 +2,9 @@
 use Rattle.std.proofs.Common.{◌≡◌, ℕ, ◌+◌, ◌*◌, ◌^◌, ◌<◌, ◌≤◌, List, [], ◌∷◌, ◌++◌, length, refl, arith, length-append}
 use Rattle.std.specs.Prelude.{replicate}
 use Rattle.std.proofs.lemmas.List.{length-replicate}
-use Rattle.orc_elf.specs.declared.section.SectionKind.{SectionKind}
-use Rattle.orc_elf.specs.Entries.{EntryValue, ElfValue, IsElf, AreEntries}
-use Rattle.orc_elf.specs.Layout.{gap, codes_from, symbol_bytes, symbols_from, names_from, code_part, symbol_part, name_part, file_header, header_bytes}
+use Rattle.orc_elf.specs.declared.section.SectionHeader.{SectionHeader}
+use Rattle.orc_elf.specs.Entries.{EntryValue, AreEntries}
+use Rattle.orc_elf.specs.Layout.{gap, codes_from, symbol_bytes, symbols_from, names_from, code_part, name_part, file_header, header_bytes}
 use Rattle.orc_elf.proofs.Written.{name_length}
 
 pub gap_small : (multiple at : ℕ) → 0 < multiple → gap multiple at < multiple
@@ -25,37 +25,37 @@ unfolding names_from
 names_small [] h = omega arith
 names_small (e ∷ es) h = omega (arith, names_small es h.1, (name_length e.name h.0.name).1, length-append e.name (0 ∷ names_from es))
 
-pub symbol_size : (name value size : ℕ) → length (symbol_bytes name value size) ≡ 24
+pub symbol_size : (info name value size : ℕ) → length (symbol_bytes info name value size) ≡ 24
 unfolding symbol_bytes
-symbol_size name value size = refl
+symbol_size info name value size = refl
 
 pub symbols_size : (name at : ℕ) (es : List EntryValue) → length (symbols_from name at es) ≡ 24 * length es
 unfolding symbols_from
 symbols_size name at [] = omega arith
 symbols_size name at (e ∷ es) =
-    let one = symbol_bytes name (at + gap 16 at) (length e.code) in
+    let one = symbol_bytes 0x12 name (at + gap 16 at) (length e.code) in
     let next = symbols_from (name + (length e.name + 1)) (at + gap 16 at + length e.code) es in
-    omega (arith, symbols_size (name + (length e.name + 1)) (at + gap 16 at + length e.code) es, symbol_size name (at + gap 16 at) (length e.code), length-append one next)
+    omega (arith, symbols_size (name + (length e.name + 1)) (at + gap 16 at + length e.code) es, symbol_size 0x12 name (at + gap 16 at) (length e.code), length-append one next)
 
-pub file_header_size : (shoff : ℕ) → length (file_header shoff) ≡ 64
+pub file_header_size : (shoff count : ℕ) → length (file_header shoff count) ≡ 64
 unfolding file_header
-file_header_size shoff = refl
+file_header_size shoff count = refl
 
-pub header_size : (kind : SectionKind) (name offset size : ℕ) → length (header_bytes kind name offset size) ≡ 64
+pub header_size : (h : SectionHeader) → length (header_bytes h) ≡ 64
 unfolding header_bytes
-header_size kind name offset size = refl
+header_size h = refl
 
 -- what is known of the sizes of an object's parts
 pub record AreSmall (es : List EntryValue) : Type 0 where
   pub code : length (code_part es) < 2 ^ 28
-  pub symbols : length (symbol_part es) ≡ 24 * length es + 24
+  pub symbols : length (symbols_from 1 0 es) ≡ 24 * length es
   pub names : length (name_part es) < 2 ^ 13
-  pub few : length es ≤ 64
+  pub few : length es ≤ 65
 
-pub parts_small : (e : ElfValue) → IsElf e → AreSmall e.entries
-parts_small e h = record {
-  code = omega (arith, codes_small 0 e.entries h.each, h.few);
-  symbols = omega (arith, symbols_size 1 0 e.entries, length-append (replicate 24 0) (symbols_from 1 0 e.entries));
-  names = omega (arith, names_small e.entries h.each, h.few);
-  few = h.few;
+pub parts_small : (es : List EntryValue) → AreEntries es → length es ≤ 65 → AreSmall es
+parts_small es each few = record {
+  code = omega (arith, codes_small 0 es each, few);
+  symbols = symbols_size 1 0 es;
+  names = omega (arith, names_small es each, few);
+  few = few;
 }

@@ -44,7 +44,7 @@ next_stands : (bytes : List ℕ) (at name code : ℕ) (e : EntryValue) (es : Lis
     → Stands bytes (at + 24) (name + (length e.name + 1)) (start code + length e.code) es
 unfolding symbols_from names_from codes_from
 next_stands bytes at name code e es s =
-    let one : List ℕ = symbol_bytes name (start code) (length e.code) in
+    let one : List ℕ = symbol_bytes 0x12 name (start code) (length e.code) in
     let later : List ℕ = symbols_from (name + (length e.name + 1)) (start code + length e.code) es in
     let fill : List ℕ = replicate (gap 16 code) 0xcc in
     let codes : List ℕ = codes_from (start code + length e.code) es in
@@ -52,7 +52,7 @@ next_stands bytes at name code e es s =
       front = s.front ++ one;
       back = s.back;
       whole = s.whole ∙ ap (λ t. s.front ++ t) (append_assoc one later s.back) ∙ sym (append_assoc s.front one (later ++ s.back));
-      place = omega (arith, s.place, length-append s.front one, symbol_size name (start code) (length e.code));
+      place = omega (arith, s.place, length-append s.front one, symbol_size 0x12 name (start code) (length e.code));
       names_front = s.names_front ++ (e.name ++ 0 ∷ []);
       names_whole = s.names_whole ∙ ap (λ t. s.names_front ++ t) (sym (append_assoc e.name (0 ∷ []) (names_from es))) ∙ sym (append_assoc s.names_front (e.name ++ 0 ∷ []) (names_from es));
       names_place = omega (arith, s.names_place, length-append s.names_front (e.name ++ 0 ∷ []), length-append e.name (0 ∷ []));
@@ -81,7 +81,7 @@ record Holds (bytes : List ℕ) (at : ℕ) (e : EntryValue) (value : ℕ) : Type
 holds : (bytes : List ℕ) (at name code : ℕ) (e : EntryValue) (es : List EntryValue) → Stands bytes at name code (e ∷ es) → IsEntry e → Holds bytes at e (start code)
 unfolding symbols_from names_from codes_from symbol_bytes number_at name_of
 holds bytes at name code e es s k =
-    let one : List ℕ = symbol_bytes name (start code) (length e.code) in
+    let one : List ℕ = symbol_bytes 0x12 name (start code) (length e.code) in
     let later : List ℕ = symbols_from (name + (length e.name + 1)) (start code + length e.code) es in
     let more : List ℕ = one ++ (later ++ s.back) in
     let fill : List ℕ = replicate (gap 16 code) 0xcc in
@@ -94,7 +94,7 @@ holds bytes at name code e es s k =
     let name_low : name < 2 ^ 32 = omega (arith, s.names_few, ap length s.names_whole, length-append s.names_front (e.name ++ (0 ∷ names_from es)), s.names_place) in
     let named : number_at bytes at 4 ≡ name = number_here bytes s.front more at 4 whole s.place ∙ number_4 name name_low in
     record {
-      there = omega (arith, ap length whole, length-append s.front more, length-append one (later ++ s.back), symbol_size name (start code) (length e.code), s.place);
+      there = omega (arith, ap length whole, length-append s.front more, length-append one (later ++ s.back), symbol_size 0x12 name (start code) (length e.code), s.place);
       info = n 4 1;
       other = n 5 1;
       section = n 6 2;

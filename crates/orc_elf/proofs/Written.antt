@@ -43,11 +43,11 @@ all_codes out es i total le so_far = sym (append-nil out) ∙ ap (λ xs. out ++ 
 -- ---- symbols
 
 pub one_more_symbol : (out : List ℕ) (es : List EntryValue) (i name at : ℕ) (e : EntryValue) (grown total : List ℕ) → i < length es → e ≡ get_or es i e
-    → grown ≡ out ++ symbol_bytes name (at + gap 16 at) (length e.code)
+    → grown ≡ out ++ symbol_bytes 0x12 name (at + gap 16 at) (length e.code)
     → out ++ symbols_from name at (drop i es) ≡ total → grown ++ symbols_from (name + (length e.name + 1)) (at + gap 16 at + length e.code) (drop (i + 1) es) ≡ total
 unfolding symbols_from
 one_more_symbol out es i name at e grown total lt is g so_far =
-    let one = symbol_bytes name (at + gap 16 at) (length e.code) in
+    let one = symbol_bytes 0x12 name (at + gap 16 at) (length e.code) in
     let more = symbols_from (name + (length e.name + 1)) (at + gap 16 at + length e.code) (drop (i + 1) es) in
     let step : out ++ symbols_from name at (drop i es) ≡ out ++ (one ++ more) = ap (λ xs. out ++ symbols_from name at xs) (first_left es i e lt is) in
     ap (λ t. t ++ more) g ∙ append_assoc out one more ∙ sym step ∙ so_far

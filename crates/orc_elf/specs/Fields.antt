@@ -63,15 +63,16 @@ file_kind bytes =
     ∷ exact bytes 32 8 0  -- e_phoff
     ∷ []
 
-unfoldable pub file_sizes : List ℕ → List Field
-file_sizes bytes =
+-- where the section headers are, and how many
+unfoldable pub file_sizes : ℕ → List ℕ → List Field
+file_sizes count bytes =
     up_to bytes 40 8 (2 ^ 32 - 1)  -- e_shoff
     ∷ exact bytes 48 4 0  -- e_flags
     ∷ exact bytes 52 2 64  -- e_ehsize
     ∷ exact bytes 54 2 0  -- e_phentsize
     ∷ exact bytes 56 2 0  -- e_phnum
     ∷ exact bytes 58 2 64  -- e_shentsize
-    ∷ exact bytes 60 2 5  -- e_shnum
+    ∷ exact bytes 60 2 count  -- e_shnum
     ∷ exact bytes 62 2 4  -- e_shstrndx
     ∷ []
 
@@ -114,20 +115,23 @@ null_header bytes at =
 abbrev pub is_size : SectionKind → ℕ → Bool
 is_size kind n = if kind.entry_size == 24 then n % 24 == 0 && (nat_le 24 n && nat_le n 1560) else nat_lt n (2 ^ 32)
 
--- the header of a section of this kind, at an offset
-unfoldable pub section_header : List ℕ → SectionKind → ℕ → List Field
-section_header bytes kind at =
+-- the header of a section of this kind, at an offset, with a size that fits
+abbrev pub header_fields : List ℕ → SectionKind → (ℕ → Bool) → ℕ → List Field
+header_fields bytes kind fits at =
     free at 4  -- sh_name
     ∷ exact bytes (at + 4) 4 kind.kind  -- sh_type
     ∷ exact bytes (at + 8) 8 kind.flags  -- sh_flags
     ∷ exact bytes (at + 16) 8 0  -- sh_addr
     ∷ up_to bytes (at + 24) 8 (2 ^ 32 - 1)  -- sh_offset
-    ∷ record { at = at + 32; size = 8; allowed = is_size kind (number_at bytes (at + 32) 8) }  -- sh_size
+    ∷ record { at = at + 32; size = 8; allowed = fits (number_at bytes (at + 32) 8) }  -- sh_size
     ∷ exact bytes (at + 40) 4 kind.link  -- sh_link
     ∷ exact bytes (at + 44) 4 kind.info  -- sh_info
     ∷ exact bytes (at + 48) 8 kind.align  -- sh_addralign
     ∷ exact bytes (at + 56) 8 kind.entry_size  -- sh_entsize
     ∷ []
+
+unfoldable pub section_header : List ℕ → SectionKind → ℕ → List Field
+section_header bytes kind at = header_fields bytes kind (is_size kind) at
 
 -- the contents of section k, which lie within the bytes
 abbrev pub within : List ℕ → ℕ → Field
@@ -210,7 +214,7 @@ unfoldable pub fields : List ℕ → List Field
 fields bytes =
     identification bytes
     ++ (file_kind bytes
-    ++ (file_sizes bytes
+    ++ (file_sizes 5 bytes
     ++ (headers bytes
     ++ (insides bytes
     ++ symbols bytes [] (offset_of bytes 2 + 24) (count_of bytes)))))

@@ -3,3 +3,5 @@ pub mod Sections
 pub mod Fields
 pub mod Told
 pub mod Layout
+pub mod Library
+pub mod LibraryFields

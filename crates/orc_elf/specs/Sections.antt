@@ -16,3 +16,11 @@ symtab = record { kind = 2; flags = 0; link = 3; info = 1; align = 8; entry_size
 -- .strtab and .shstrtab: SHT_STRTAB
 abbrev pub strtab : SectionKind
 strtab = record { kind = 3; flags = 0; link = 0; info = 0; align = 1; entry_size = 0 }
+
+-- .symtab of a library: the first symbol that isn't local is symbol 2
+abbrev pub library_symtab : SectionKind
+library_symtab = record { kind = 2; flags = 0; link = 3; info = 2; align = 8; entry_size = 24 }
+
+-- .note.GNU-stack: SHT_PROGBITS without SHF_EXECINSTR, which says that no executable stack is wanted
+abbrev pub no_stack : SectionKind
+no_stack = record { kind = 1; flags = 0; link = 0; info = 0; align = 1; entry_size = 0 }

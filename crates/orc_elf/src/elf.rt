@@ -76,7 +76,7 @@ fn has_name(e: &ElfEntry, name: &[u8]) -> bool
 }
 
 /// Whether one of the functions has this name.
-fn any_has_name(entries: &[ElfEntry], name: &[u8]) -> bool
+pub fn any_has_name(entries: &[ElfEntry], name: &[u8]) -> bool
     ensures { result ≡ list_any (λ e. bytes_eq name.now e.name) entries.now }
 {
     entries.iter().any(|e| has_name(e, name))

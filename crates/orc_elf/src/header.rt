@@ -40,7 +40,7 @@ pub fn file_kind(bytes: &[u8]) -> Result<(), ElfError>
 /// e_shoff to e_shstrndx: where the section headers stand.
 #[tactic(auto, unfolding(crate::specs::Fields::file_sizes))]
 pub fn file_sizes(bytes: &[u8]) -> Result<usize, ElfError>
-    ensures told { refusal_in result ≡ first_refused bytes.now (file_sizes bytes.now) }
+    ensures told { refusal_in result ≡ first_refused bytes.now (file_sizes 5 bytes.now) }
     ensures value { IfOk result (λ x. (x ≡ headers_at bytes.now) × (x < 2 ^ 32)) }
 {
     let shoff = up_to(bytes, 40, 8, MOST)?;

@@ -9,6 +9,8 @@ mod elf;
 mod error;
 mod field;
 mod header;
+mod library;
+mod library_object;
 mod number;
 mod reading;
 mod section;
@@ -16,5 +18,7 @@ mod writing;
 
 pub use elf::{ElfCode, ElfEntries, ElfEntry};
 pub use error::ElfError;
+pub use library::{Library, Unwind, Unwinds};
+pub use library_object::write_library;
 pub use reading::{one_object, read_elf};
 pub use writing::write_elf;

@@ -47,6 +47,26 @@ pub const SYMTAB: SectionKind = SectionKind {
     entry_size: 24,
 };
 
+/// Symbols of a library. The first that is not local is symbol 2.
+pub const LIBRARY_SYMTAB: SectionKind = SectionKind {
+    kind: 2,
+    flags: 0,
+    link: 3,
+    info: 2,
+    align: 8,
+    entry_size: 24,
+};
+
+/// .note.GNU-stack: SHT_PROGBITS without SHF_EXECINSTR.
+pub const NO_STACK: SectionKind = SectionKind {
+    kind: 1,
+    flags: 0,
+    link: 0,
+    info: 0,
+    align: 1,
+    entry_size: 0,
+};
+
 /// Names: SHT_STRTAB.
 pub const STRTAB: SectionKind = SectionKind {
     kind: 3,
@@ -77,4 +97,15 @@ pub struct Places {
     pub names: Place,
     /// The names of the sections.
     pub section_names: Place,
+}
+
+/// A section's header.
+#[derive(Clone, Copy)]
+pub struct SectionHeader {
+    /// The section's kind.
+    pub kind: SectionKind,
+    /// sh_name, the offset of its name in section 4.
+    pub name: u32,
+    /// Where its contents stand.
+    pub place: Place,
 }

@@ -5,13 +5,13 @@ ghost use Rattle.std.specs.Int.{w16, w32, w64, to_le_bytes};
 ghost use Rattle.orc_elf.specs.Entries.{IsElf, IsEntry, AreEntries};
 ghost use Rattle.orc_elf.specs.Sections.{null, text, symtab, strtab};
 ghost use Rattle.orc_elf.specs.Fields.{ElfGives};
-ghost use Rattle.orc_elf.specs.Layout.{gap, aligned, spelling, codes_from, symbol_bytes, symbols_from, names_from};
-ghost use Rattle.orc_elf.specs.Layout.{code_part, symbol_part, name_part, section_names, places, end_of, places_of};
-ghost use Rattle.orc_elf.specs.Layout.{file_header, header_bytes, headers_part, assembled, object_bytes};
+ghost use Rattle.orc_elf.specs.Layout.{gap, aligned, padded, spelling, codes_from, symbol_bytes, symbols_from, names_from};
+ghost use Rattle.orc_elf.specs.Layout.{code_part, symbol_part, name_part, contents_part, section_names, places};
+ghost use Rattle.orc_elf.specs.Layout.{places_of, file_header, header_bytes, headers_part, headers_of, assembled, object_bytes};
 
 use crate::elf::{ElfCode, ElfEntry};
 use crate::number::{Number, put_number};
-use crate::section::{NULL, Place, Places, STRTAB, SYMTAB, SectionKind, TEXT};
+use crate::section::{NULL, Place, Places, STRTAB, SYMTAB, SectionHeader, SectionKind, TEXT};
 use std::alloc::{AllocError, Global};
 
 /// The names of the sections.
@@ -19,7 +19,7 @@ const SECTION_NAMES: &[u8] = b"\0.text\0.symtab\0.strtab\0.shstrtab\0";
 
 /// How far it is from an offset to the next multiple.
 #[tactic(auto, unfolding(crate::specs::Layout::gap))]
-fn gap(multiple: usize, at: usize) -> usize
+pub fn gap(multiple: usize, at: usize) -> usize
     requires { (0 < multiple) × (multiple ≤ 16) }
     ensures gap { result ≡ gap multiple at }
     ensures small { result < multiple }
@@ -37,7 +37,7 @@ fn pad(out: &mut Vec<u8>, multiple: usize, byte: u8) -> Result<(), AllocError>
 }
 
 /// Appends numbers, lowest byte first.
-fn put(out: &mut Vec<u8>, numbers: &[Number]) -> Result<(), AllocError>
+pub fn put(out: &mut Vec<u8>, numbers: &[Number]) -> Result<(), AllocError>
     ensures { OnOk result (out.new.items ≡ out.old.items ++ spelling numbers.now) }
 {
     for n in numbers {
@@ -46,11 +46,11 @@ fn put(out: &mut Vec<u8>, numbers: &[Number]) -> Result<(), AllocError>
     Ok(())
 }
 
-/// Appends the file header, where the section headers stand at this offset (System V gABI, chapter 4, "ELF Header",
+/// Appends the file header, where so many section headers stand at this offset (System V gABI, chapter 4, "ELF Header",
 /// Elf64_Ehdr).
 #[tactic(auto, unfolding(crate::specs::Layout::file_header))]
-fn put_file_header(out: &mut Vec<u8>, headers: usize) -> Result<(), AllocError>
-    ensures { OnOk result (out.new.items ≡ out.old.items ++ file_header headers) }
+fn put_file_header(out: &mut Vec<u8>, headers: usize, count: u16) -> Result<(), AllocError>
+    ensures { OnOk result (out.new.items ≡ out.old.items ++ file_header headers count) }
 {
     put(
         out,
@@ -76,7 +76,7 @@ fn put_file_header(out: &mut Vec<u8>, headers: usize) -> Result<(), AllocError>
             Number::Half(0),
             Number::Half(0),
             Number::Half(64),
-            Number::Half(5),
+            Number::Half(count),
             Number::Half(4),
         ],
     )
@@ -84,14 +84,10 @@ fn put_file_header(out: &mut Vec<u8>, headers: usize) -> Result<(), AllocError>
 
 /// Appends a section header (System V gABI, chapter 4, "Sections", Elf64_Shdr).
 #[tactic(auto, unfolding(crate::specs::Layout::header_bytes))]
-fn put_header(
-    out: &mut Vec<u8>,
-    kind: &SectionKind,
-    name: u32,
-    place: Place,
-) -> Result<(), AllocError>
-    ensures { OnOk result (out.new.items ≡ out.old.items ++ header_bytes kind.now name place.offset place.size) }
+fn put_header(out: &mut Vec<u8>, header: &SectionHeader) -> Result<(), AllocError>
+    ensures { OnOk result (out.new.items ≡ out.old.items ++ header_bytes header.now) }
 {
+    let SectionHeader { kind, name, place } = *header;
     put(
         out,
         &[
@@ -112,17 +108,23 @@ fn put_header(
     )
 }
 
-/// Appends a symbol (System V gABI, chapter 4, "Symbol Table", Elf64_Sym): a global function in section 1.
+/// Appends a symbol of section 1 (System V gABI, chapter 4, "Symbol Table", Elf64_Sym), where `info` is its st_info.
 #[tactic(auto, unfolding(crate::specs::Layout::symbol_bytes))]
-fn put_symbol(out: &mut Vec<u8>, name: u32, value: usize, size: usize) -> Result<(), AllocError>
-    ensures { OnOk result (out.new.items ≡ out.old.items ++ symbol_bytes name value size) }
+pub fn put_symbol(
+    out: &mut Vec<u8>,
+    info: u8,
+    name: u32,
+    value: usize,
+    size: usize,
+) -> Result<(), AllocError>
+    ensures { OnOk result (out.new.items ≡ out.old.items ++ symbol_bytes info name value size) }
 {
     put(
         out,
         &[
             // st_name, st_info, st_other, st_shndx
             Number::Word(name),
-            Number::Byte(0x12),
+            Number::Byte(info),
             Number::Byte(0),
             Number::Half(1),
             // st_value, st_size
@@ -133,7 +135,7 @@ fn put_symbol(out: &mut Vec<u8>, name: u32, value: usize, size: usize) -> Result
 }
 
 /// The contents of section 1: the codes, each at a multiple of 16.
-fn code_part(alloc: Global, entries: &[ElfEntry]) -> Result<Vec<u8>, AllocError>
+pub fn code_part(alloc: Global, entries: &[ElfEntry]) -> Result<Vec<u8>, AllocError>
     ensures { IfOk result (λ v. v.items ≡ code_part entries.now) }
 {
     let mut out = Vec::new(alloc);
@@ -144,26 +146,35 @@ fn code_part(alloc: Global, entries: &[ElfEntry]) -> Result<Vec<u8>, AllocError>
     Ok(out)
 }
 
-/// The contents of section 2: the symbols.
-fn symbol_part(alloc: Global, entries: &[ElfEntry]) -> Result<Vec<u8>, AllocError>
-    requires { length entries.now ≤ 64 }
-    ensures { IfOk result (λ v. v.items ≡ symbol_part entries.now) }
+/// Appends the symbols of functions: STB_GLOBAL and STT_FUNC.
+pub fn put_symbols(out: &mut Vec<u8>, entries: &[ElfEntry]) -> Result<(), AllocError>
+    requires { length entries.now ≤ 65 }
+    ensures { OnOk result (out.new.items ≡ out.old.items ++ symbols_from 1 0 entries.now) }
 {
-    let mut out = Vec::from_slice(alloc, &[0; 24])?;
     let mut name = 1;
     let mut at = 0;
     for e in entries {
         at += gap(16, at);
         let size = e.code_bytes().len();
-        put_symbol(&mut out, name, at, size)?;
+        put_symbol(out, 0x12, name, at, size)?;
         name += e.name_bytes().len() as u32 + 1;
         at += size;
     }
+    Ok(())
+}
+
+/// The contents of section 2: the symbols, behind STN_UNDEF.
+fn symbol_part(alloc: Global, entries: &[ElfEntry]) -> Result<Vec<u8>, AllocError>
+    requires { length entries.now ≤ 64 }
+    ensures { IfOk result (λ v. v.items ≡ symbol_part entries.now) }
+{
+    let mut out = Vec::from_slice(alloc, &[0; 24])?;
+    put_symbols(&mut out, entries)?;
     Ok(out)
 }
 
 /// The contents of section 3: the names.
-fn name_part(alloc: Global, entries: &[ElfEntry]) -> Result<Vec<u8>, AllocError>
+pub fn name_part(alloc: Global, entries: &[ElfEntry]) -> Result<Vec<u8>, AllocError>
     ensures { IfOk result (λ v. v.items ≡ name_part entries.now) }
 {
     let mut out = Vec::new(alloc);
@@ -175,16 +186,35 @@ fn name_part(alloc: Global, entries: &[ElfEntry]) -> Result<Vec<u8>, AllocError>
     Ok(out)
 }
 
-/// Where the sections stand, where the first three have these sizes.
+/// The contents of sections 1 to 4, one after the other.
+pub fn contents_part(
+    alloc: Global,
+    code: &[u8],
+    symbols: &[u8],
+    names: &[u8],
+    section_names: &[u8],
+) -> Result<Vec<u8>, AllocError>
+    ensures { IfOk result (λ v. v.items ≡ contents_part code.now symbols.now names.now section_names.now) }
+{
+    let mut out = Vec::from_slice(alloc, code)?;
+    pad(&mut out, 8, 0)?;
+    out.extend_from_slice(symbols)?;
+    out.extend_from_slice(names)?;
+    out.extend_from_slice(section_names)?;
+    pad(&mut out, 8, 0)?;
+    Ok(out)
+}
+
+/// Where the contents of sections 1 to 4 stand, where they have these sizes.
 #[tactic(auto, unfolding(crate::specs::Layout::places))]
-fn places(code: usize, symbols: usize, names: usize) -> Places
+pub fn places(code: usize, symbols: usize, names: usize, section_names: usize) -> Places
     requires code_in { code < 2 ^ 28 }
     requires symbols_in { symbols < 2 ^ 12 }
     requires names_in { names < 2 ^ 13 }
-    ensures places { result ≡ places code symbols names }
-    ensures low { end_of result < 2 ^ 30 }
+    ensures places { result ≡ places code symbols names section_names }
+    ensures low { result.section_names.offset < 2 ^ 30 }
 {
-    let symbols_at = 64 + code + gap(8, 64 + code);
+    let symbols_at = 64 + code + gap(8, code);
     let names_at = symbols_at + symbols;
     Places {
         code: Place {
@@ -201,43 +231,66 @@ fn places(code: usize, symbols: usize, names: usize) -> Places
         },
         section_names: Place {
             offset: names_at + names,
-            size: SECTION_NAMES.len(),
+            size: section_names,
         },
     }
 }
 
-/// Appends the section headers.
-#[tactic(auto, unfolding(crate::specs::Layout::headers_part))]
-fn put_headers(out: &mut Vec<u8>, p: &Places) -> Result<(), AllocError>
-    ensures { OnOk result (out.new.items ≡ out.old.items ++ headers_part p.now) }
+/// A section's header.
+pub fn header(kind: SectionKind, name: u32, place: Place) -> SectionHeader
+    ensures { result ≡ record { kind = kind; name = name; place = place } }
 {
-    put_header(out, &NULL, 0, Place { offset: 0, size: 0 })?;
-    put_header(out, &TEXT, 1, p.code)?;
-    put_header(out, &SYMTAB, 7, p.symbols)?;
-    put_header(out, &STRTAB, 15, p.names)?;
-    put_header(out, &STRTAB, 23, p.section_names)
+    SectionHeader { kind, name, place }
 }
 
-/// The parts of an object whose first three sections have these contents, one after the other.
-fn assemble(alloc: Global, code: &[u8], symbols: &[u8], names: &[u8]) -> Result<Vec<u8>, AllocError>
+/// The headers of sections 0 to 4, where section 2 is of this kind.
+pub fn headers_of(symbols: SectionKind, p: &Places) -> [SectionHeader; 5]
+    ensures { result ≡ headers_of symbols p.now }
+{
+    [
+        header(NULL, 0, Place { offset: 0, size: 0 }),
+        header(TEXT, 1, p.code),
+        header(symbols, 7, p.symbols),
+        header(STRTAB, 15, p.names),
+        header(STRTAB, 23, p.section_names),
+    ]
+}
+
+/// An object whose sections have these contents, one after the other, and these headers.
+#[tactic(auto, unfolding(crate::specs::Layout::assembled))]
+pub fn assemble(
+    alloc: Global,
+    contents: &[u8],
+    headers: &[SectionHeader],
+) -> Result<Vec<u8>, AllocError>
+    requires { length headers.now < 2 ^ 16 }
+    ensures { IfOk result (λ v. v.items ≡ assembled contents.now headers.now) }
+{
+    let mut out = Vec::new(alloc);
+    put_file_header(&mut out, 64 + contents.len(), headers.len() as u16)?;
+    out.extend_from_slice(contents)?;
+    for header in headers {
+        put_header(&mut out, header)?;
+    }
+    Ok(out)
+}
+
+/// An object whose sections 1 to 3 have these contents.
+fn assemble_parts(
+    alloc: Global,
+    code: &[u8],
+    symbols: &[u8],
+    names: &[u8],
+) -> Result<Vec<u8>, AllocError>
     requires code_in { length code.now < 2 ^ 28 }
     requires symbols_in { length symbols.now < 2 ^ 12 }
     requires names_in { length names.now < 2 ^ 13 }
-    ensures { IfOk result (λ v. v.items
-        ≡ assembled (places (length code.now) (length symbols.now) (length names.now)) code.now symbols.now names.now) }
+    ensures { IfOk result (λ v. v.items ≡ assembled (contents_part code.now symbols.now names.now section_names)
+        (headers_of symtab (places (length code.now) (length symbols.now) (length names.now) 33))) }
 {
-    let p = places(code.len(), symbols.len(), names.len());
-    let end = p.section_names.offset + SECTION_NAMES.len();
-    let mut out = Vec::new(alloc);
-    put_file_header(&mut out, end + gap(8, end))?;
-    out.extend_from_slice(code)?;
-    pad(&mut out, 8, 0)?;
-    out.extend_from_slice(symbols)?;
-    out.extend_from_slice(names)?;
-    out.extend_from_slice(SECTION_NAMES)?;
-    pad(&mut out, 8, 0)?;
-    put_headers(&mut out, &p)?;
-    Ok(out)
+    let p = places(code.len(), symbols.len(), names.len(), SECTION_NAMES.len());
+    let contents = contents_part(alloc, code, symbols, names, SECTION_NAMES)?;
+    assemble(alloc, contents.as_slice(), &headers_of(SYMTAB, &p))
 }
 
 /// The bytes of an ELF64 relocatable object for x86-64 with these functions, each a global symbol of its name (System V
@@ -257,5 +310,5 @@ pub fn write_elf(alloc: Global, e: &ElfCode) -> Result<Vec<u8>, AllocError>
     let code = code_part(alloc, entries)?;
     let symbols = symbol_part(alloc, entries)?;
     let names = name_part(alloc, entries)?;
-    assemble(alloc, code.as_slice(), symbols.as_slice(), names.as_slice())
+    assemble_parts(alloc, code.as_slice(), symbols.as_slice(), names.as_slice())
 }

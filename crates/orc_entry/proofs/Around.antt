@@ -89,3 +89,10 @@ module _ (f : FunctionValue) (longs : List Bool) (target : Target) (code : List 
       let one : length code ≡ length body + 1 = ap length ends.1 ∙ length-append body (spelling Ret) in
       let long : length entry.code ≡ length first + (length body + (length last + 1)) = ap length there.code ∙ length-append first (body ++ (last ++ spelling Ret)) ∙ ap (λ n. length first + n) (length-append body (last ++ spelling Ret) ∙ ap (λ n. length body + n) (length-append last (spelling Ret))) in
       (omega (arith, long), omega (arith, long, one, few, entry_size f longs (small f is), exit_size f (small f is)))
+
+  pub has_inside : (entry.body ≤ entry.exit) × (entry.exit ≤ length entry.code)
+  has_inside =
+      let first = spell_all (entry_code f longs) in
+      let behind = spell_all (exit_code f) ++ spelling Ret in
+      let long : length entry.code ≡ length first + (length body + length behind) = ap length there.code ∙ length-append first (body ++ behind) ∙ ap (λ n. length first + n) (length-append body behind) in
+      (omega (arith, there.ends), omega (arith, there.begins, there.ends, long))

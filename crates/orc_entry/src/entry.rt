@@ -70,6 +70,7 @@ pub fn entry_for(
     ensures surrounds { IfOk result (λ entry. Surrounds f.now longs.now target entry) }
     ensures target { IfOk result (λ entry. HasOnly target entry.code) }
     ensures bytes { IfOk result (λ entry. (1 ≤ length entry.code) × (length entry.code ≤ 1048576)) }
+    ensures inside { IfOk result (λ entry. (entry.body ≤ entry.exit) × (entry.exit ≤ length entry.code)) }
     ensures few { OnOk result (first_pressure f.now ≡ None) }
     ensures refusal { IfErr result (λ e. IsRefusal f.now e) }
 {

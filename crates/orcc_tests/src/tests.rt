@@ -1,3 +1,4 @@
+mod entries;
 mod failures;
 mod far;
 mod hostile;

@@ -5,7 +5,7 @@ use Rattle.std.proofs.lemmas.Bool.{lt-ltb, cases_eq}
 use Rattle.orc_ops.specs.declared.target.Target.{Target}
 use Rattle.orc_ops.specs.declared.target.Target.TheVariants as target
 use Rattle.orcc_top.specs.declared.command.Command.{Command}
-use Rattle.orcc_top.specs.declared.command.Command.TheVariants.{Asm, C, Check, Fmt, Run, Dis, Emulate, Obj, Jobs}
+use Rattle.orcc_top.specs.declared.command.Command.TheVariants.{Asm, C, Check, Fmt, Run, Dis, Emulate, Obj, Header, Lib, Jobs}
 use Rattle.orcc_top.specs.declared.refusal.Refusal.{Refusal}
 use Rattle.orcc_top.specs.declared.refusal.Refusal.TheVariants.{TooLong}
 use Rattle.orcc_top.specs.declared.workers.Workers.{Workers}
@@ -23,7 +23,7 @@ abbrev target_at : ℕ → Target
 target_at b = if b == 52 then target.Sse41 else target.Sse2
 
 abbrev command_at : Command → ℕ → ℕ → ℕ → ℕ → Command
-command_at shared b next fourth sixth = if b == 97 then Asm (target_at fourth) else (if b == 99 then (if next == 104 then Check (target_at sixth) else C) else (if b == 102 then Fmt else (if b == 100 then Dis else (if b == 114 then Run else (if b == 111 then Obj else (if b == 101 then Emulate else shared))))))
+command_at shared b next fourth sixth = if b == 97 then Asm (target_at fourth) else (if b == 99 then (if next == 104 then Check (target_at sixth) else C) else (if b == 102 then Fmt else (if b == 100 then Dis else (if b == 114 then Run else (if b == 111 then Obj else (if b == 101 then Emulate else (if b == 104 then Header else (if b == 108 then Lib (target_at fourth) else shared))))))))
 
 abbrev command_by : Command → List Word → Command
 command_by shared words = command_at shared (byte_at 0 words) (byte_at 1 words) (byte_at 3 words) (byte_at 5 words)
@@ -39,6 +39,9 @@ told_by Run = refl
 told_by Dis = refl
 told_by Emulate = refl
 told_by Obj = refl
+told_by Header = refl
+told_by (Lib target.Sse2) = refl
+told_by (Lib target.Sse41) = refl
 told_by (Jobs w) = refl
 
 -- the words of `jobs` begin with a byte of its own
@@ -53,6 +56,9 @@ workers_in Run e = absurd (omega (arith, e))
 workers_in Dis e = absurd (omega (arith, e))
 workers_in Emulate e = absurd (omega (arith, e))
 workers_in Obj e = absurd (omega (arith, e))
+workers_in Header e = absurd (omega (arith, e))
+workers_in (Lib target.Sse2) e = absurd (omega (arith, e))
+workers_in (Lib target.Sse41) e = absurd (omega (arith, e))
 workers_in (Jobs w) e = (w, refl)
 
 same_jobs : (v w : Workers) → words_of (Jobs v) ≡ words_of (Jobs w) → Jobs v ≡ Jobs w
@@ -70,6 +76,9 @@ others_told Run d n = refl
 others_told Dis d n = refl
 others_told Emulate d n = refl
 others_told Obj d n = refl
+others_told Header d n = refl
+others_told (Lib target.Sse2) d n = refl
+others_told (Lib target.Sse41) d n = refl
 others_told (Jobs w) d n = absurd (n refl)
 
 one_command : (a b : Command) → words_of a ≡ words_of b → a ≡ b

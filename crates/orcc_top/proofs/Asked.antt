@@ -3,8 +3,8 @@ use Rattle.std.proofs.Common.{◌≡◌, ℕ, List, length, sym, ap, ◌∙◌, 
 use Rattle.orc_ops.specs.declared.target.Target.{Target}
 use Rattle.orc_ops.specs.declared.target.Target.TheVariants as target
 use Rattle.orcc_top.specs.declared.command.Command.{Command}
-use Rattle.orcc_top.specs.declared.command.Command.TheVariants.{Asm, C, Check, Fmt, Run, Dis, Emulate, Obj, Jobs}
-use Rattle.orcc_top.specs.Commands.{Word, asm_word, check_word, words_of, gen_words}
+use Rattle.orcc_top.specs.declared.command.Command.TheVariants.{Asm, C, Check, Fmt, Run, Dis, Emulate, Obj, Header, Lib, Jobs}
+use Rattle.orcc_top.specs.Commands.{Word, asm_word, check_word, lib_word, words_of, gen_words}
 
 -- they are one word, or three
 not_two : (c : Command) → length (words_of c) ≡ 2 → ⊥
@@ -16,6 +16,8 @@ not_two Run e = omega (arith, e)
 not_two Dis e = omega (arith, e)
 not_two Emulate e = omega (arith, e)
 not_two Obj e = omega (arith, e)
+not_two Header e = omega (arith, e)
+not_two (Lib target) e = omega (arith, e)
 not_two (Jobs w) e = omega (arith, e)
 
 pub not_both : (words : List Word) (c : Command) (seed : ℕ) → words ≡ words_of c → words ≡ gen_words seed → ⊥
@@ -29,3 +31,7 @@ no_asm word first second target.Sse41 e = second e
 pub no_check : (word : Word) → (word ≡ check_word target.Sse2 → ⊥) → (word ≡ check_word target.Sse41 → ⊥) → (t : Target) → word ≡ check_word t → ⊥
 no_check word first second target.Sse2 e = first e
 no_check word first second target.Sse41 e = second e
+
+pub no_lib : (word : Word) → (word ≡ lib_word target.Sse2 → ⊥) → (word ≡ lib_word target.Sse41 → ⊥) → (t : Target) → word ≡ lib_word t → ⊥
+no_lib word first second target.Sse2 e = first e
+no_lib word first second target.Sse41 e = second e

@@ -39,7 +39,7 @@ each_and_one R xs ys x y all one = each_appended R xs (x ∷ []) ys (y ∷ []) a
 abbrev pub AreNamed : {A B : Type 0} → (A → B → Type 0) → (A → List ℕ) → (B → List ℕ) → Type 0
 AreNamed {A = A} {B = B} R named called = (x : A) (y : B) → R x y → called y ≡ named x
 
-names_kept : {A B : Type 0} (R : A → B → Type 0) (named : A → List ℕ) (called : B → List ℕ) (same : AreNamed R named called) (xs : List A) (ys : List B) → OneForEach R xs ys → map called ys ≡ map named xs
+pub names_kept : {A B : Type 0} (R : A → B → Type 0) (named : A → List ℕ) (called : B → List ℕ) (same : AreNamed R named called) (xs : List A) (ys : List B) → OneForEach R xs ys → map called ys ≡ map named xs
 names_kept R named called same [] [] all = refl
 names_kept R named called same [] (b ∷ ys) all = absurd all
 names_kept R named called same (a ∷ xs) [] all = absurd all

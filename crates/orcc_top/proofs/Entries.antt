@@ -14,10 +14,14 @@ use Rattle.orc_plan.specs.declared.steps.Pressure.{Pressure}
 use Rattle.orc_asm.specs.declared.refusal.AsmError.{AsmError}
 use Rattle.orc_asm.specs.declared.refusal.AsmError.TheVariants as refusal
 use Rattle.orc_asm.specs.Function.{first_pressure, IsRefusal}
-use Rattle.orc_elf.specs.Entries.{EntryValue}
+use Rattle.x86_ins.specs.declared.ins.Ins.TheVariants.{Ret}
+use Rattle.x86_ins.specs.Spelling.{spelling}
+use Rattle.orc_program.specs.Words.{is_name}
+use Rattle.orc_elf.specs.Entries.{EntryValue, IsEntry}
 use Rattle.orc_image.specs.Spelling as image
 use Rattle.orcc_top.specs.Assembly.{EntryOf, version_of, first_pressure_in, TellsPressure}
 use Rattle.orcc_top.specs.Objects.{CompiledOf, uncounted}
+use Rattle.orcc_top.specs.Libraries.{EnteredOf}
 use Rattle.orcc_top.proofs.Each.{AreNamed, parted, one_further}
 
 -- ---- what a function and a program keep
@@ -62,6 +66,14 @@ entry_named target f e one = one.name
 pub compiled_named : AreNamed CompiledOf (λ f. f.name) (λ e. e.name)
 compiled_named f e one = one.name
 
+pub entered_named : (text : List ℕ) (target : Target) → AreNamed (EnteredOf text target) (λ f. f.name) (λ e. e.name)
+entered_named text target f e one = one.name
+
+-- a function that returns at once
+pub ret_entry : (name code : List ℕ) → is_name name ≡ true → code ≡ spelling Ret → IsEntry (record { name = name; code = code })
+unfolding spelling
+ret_entry name code named is = let one : length code ≡ 1 = ap length is in record { name = named; some_code = omega (arith, one); few_code = omega (arith, one) }
+
 abbrev pub Uncounts : EntryValue → image.FunctionValue → Type 0
 Uncounts e f = f ≡ uncounted e
 
@@ -99,8 +111,16 @@ pub placed_further : (fs : List FunctionValue) (i : ℕ) (f : FunctionValue) →
 placed_further fs i f lt is none few =
     ap first_pressure_in (one_further fs i f lt is) ∙ pressure_then (take i fs) (f ∷ []) none ∙ ap (λ o. option_or o None) few
 
+-- what refuses a function tells its first pressure
+pub refusal_tells : (f : FunctionValue) (r : AsmError) → IsRefusal f r → TellsPressure (first_pressure f) r
+refusal_tells f (refusal.Pressure line need) h = h
+refusal_tells f refusal.Memory h = tt
+
 -- the next function has the first instruction that needs too many values, if it has one
-pub tells_next : (fs : List FunctionValue) (i : ℕ) (f : FunctionValue) (r : AsmError) → i < length fs → f ≡ get_or fs i f → first_pressure_in (take i fs) ≡ None → IsRefusal f r → TellsPressure (first_pressure_in fs) r
-tells_next fs i f (refusal.Pressure line need) lt is none h =
+pub tells_further : (fs : List FunctionValue) (i : ℕ) (f : FunctionValue) (r : AsmError) → i < length fs → f ≡ get_or fs i f → first_pressure_in (take i fs) ≡ None → TellsPressure (first_pressure f) r → TellsPressure (first_pressure_in fs) r
+tells_further fs i f (refusal.Pressure line need) lt is none h =
     ap first_pressure_in (parted fs i f lt) ∙ pressure_then (take i fs) (get_or fs i f ∷ drop (suc i) fs) none ∙ ap (λ o. option_or o (first_pressure_in (drop (suc i) fs))) (ap first_pressure (sym is) ∙ h)
-tells_next fs i f refusal.Memory lt is none h = tt
+tells_further fs i f refusal.Memory lt is none h = tt
+
+pub tells_next : (fs : List FunctionValue) (i : ℕ) (f : FunctionValue) (r : AsmError) → i < length fs → f ≡ get_or fs i f → first_pressure_in (take i fs) ≡ None → IsRefusal f r → TellsPressure (first_pressure_in fs) r
+tells_next fs i f r lt is none h = tells_further fs i f r lt is none (refusal_tells f r h)

@@ -8,7 +8,7 @@ use Rattle.orc_program.proofs.Near.{no_line}
 use Rattle.orc_plan.specs.declared.steps.Pressure.{Pressure}
 use Rattle.orc_text.specs.Reads.{Reads, text_program}
 use Rattle.orcc_top.specs.declared.assembly.Form.{Form}
-use Rattle.orcc_top.specs.declared.assembly.Form.TheVariants.{Image, Object}
+use Rattle.orcc_top.specs.declared.assembly.Form.TheVariants.{Image, Object, Library}
 use Rattle.orcc_top.specs.declared.refusal.Refusal.TheVariants as refusal
 use Rattle.orcc_top.specs.Answer.{limit_of, refusal_of, refusal_within, Refuses}
 use Rattle.orcc_top.specs.Assembly.{first_pressure_in, pressure_refusal}
@@ -20,10 +20,12 @@ use Rattle.orcc_top.proofs.Limits.{within_limit}
 within_form : (form : Form) (text : List ℕ) → refusal_within (command_for form) text ≡ option_or (fault_refusal text) (pressure_refusal text)
 within_form (Image target) text = refl
 within_form Object text = refl
+within_form (Library target) text = refl
 
 form_limit : (form : Form) → limit_of (command_for form) ≡ 1048576
 form_limit (Image target) = refl
 form_limit Object = refl
+form_limit (Library target) = refl
 
 form_short : (form : Form) (text : List ℕ) → length text ≤ 1048576 → length text ≤ limit_of (command_for form)
 form_short form text short = subst (λ n. length text ≤ n) (sym (form_limit form)) short

@@ -3,7 +3,7 @@ use Rattle.std.specs.Prelude.{◌≡◌, ◌⊎◌, ℕ, nat_lt, List, Option, S
 use Rattle.std.specs.Option.{option_or}
 use Rattle.orc_elf.specs.Fields.{first_bad_field}
 use Rattle.orcc_top.specs.declared.command.Command.{Command}
-use Rattle.orcc_top.specs.declared.command.Command.TheVariants.{Asm, C, Check, Fmt, Run, Dis, Emulate, Obj, Jobs}
+use Rattle.orcc_top.specs.declared.command.Command.TheVariants.{Asm, C, Check, Fmt, Run, Dis, Emulate, Obj, Header, Lib, Jobs}
 use Rattle.orcc_top.specs.declared.refusal.Refusal.{Refusal}
 use Rattle.orcc_top.specs.declared.refusal.Refusal.TheVariants.{TooLong, Image, Object}
 use Rattle.orcc_top.specs.Assembly.{IsAssembled, pressure_refusal}
@@ -16,6 +16,7 @@ use Rattle.orcc_top.specs.Translation.{IsTranslated}
 use Rattle.orcc_top.specs.Commands.{Word, words_of}
 use Rattle.orcc_top.specs.Images.{image_refusal, ListsImage}
 use Rattle.orcc_top.specs.Objects.{IsObject, ListsObject, begins_elf}
+use Rattle.orcc_top.specs.Libraries.{IsHeader, IsLibrary}
 use Rattle.orcc_top.specs.Refusals.{line_of}
 
 -- the most bytes that a command's input has
@@ -28,6 +29,8 @@ limit_of Run = 67108864
 limit_of Dis = 67108864
 limit_of Emulate = 67108864
 limit_of Obj = 1048576
+limit_of Header = 1048576
+limit_of (Lib target) = 1048576
 limit_of (Jobs w) = 67108864
 
 -- why `dis` refuses an input: as an object where it begins as one, and else as an image
@@ -44,6 +47,8 @@ refusal_within Run input = run_refusal input
 refusal_within Dis input = dis_refusal input
 refusal_within Emulate input = emulate_refusal input
 refusal_within Obj input = option_or (fault_refusal input) (pressure_refusal input)
+refusal_within Header input = fault_refusal input
+refusal_within (Lib target) input = option_or (fault_refusal input) (pressure_refusal input)
 refusal_within (Jobs w) input = jobs_refusal w.count input
 
 -- why a command refuses an input, if it does: for its length, or else for what it says
@@ -60,6 +65,8 @@ IsOutput Run input bytes = IsRun input bytes
 IsOutput Dis input bytes = ListsImage input bytes ⊎ ListsObject input bytes
 IsOutput Emulate input bytes = IsEmulated input bytes
 IsOutput Obj input bytes = IsObject input bytes
+IsOutput Header input bytes = IsHeader input bytes
+IsOutput (Lib target) input bytes = IsLibrary target input bytes
 IsOutput (Jobs w) input bytes = IsShared w input bytes
 
 -- the words ask for a command that accepts the input, and the bytes are its output

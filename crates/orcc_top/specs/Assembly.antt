@@ -10,7 +10,7 @@ use Rattle.orc_text.specs.Reads.{Reads, text_program}
 use Rattle.orc_plan.specs.declared.steps.Pressure.{Pressure}
 use Rattle.orc_asm.specs.declared.refusal.AsmError.{AsmError}
 use Rattle.orc_asm.specs.declared.refusal.AsmError.TheVariants as asm
-use Rattle.orc_asm.specs.Function.{RunsAs, RunsFully, first_pressure}
+use Rattle.orc_asm.specs.Function.{RunsAs, RunsFully, HasOnly, first_pressure}
 use Rattle.orc_image.specs.Spelling as spelling
 use Rattle.orc_text.specs.Each.{OneForEach}
 use Rattle.orcc_top.specs.declared.refusal.Refusal.{Refusal}
@@ -18,7 +18,7 @@ use Rattle.orcc_top.specs.declared.refusal.Refusal.TheVariants as refusal
 
 -- ---- the image
 
--- an image's function with the name, the counts and the facts of a function of the text, and with code for a target whose good calls do what that function means, in at most as many steps as are stated for the target, inside larger memories too, change nothing on the way but dests' cells, accumulators' words and the frame, touch cells at most once a turn for each operand that is an array, and store the first dest aligned wherever that can be done in every row
+-- an image's function with the name, the counts and the facts of a function of the text, and with code for a target whose good calls do what that function means, in at most as many steps as are stated for the target, inside larger memories too, change nothing on the way but dests' cells, accumulators' words and the frame, touch cells at most once a turn for each operand that is an array, and store the first dest aligned wherever that can be done in every row; it is instructions of the target alone
 pub record EntryOf (target : Target) (f : FunctionValue) (entry : spelling.FunctionValue) : Type 0 where
   pub name : entry.name ≡ f.name
   pub two_d : entry.two_d ≡ f.two_d
@@ -29,6 +29,7 @@ pub record EntryOf (target : Target) (f : FunctionValue) (entry : spelling.Funct
   pub facts : entry.facts ≡ facts_of f
   pub runs : RunsAs f target entry.code
   pub inside : RunsFully f target entry.code
+  pub only : HasOnly target entry.code
 
 -- one for each function, in order
 abbrev pub EntriesOf : Target → List FunctionValue → List spelling.FunctionValue → Type 0

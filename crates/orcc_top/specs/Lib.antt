@@ -9,6 +9,7 @@ pub mod Images
 pub mod Inputs
 pub mod Jobs
 pub mod Laws
+pub mod Libraries
 pub mod Objects
 pub mod Refusals
 pub mod Replies

@@ -5,7 +5,7 @@ use Rattle.orc_ops.specs.declared.target.Target.TheVariants as target
 use Rattle.orc_program.specs.Program.{FunctionValue, ProgramValue}
 use Rattle.orc_program.specs.Facts.{free_facts}
 use Rattle.orc_text.specs.Reads.{Reads}
-use Rattle.orc_asm.specs.Function.{RunsAs, RunsFully}
+use Rattle.orc_asm.specs.Function.{RunsAs, RunsFully, HasOnly}
 use Rattle.orc_elf.specs.Entries.{EntryValue}
 use Rattle.orc_elf.specs.Fields.{ElfGives}
 use Rattle.orc_image.specs.Spelling as spelling
@@ -17,6 +17,7 @@ pub record CompiledOf (f : FunctionValue) (entry : EntryValue) : Type 0 where
   pub name : entry.name ≡ f.name
   pub runs : RunsAs f target.Sse2 entry.code
   pub inside : RunsFully f target.Sse2 entry.code
+  pub only : HasOnly target.Sse2 entry.code
 
 -- the bytes are an object with a function for each function of the program that the text reads as, in order
 pub record IsObject (text bytes : List ℕ) : Type 0 where

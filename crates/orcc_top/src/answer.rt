@@ -13,6 +13,7 @@ use crate::emulation::emulate_job;
 use crate::execution::run_job;
 use crate::formatting::format_text;
 use crate::listing::disassemble;
+use crate::prototypes::declare_text;
 use crate::refusal::{Refusal, line_of};
 use crate::reply::Reply;
 use crate::sharing::share_job;
@@ -53,6 +54,8 @@ fn reply_within(alloc: Global, command: Command, input: &[u8]) -> Result<Reply, 
         Command::Dis => disassemble(alloc, input),
         Command::Emulate => emulate_job(alloc, input),
         Command::Obj => assemble_text(alloc, Form::Object, input),
+        Command::Header => declare_text(alloc, input),
+        Command::Lib(target) => assemble_text(alloc, Form::Library(target), input),
         Command::Jobs(workers) => share_job(alloc, input, workers),
     }
 }

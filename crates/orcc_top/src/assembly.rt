@@ -7,9 +7,10 @@ ghost use Rattle.orc_program.specs.Facts.{facts_of, is_free};
 ghost use Rattle.orc_image.specs.Spelling.{is_version};
 ghost use Rattle.orc_asm.specs.Function.{first_pressure, IsRefusal};
 ghost use Rattle.orcc_top.specs.Assembly.{EntryOf, EntriesOf, version_of, first_pressure_in, TellsPressure};
-ghost use Rattle.orcc_top.specs.Code.{HoldsCode, command_for};
+ghost use Rattle.orcc_top.specs.Code.{HoldsCode, HoldsImage, command_for};
 ghost use Rattle.orcc_top.specs.Replies.{Replies};
 
+use crate::library::library_bytes;
 use crate::objects::object_bytes;
 use crate::parsing::read_text;
 use crate::refusal::{Refusal, line_of};
@@ -17,7 +18,7 @@ use crate::reply::Reply;
 use orc_asm::{AsmError, assemble_for};
 use orc_image::{Image, ImageFunction, write_image};
 use orc_ops::Target;
-use orc_program::{Function, Name, VarKind, count_of, facts, is_free};
+use orc_program::{Function, Name, Program, VarKind, count_of, facts, is_free};
 use std::alloc::{AllocError, Global};
 
 /// What a text's code is written as.
@@ -25,8 +26,10 @@ use std::alloc::{AllocError, Global};
 pub enum Form {
     /// An image, with code for the target.
     Image(Target),
-    /// An ELF64 object.
+    /// An ELF64 object, with code for SSE2.
     Object,
+    /// An ELF64 object whose functions C calls by their prototypes, with code for the target.
+    Library(Target),
 }
 
 /// How many variables of a kind a function has.
@@ -105,7 +108,7 @@ pub fn image_of(alloc: Global, functions: &[Function], target: Target) -> Result
 fn image_bytes(alloc: Global, functions: &[Function], target: Target) -> Result<Vec<u8>, AsmError>
     requires few { length functions.now ≤ 64 }
     requires distinct { all_distinct (map (λ f. f.name) functions.now) ≡ true }
-    ensures holds { IfOk result (λ bytes. HoldsCode (Form.Image target) functions.now bytes.items) }
+    ensures holds { IfOk result (λ bytes. HoldsImage target functions.now bytes.items) }
     ensures placed { OnOk result (first_pressure_in functions.now ≡ None) }
     ensures pressure { IfErr result (λ e. TellsPressure (first_pressure_in functions.now) e) }
 {
@@ -116,21 +119,21 @@ fn image_bytes(alloc: Global, functions: &[Function], target: Target) -> Result<
     }
 }
 
-/// The bytes of an image or of an object of a program's functions.
-fn bytes_of(alloc: Global, form: Form, functions: &[Function]) -> Result<Vec<u8>, AsmError>
-    requires few { length functions.now ≤ 64 }
-    requires distinct { all_distinct (map (λ f. f.name) functions.now) ≡ true }
-    ensures holds { IfOk result (λ bytes. HoldsCode form functions.now bytes.items) }
-    ensures placed { OnOk result (first_pressure_in functions.now ≡ None) }
-    ensures pressure { IfErr result (λ e. TellsPressure (first_pressure_in functions.now) e) }
+/// The bytes of a program's code in a form; `text` is what reads as the program.
+fn bytes_of(alloc: Global, form: Form, text: &[u8], program: &Program) -> Result<Vec<u8>, AsmError>
+    ensures holds { IfOk result (λ bytes. HoldsCode form text.now program.now bytes.items) }
+    ensures placed { OnOk result (first_pressure_in program.now.functions ≡ None) }
+    ensures pressure { IfErr result (λ e. TellsPressure (first_pressure_in program.now.functions) e) }
 {
+    let functions = program.functions.as_slice();
     match form {
         Form::Image(target) => image_bytes(alloc, functions, target),
         Form::Object => object_bytes(alloc, functions),
+        Form::Library(target) => library_bytes(alloc, text, program, target),
     }
 }
 
-/// What `asm`, `asm41` and `obj` answer to a text, as the form asks.
+/// What `asm`, `asm41`, `obj`, `lib` and `lib41` answer to a text, as the form asks.
 pub fn assemble_text(alloc: Global, form: Form, text: &[u8]) -> Result<Reply, AllocError>
     requires { length text.now ≤ 1048576 }
     ensures { IfOk result (λ reply. Replies (command_for form) text.now reply) }
@@ -139,7 +142,7 @@ pub fn assemble_text(alloc: Global, form: Form, text: &[u8]) -> Result<Reply, Al
         Ok(program) => program,
         Err(line) => return Ok(Reply::Refusal(line)),
     };
-    match bytes_of(alloc, form, program.functions.as_slice()) {
+    match bytes_of(alloc, form, text, &program) {
         Ok(bytes) => Ok(Reply::Output(bytes)),
         Err(AsmError::Pressure { line, need }) => {
             let refusal = Refusal::Pressure { line, need };

@@ -3,7 +3,7 @@ ghost use Rattle.std.specs.Prelude.{◌≡◌, ◌≢◌, ◌≤◌, ◌<◌, �
 ghost use Rattle.orcc_top.specs.declared.command.Command as declared;
 ghost use Rattle.std.specs.Prelude.{◌∷◌, []};
 ghost use Rattle.orc_ops.specs.declared.target.Target as targets;
-ghost use Rattle.orcc_top.specs.Commands.{AreSaid, spelled, asm_word, check_word, words_of, gen_words};
+ghost use Rattle.orcc_top.specs.Commands.{AreSaid, spelled, asm_word, check_word, lib_word, words_of, gen_words};
 
 use crate::number::number_of;
 use crate::workers::Workers;
@@ -28,6 +28,10 @@ pub enum Command {
     Emulate,
     /// `obj`: reads a text and writes an object.
     Obj,
+    /// `header`: reads a text and writes the prototypes of its functions in C.
+    Header,
+    /// `lib` and `lib41`: reads a text and writes an object whose functions C calls by these prototypes, with code for the target.
+    Lib(Target),
     /// `jobs W S`: reads an image and a job, and writes the result of sharing the job among workers.
     Jobs(Workers),
 }
@@ -92,6 +96,24 @@ fn is_obj(word: &str) -> bool
     word == "obj"
 }
 
+fn is_header(word: &str) -> bool
+    ensures { IsTrue result ↔ (word.now ≡ codes "header") }
+{
+    word == "header"
+}
+
+fn is_lib(word: &str) -> bool
+    ensures { IsTrue result ↔ (word.now ≡ codes "lib") }
+{
+    word == "lib"
+}
+
+fn is_lib41(word: &str) -> bool
+    ensures { IsTrue result ↔ (word.now ≡ codes "lib41") }
+{
+    word == "lib41"
+}
+
 fn is_jobs(word: &str) -> bool
     ensures { IsTrue result ↔ (word.now ≡ codes "jobs") }
 {
@@ -122,6 +144,21 @@ fn check_target(word: &str) -> Option<Target>
     if is_check(word) {
         Some(Target::Sse2)
     } else if is_check41(word) {
+        Some(Target::Sse41)
+    } else {
+        None
+    }
+}
+
+/// The target whose code for C a word asks for, if it asks for such code.
+#[tactic(auto, using(crate::proofs::Asked::no_lib))]
+fn lib_target(word: &str) -> Option<Target>
+    ensures said { IfSome result (λ target. word.now ≡ lib_word target) }
+    ensures none { IfNone result ((target : targets.Target) → word.now ≡ lib_word target → ⊥) }
+{
+    if is_lib(word) {
+        Some(Target::Sse2)
+    } else if is_lib41(word) {
         Some(Target::Sse41)
     } else {
         None
@@ -174,6 +211,9 @@ fn command_of_word(word: &str) -> Option<Command>
     if let Some(target) = check_target(word) {
         return Some(Command::Check(target));
     }
+    if let Some(target) = lib_target(word) {
+        return Some(Command::Lib(target));
+    }
     match word {
         word if is_c(word) => Some(Command::C),
         word if is_fmt(word) => Some(Command::Fmt),
@@ -181,6 +221,7 @@ fn command_of_word(word: &str) -> Option<Command>
         word if is_dis(word) => Some(Command::Dis),
         word if is_emulate(word) => Some(Command::Emulate),
         word if is_obj(word) => Some(Command::Obj),
+        word if is_header(word) => Some(Command::Header),
         _ => None,
     }
 }
@@ -208,8 +249,13 @@ impl Command {
         ensures readable { result ≤ 67108864 }
     {
         match self {
-            Command::Asm(_) | Command::C | Command::Check(_) | Command::Fmt | Command::Obj =>
-                1_048_576,
+            Command::Asm(_)
+            | Command::C
+            | Command::Check(_)
+            | Command::Fmt
+            | Command::Obj
+            | Command::Header
+            | Command::Lib(_) => 1_048_576,
             Command::Run | Command::Dis | Command::Emulate | Command::Jobs(_) => 67_108_864,
         }
     }

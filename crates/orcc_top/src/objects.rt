@@ -3,11 +3,10 @@ ghost use Rattle.std.specs.Prelude.{◌≡◌, ◌≤◌, None, true, false, len
 ghost use Rattle.orc_program.specs.Kept.{all_distinct};
 ghost use Rattle.orc_asm.specs.Function.{first_pressure, IsRefusal};
 ghost use Rattle.orcc_top.specs.Assembly.{first_pressure_in, TellsPressure};
-ghost use Rattle.orcc_top.specs.Code.{HoldsCode};
+ghost use Rattle.orcc_top.specs.Code.{HoldsObject};
 ghost use Rattle.orc_text.specs.Each.{OneForEach};
 ghost use Rattle.orcc_top.specs.Objects.{CompiledOf};
 
-use crate::assembly::Form;
 use orc_asm::{AsmError, assemble};
 use orc_elf::{ElfCode, ElfEntry, write_elf};
 use orc_program::{Function, Name};
@@ -48,7 +47,7 @@ fn object_of(alloc: Global, functions: &[Function]) -> Result<ElfCode, AsmError>
 pub fn object_bytes(alloc: Global, functions: &[Function]) -> Result<Vec<u8>, AsmError>
     requires few { length functions.now ≤ 64 }
     requires distinct { all_distinct (map (λ f. f.name) functions.now) ≡ true }
-    ensures holds { IfOk result (λ bytes. HoldsCode Form.Object functions.now bytes.items) }
+    ensures holds { IfOk result (λ bytes. HoldsObject functions.now bytes.items) }
     ensures placed { OnOk result (first_pressure_in functions.now ≡ None) }
     ensures pressure { IfErr result (λ e. TellsPressure (first_pressure_in functions.now) e) }
 {

@@ -15,7 +15,7 @@ use orc_io::{Sink, Source};
 use std::alloc::{AllocError, Global};
 
 const USAGE: &str =
-    "usage: orcc asm | c | check | fmt | run | emulate | dis | gen S | jobs W S | obj | asm41 | check41\n";
+    "usage: orcc asm | c | check | fmt | run | emulate | dis | gen S | jobs W S | obj | asm41 | check41 | header | lib | lib41\n";
 
 /// Does what the words after the program's name ask for, and says how it ended.
 ///

@@ -1,7 +1,7 @@
 use Rattle.std.proofs.Common.{◌+◌, ◌++◌, length, ap, ◌∙◌, arith}
 use Rattle.orc_elf.specs.Layout.{gap, symbol_bytes}
 use Rattle.orc_elf.proofs.Written.{one_more_symbol, all_symbols, name_length}
-use Rattle.orc_elf.proofs.writing.symbol_part.Goals as goal
+use Rattle.orc_elf.proofs.writing.put_symbols.Goals as goal
 
 pub loop-e-preserved : goal.loop-e-preserved
 loop-e-preserved c =
@@ -11,7 +11,7 @@ loop-e-preserved c =
     let size = ap length c.code_bytes-size.ensures.bytes in
     let name = ap length c.name_bytes.ensures.bytes in
     let l = name_length e.name c.name_bytes.ensures.kept.name in
-    let grown = c.in_ok-put_symbol.ensures ∙ ap (λ n. out ++ symbol_bytes c.loop-e.name (c.loop-e.at + n) (length c.code_bytes-size.result.now)) g ∙ ap (λ n. out ++ symbol_bytes c.loop-e.name (c.loop-e.at + gap 16 c.loop-e.at) n) size in
+    let grown = c.in_ok-put_symbol.ensures ∙ ap (λ n. out ++ symbol_bytes 0x12 c.loop-e.name (c.loop-e.at + n) (length c.code_bytes-size.result.now)) g ∙ ap (λ n. out ++ symbol_bytes 0x12 c.loop-e.name (c.loop-e.at + gap 16 c.loop-e.at) n) size in
     let step = one_more_symbol out c.args.entries.now c.loop-e.e-index c.loop-e.name c.loop-e.at e _ _ c.loop-e-test.true c.e-item.is grown c.loop-e.invariant.symbols in
     record {
       symbols = rw (g, size, name) step;
