@@ -53,6 +53,7 @@ try try-entries python3 gcc nm "$tests" "${ORC_TOOL:-/usr/bin/orcc}" -- python3 
 try try-c python3 gcc clang -- python3 "$top/scripts/try-c.py" "$orcc"
 try check-processor python3 as ld -- python3 "$top/scripts/check-processor.py"
 try refuse-allocations python3 cc -- python3 "$top/scripts/refuse-allocations.py" "$orcc"
+try man-page man -- sh -c '! man --warnings -l "$1" 2>&1 > /dev/null | grep .' sh "$top/docs/orcc.1"
 
 echo
 cat "$table"
