@@ -12,5 +12,6 @@ pub mod Strings
 pub mod SymbolLaws
 pub mod Laid
 pub mod Known
+pub mod FrameLaws
 pub mod Whole
 pub mod LibraryWhole

@@ -3,5 +3,6 @@ pub mod Sections
 pub mod Fields
 pub mod Told
 pub mod Layout
+pub mod Frames
 pub mod Library
 pub mod LibraryFields

@@ -1,7 +1,7 @@
 -- The fields of a library's object by their offsets, and what each may hold.
 use Rattle.std.specs.Prelude.{◌≡◌, ℕ, ◌+◌, ◌-◌, ◌*◌, ◌/◌, ◌%◌, ◌==◌, ◌&&◌, Bool, nat_le, List, [], ◌∷◌, ◌++◌, Option, Some, codes}
 use Rattle.orc_program.specs.Words.{Word}
-use Rattle.orc_elf.specs.Sections.{text, strtab, library_symtab, no_stack}
+use Rattle.orc_elf.specs.Sections.{text, strtab, library_symtab, no_stack, eh_frame, rela_eh_frame}
 use Rattle.orc_elf.specs.Entries.{EntryValue}
 use Rattle.orc_elf.specs.Fields.{Field, number_at, exact, zeros, identification, file_kind, file_sizes, headers_at, header_at, offset_of, size_of, contents, null_header, header_fields, section_header, within, string_at, symbols, entries_at, AreGood}
 
@@ -20,7 +20,9 @@ library_headers bytes =
     ++ (header_fields bytes library_symtab (is_table 2 67) (header_at bytes 2)
     ++ (section_header bytes strtab (header_at bytes 3)
     ++ (section_header bytes strtab (header_at bytes 4)
-    ++ header_fields bytes no_stack (λ n. n == 0) (header_at bytes 5)))))
+    ++ (header_fields bytes no_stack (λ n. n == 0) (header_at bytes 5)
+    ++ (section_header bytes eh_frame (header_at bytes 6)
+    ++ header_fields bytes rela_eh_frame (is_table 0 65) (header_at bytes 7)))))))
 
 -- the symbol at an offset is that of section 1
 unfoldable pub section_symbol : List ℕ → ℕ → List Field
@@ -41,6 +43,8 @@ library_insides bytes =
     ∷ within bytes 3
     ∷ within bytes 4
     ∷ within bytes 5
+    ∷ within bytes 6
+    ∷ within bytes 7
     ∷ zeros bytes (offset_of bytes 2) 24  -- STN_UNDEF
     ∷ []
 
@@ -52,14 +56,16 @@ unfoldable pub library_fields : List ℕ → List Field
 library_fields bytes =
     identification bytes
     ++ (file_kind bytes
-    ++ (file_sizes 6 bytes
+    ++ (file_sizes 8 bytes
     ++ (library_headers bytes
     ++ (library_insides bytes
     ++ (section_symbol bytes (offset_of bytes 2 + 24)
     ++ symbols bytes [] (offset_of bytes 2 + 48) (functions_of bytes))))))
 
--- the bytes are an object of a library with these functions, in order: each field is there and holds what it may, the symbols tell of these, and section 5 is the note that no executable stack is wanted
+-- the bytes are an object of a library with these functions, in order: each field is there and holds what it may, the symbols tell of these, section 5 is the note that no executable stack is wanted, and sections 6 and 7 are the call frame information and its relocations
 pub record LibraryGives (bytes : List ℕ) (es : List EntryValue) : Type 0 where
   pub good : AreGood bytes (library_fields bytes)
   pub told : es ≡ entries_at bytes (offset_of bytes 2 + 48) (functions_of bytes)
   pub note : section_name bytes 5 ≡ Some (codes ".note.GNU-stack")
+  pub frames : section_name bytes 6 ≡ Some (codes ".eh_frame")
+  pub relocations : section_name bytes 7 ≡ Some (codes ".rela.eh_frame")

@@ -24,3 +24,11 @@ library_symtab = record { kind = 2; flags = 0; link = 3; info = 2; align = 8; en
 -- .note.GNU-stack: SHT_PROGBITS without SHF_EXECINSTR, which says that no executable stack is wanted
 abbrev pub no_stack : SectionKind
 no_stack = record { kind = 1; flags = 0; link = 0; info = 0; align = 1; entry_size = 0 }
+
+-- .eh_frame: SHT_PROGBITS, with SHF_ALLOC
+abbrev pub eh_frame : SectionKind
+eh_frame = record { kind = 1; flags = 2; link = 0; info = 0; align = 8; entry_size = 0 }
+
+-- .rela.eh_frame: SHT_RELA, with SHF_INFO_LINK: relocations of section 6 by the symbols of section 2
+abbrev pub rela_eh_frame : SectionKind
+rela_eh_frame = record { kind = 4; flags = 0x40; link = 2; info = 6; align = 8; entry_size = 24 }

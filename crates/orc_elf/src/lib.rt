@@ -8,6 +8,7 @@
 mod elf;
 mod error;
 mod field;
+mod frames;
 mod header;
 mod library;
 mod library_object;

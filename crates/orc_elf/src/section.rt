@@ -67,6 +67,26 @@ pub const NO_STACK: SectionKind = SectionKind {
     entry_size: 0,
 };
 
+/// .eh_frame: SHT_PROGBITS, with SHF_ALLOC.
+pub const EH_FRAME: SectionKind = SectionKind {
+    kind: 1,
+    flags: 2,
+    link: 0,
+    info: 0,
+    align: 8,
+    entry_size: 0,
+};
+
+/// .rela.eh_frame: SHT_RELA, with SHF_INFO_LINK, of section 6 by the symbols of section 2.
+pub const RELA_EH_FRAME: SectionKind = SectionKind {
+    kind: 4,
+    flags: 0x40,
+    link: 2,
+    info: 6,
+    align: 8,
+    entry_size: 24,
+};
+
 /// Names: SHT_STRTAB.
 pub const STRTAB: SectionKind = SectionKind {
     kind: 3,

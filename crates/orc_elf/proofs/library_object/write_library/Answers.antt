@@ -1,7 +1,9 @@
 use Rattle.std.proofs.Common.{ℕ, List, sym, subst, arith, rules}
 use Rattle.std.proofs.lemmas.Grind.{common_steps}
+use Rattle.orc_elf.specs.Layout.{assembled}
 use Rattle.orc_elf.specs.LibraryFields.{LibraryGives}
 use Rattle.orc_elf.proofs.Unless.{if_ok_more}
+use Rattle.orc_elf.proofs.FrameLaws.{frame_part_size}
 use Rattle.orc_elf.proofs.LibraryWhole.{table_length, library_gives}
 use Rattle.orc_elf.proofs.Sizes.{parts_small}
 use Rattle.orc_elf.proofs.library_object.write_library.Goals as goal
@@ -21,7 +23,11 @@ assemble_library-requires-clause-names_in c =
     let small = parts_small c.args.e.now.entries c.len.ensures.kept.each c.len.ensures.kept.few in
     grind (arith, small.names)
 
+pub assemble_library-requires-clause-frames_in : goal.assemble_library-requires-clause-frames_in
+assemble_library-requires-clause-frames_in c = grind (arith, frame_part_size c.args.e.now.entries c.args.e.now.unwinds, c.len.ensures.kept.few)
+
 pub returns-clause-layout : goal.returns-clause-layout
+unfolding assembled
 returns-clause-layout c = first_of (search rules, grind (arith, common_steps))
 
 pub returns-clause-gives : goal.returns-clause-gives
