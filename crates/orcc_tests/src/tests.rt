@@ -161,7 +161,7 @@ fn each_command_answers(rt: HostRuntime) -> Result<(), AllocError> {
             &[],
             b"",
             Status::Usage,
-            b"usage: orcc asm | c | check | fmt | run | emulate | dis | gen S | jobs W S | obj | asm41 | check41\n",
+            b"usage: orcc asm | c | check | fmt | run | emulate | dis | gen S | jobs W S | obj | asm41 | check41 | header | lib | lib41\n",
         ),
     ];
     for (words, input, status, said) in rows {
@@ -608,7 +608,7 @@ fn parts_are_played(rt: HostRuntime) -> Result<(), AllocError> {
             &["jobs", "65", "0"],
             RETURNS,
             Status::Usage,
-            b"usage: orcc asm | c | check | fmt | run | emulate | dis | gen S | jobs W S | obj | asm41 | check41\n",
+            b"usage: orcc asm | c | check | fmt | run | emulate | dis | gen S | jobs W S | obj | asm41 | check41 | header | lib | lib41\n",
         ),
     ];
     for (words, input, status, said) in rows {

@@ -32,12 +32,7 @@ struct Entered {
 
 /// The function of a library that a function of a text makes.
 #[tactic(auto, using(crate::proofs::Entries::refusal_tells))]
-fn entered_of(
-    alloc: Global,
-    text: &[u8],
-    f: &Function,
-    target: Target,
-) -> Result<Entered, AsmError>
+fn entered_of(alloc: Global, text: &[u8], f: &Function, target: Target) -> Result<Entered, AsmError>
     ensures entered { IfOk result (λ entered. EnteredOf text.now target f.now entered.entry) }
     ensures placed { OnOk result (first_pressure f.now ≡ None) }
     ensures pressure { IfErr result (λ e. TellsPressure (first_pressure f.now) e) }
