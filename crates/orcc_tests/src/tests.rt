@@ -1,4 +1,3 @@
-mod entries;
 mod failures;
 mod far;
 mod hostile;
