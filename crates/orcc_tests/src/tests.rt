@@ -97,7 +97,7 @@ fn run_with(
     let failing_puts = calls_of(alloc, failure, Stream::Output)?;
     let mut output = Buffer::with_room(alloc, room, most, failing_puts)?;
     let failing_notes = calls_of(alloc, failure, Stream::Notes)?;
-    let mut notes = Buffer::with_room(alloc, 100, most, failing_notes)?;
+    let mut notes = Buffer::with_room(alloc, 200, most, failing_notes)?;
     let status = orcc(alloc, given.as_slice(), &mut input, &mut output, &mut notes);
     Ok(Outcome {
         status,
